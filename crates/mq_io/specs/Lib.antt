@@ -1,0 +1,5 @@
+pub mod Calls
+pub mod Causes
+pub mod Files
+pub mod InMemory
+pub mod Progress
