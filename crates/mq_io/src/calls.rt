@@ -1,5 +1,7 @@
 // How an object in memory counts its calls, and which of them fail.
-ghost use Rattle.std.specs.Prelude.{◌≡◌};
+ghost use Rattle.std.specs.Prelude.{◌≡◌, ◌≤◌};
+ghost use Rattle.std.specs.Bool.{OnTrue};
+ghost use Rattle.mq_io.specs.Causes.{Rose};
 ghost use Rattle.mq_io.specs.Calls.{no_calls, is_due, after_call};
 
 use std::marker::Model;
@@ -35,6 +37,8 @@ impl CallCount {
     pub fn fails_next(&mut self) -> bool
         ensures due { result ≡ is_due self.old }
         ensures counted { self.new ≡ after_call self.old }
+        ensures later { self.old.failed ≤ self.new.failed }
+        ensures rose { OnTrue result (Rose self.old.failed self.new.failed) }
     {
         self.made = self.made.saturating_add(1);
         let due = self.failing.contains(&self.made);
