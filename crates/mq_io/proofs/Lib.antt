@@ -1,1 +1,2 @@
 pub mod ProgressLemmas
+mod SourceLemmas
