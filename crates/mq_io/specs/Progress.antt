@@ -1,7 +1,8 @@
 -- How far a source was read and a sink was written, where the bytes are told.
-use Rattle.std.specs.Prelude.{◌≡◌, Bool, true, false, ℕ, ◌+◌, ◌<◌, ◌≤◌, List, [], ◌++◌, length, ⊤, None, Some}
-use Rattle.std.specs.Prelude.{Option}
+use Rattle.std.specs.Prelude.{◌≡◌, Bool, true, false, ℕ, ◌+◌, ◌<◌, ◌≤◌, List, [], ◌++◌, length, ⊤, Option, None, Some, Result, MatchResult}
 use Rattle.std.specs.Io.KnownBytes.{Appends, Consumes, IsAtEnd}
+use Rattle.mq_io.specs.declared.faults.ReadFault.{ReadFault}
+use Rattle.mq_io.specs.declared.faults.ReadFault.TheVariants.{TooLong, Failed, Memory}
 
 -- the source gave more than n bytes: of what it had left, what it has left now is shorter by more
 abbrev pub GaveMore : ℕ → Option (List ℕ) → Option (List ℕ) → Type 0
@@ -14,6 +15,16 @@ abbrev pub GaveAtMost : ℕ → Option (List ℕ) → Option (List ℕ) → Type
 GaveAtMost n None new = ⊤
 GaveAtMost n (Some xs) None = ⊥
 GaveAtMost n (Some xs) (Some ys) = length xs ≤ n + length ys
+
+-- the fault is `TooLong` where the source gave more than the limit, and another where it didn't
+abbrev pub FaultJudges : ℕ → Option (List ℕ) → Option (List ℕ) → ReadFault → Type 0
+FaultJudges limit old new TooLong = GaveMore limit old new
+FaultJudges limit old new Failed = GaveAtMost limit old new
+FaultJudges limit old new Memory = GaveAtMost limit old new
+
+-- the answer is `TooLong` exactly where the source gave more than the limit
+abbrev pub JudgesLength : {T : Type 0} → ℕ → Option (List ℕ) → Option (List ℕ) → Result T ReadFault → Type 0
+JudgesLength limit old new answer = MatchResult answer (λ _. GaveAtMost limit old new) (FaultJudges limit old new)
 
 -- a front of all was written, perhaps nothing and perhaps the whole
 abbrev pub AppendsFront : Option (List ℕ) → Option (List ℕ) → List ℕ → Type 0

@@ -2,7 +2,7 @@
 ghost use Rattle.std.specs.Prelude.{◌≡◌, ◌+◌, ◌-◌, ◌<◌, ◌≤◌, [], length, IfOk, OnOk, OnErr, IsErrOf};
 ghost use Rattle.std.specs.Io.KnownBytes.{Appends, Consumes, IsAtEnd};
 ghost use Rattle.mq_io.specs.Causes.{Rose};
-ghost use Rattle.mq_io.specs.Progress.{GaveMore, GaveAtMost, ReadsMore, AppendsFront};
+ghost use Rattle.mq_io.specs.Progress.{GaveAtMost, JudgesLength, ReadsMore, AppendsFront};
 
 use crate::faults::{IoFault, ReadFault};
 use crate::sinks::Sink;
@@ -24,9 +24,8 @@ pub fn read_all<S: Source>(
     ensures end { OnOk result (IsAtEnd (S.left source.new)) }
     ensures within { IfOk result (λ bytes. length bytes.items ≤ limit) }
 
-    // `TooLong` exactly where it gave more than the limit.
-    ensures too_long { IsErrOf result ReadFault.TooLong → GaveMore limit (S.left source.old) (S.left source.new) }
-    ensures not_too_long { (IsErrOf result ReadFault.TooLong → ⊥) → GaveAtMost limit (S.left source.old) (S.left source.new) }
+    // `TooLong` exactly where it gave more than the limit, and then at most one buffer more.
+    ensures length { JudgesLength limit (S.left source.old) (S.left source.new) result }
     ensures stops { GaveAtMost (limit + READ_SIZE) (S.left source.old) (S.left source.new) }
 
     ensures later { S.faults source.old ≤ S.faults source.new }
@@ -50,8 +49,7 @@ fn gather<S: Source>(
     ensures whole { OnOk result (Consumes (S.left source.old) (S.left source.new) bytes.new.items) }
     ensures end { OnOk result (IsAtEnd (S.left source.new)) }
     ensures within { OnOk result (length bytes.new.items ≤ limit) }
-    ensures too_long { IsErrOf result ReadFault.TooLong → GaveMore limit (S.left source.old) (S.left source.new) }
-    ensures not_too_long { (IsErrOf result ReadFault.TooLong → ⊥) → GaveAtMost limit (S.left source.old) (S.left source.new) }
+    ensures length { JudgesLength limit (S.left source.old) (S.left source.new) result }
     ensures stops { GaveAtMost (limit + length buffer.old) (S.left source.old) (S.left source.new) }
     ensures later { S.faults source.old ≤ S.faults source.new }
     ensures failed { IsErrOf result ReadFault.Failed → Rose (S.faults source.old) (S.faults source.new) }
@@ -71,8 +69,7 @@ fn read_more<S: Source>(
     requires within { length bytes.old.items ≤ limit }
     ensures more { IfOk result (ReadsMore (S.left source.old) (S.left source.new) bytes.old.items bytes.new.items) }
     ensures within { OnOk result (length bytes.new.items ≤ limit) }
-    ensures too_long { IsErrOf result ReadFault.TooLong → GaveMore (limit - length bytes.old.items) (S.left source.old) (S.left source.new) }
-    ensures not_too_long { (IsErrOf result ReadFault.TooLong → ⊥) → GaveAtMost (limit - length bytes.old.items) (S.left source.old) (S.left source.new) }
+    ensures length { JudgesLength (limit - length bytes.old.items) (S.left source.old) (S.left source.new) result }
     ensures stops { GaveAtMost (length buffer.old) (S.left source.old) (S.left source.new) }
     ensures later { S.faults source.old ≤ S.faults source.new }
     ensures failed { IsErrOf result ReadFault.Failed → Rose (S.faults source.old) (S.faults source.new) }
