@@ -1,5 +1,5 @@
 -- What a read of bytes in memory gives.
-use Rattle.std.proofs.Common.{◌≡◌, ℕ, ◌+◌, ◌-◌, ◌<◌, ◌≤◌, min, List, [], ◌++◌, length, take, drop, refl, sym, ap, ◌∙◌, arith, length-append, length-drop, length-take, take-append-drop}
+use Rattle.std.proofs.Common.{◌≡◌, ℕ, ◌+◌, ◌-◌, ◌<◌, ◌≤◌, min, List, [], ◌++◌, length, take, drop, sym, ap, ◌∙◌, arith, length-drop, length-take, take-append-drop}
 use Rattle.std.proofs.lemmas.List.{take_all, drop_all, drop-drop, take-append-le}
 
 -- a buffer that begins with a front of the bytes shows that front

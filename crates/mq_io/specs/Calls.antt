@@ -25,5 +25,5 @@ abbrev pub after_call : Calls → Calls
 after_call calls = record {
   failing = calls.failing;
   made = next_call calls;
-  failed = min (calls.failed + (if is_due calls then 1 else 0)) (2 ^ 64 - 1)
+  failed = min (calls.failed + (if is_due calls then 1 else 0)) (2 ^ 64 - 1);
 }

@@ -7,12 +7,12 @@ use std::alloc::AllocError;
 use thiserror::Error;
 
 /// The object failed in this call, and its count of faults rose (docs/MEANING.md, "The outside").
-#[derive(Clone, Copy, Debug, PartialEq, Eq, Error)]
+#[derive(Clone, Copy, Debug, PartialEq, Error)]
 #[error("the outside failed")]
 pub struct Failed;
 
 /// Why a sink took nothing, or a shelf gave no answer (docs/MEANING.md, "The outside").
-#[derive(Clone, Copy, Debug, PartialEq, Eq, Error)]
+#[derive(Clone, Copy, Debug, PartialEq, Error)]
 pub enum IoFault {
     /// The object failed in this call, and its count of faults rose.
     #[error("the outside failed")]
@@ -31,7 +31,7 @@ impl From<AllocError> for IoFault {
 }
 
 /// Why a source was not read as a whole (docs/MEANING.md, "The outside").
-#[derive(Clone, Copy, Debug, PartialEq, Eq, Error)]
+#[derive(Clone, Copy, Debug, PartialEq, Error)]
 pub enum ReadFault {
     /// The source gave more bytes than the limit.
     #[error("more bytes than the limit")]

@@ -16,4 +16,4 @@ pub use gates::{Gate, OpenGate};
 pub use shelves::{Fetched, MapShelf, Shelf};
 pub use sinks::{Sink, VecSink, WriterSink};
 pub use sources::{BytesSource, ReaderSource, Source};
-pub use transfers::{read_all, write_all};
+pub use transfers::{READ_SIZE, read_all, write_all};

@@ -1,16 +1,17 @@
 // What files are fetched from, by name.
-ghost use Rattle.std.specs.Prelude.{◌≡◌, ◌↔◌, ◌≤◌, ℕ, List, Option, Some, IfOk, IfSome, IsErrOf, IsTrue, map, string_bytes};
+ghost use Rattle.std.specs.Prelude.{◌≡◌, ◌↔◌, ◌≤◌, ℕ, List, Option, Some, IfOk, IfSome, IsErrOf, IsTrue};
 ghost use Rattle.std.specs.Option.{option_map};
 ghost use Rattle.mq_io.specs.Causes.{Rose};
 ghost use Rattle.mq_io.specs.Calls.{no_calls, is_due, after_call};
-ghost use Rattle.mq_io.specs.Files.{IsAnswer, file_of};
+ghost use Rattle.mq_io.specs.FileList.{file_list, file_of};
+ghost use Rattle.mq_io.specs.Files.{IsAnswer};
 
 use crate::calls::CallCount;
 use crate::faults::IoFault;
 use std::marker::Model;
 
 /// What a shelf answers (docs/MEANING.md, "The outside").
-#[derive(Debug, Drop)]
+#[derive(Debug, Drop, PartialEq)]
 pub enum Fetched {
     /// The file's bytes, within the limit.
     Bytes(Vec<u8>),
@@ -31,7 +32,7 @@ pub trait Shelf {
     /// The bytes of the file of that name, if it has at most `limit` bytes. No call changes the files.
     /// `Failed` comes where the shelf failed, `Memory` where memory ran out.
     fn fetch(&mut self, name: &str, limit: u32) -> Result<Fetched, IoFault>
-        ensures answer { IfSome (files self.old) (λ file_of. IfOk result (IsAnswer limit (file_of name.now))) }
+        ensures answer { IfSome (files self.old) (λ file. IfOk result (IsAnswer limit (file name.now))) }
         ensures files { files self.new ≡ files self.old }
         ensures later { faults self.old ≤ faults self.new }
         ensures failed { IsErrOf result IoFault.Failed → Rose (faults self.old) (faults self.new) };
@@ -45,19 +46,19 @@ pub struct MapShelf {
 }
 
 impl Model for MapShelf {
-    ghost use Rattle.std.specs.Prelude.{map, string_bytes};
+    ghost use Rattle.mq_io.specs.FileList.{file_list};
     ghost use Rattle.mq_io.specs.InMemory.{Files};
 
     ghost Value = { Files };
 
-    ghost view = { λ s. record { files = map (λ f. (string_bytes f.0, f.1.items)) s.files.items; calls = s.calls } };
+    ghost view = { λ s. record { files = file_list s.files.items; calls = s.calls } };
 }
 
 impl MapShelf {
     /// A shelf of these files, each a name and its bytes; no two have one name. `failing` holds the
     /// numbers of the calls that are to fail, counted from 1.
     pub fn new(files: Vec<(String, Vec<u8>)>, failing: Vec<u64>) -> Self
-        ensures { result ≡ record { files = map (λ f. (string_bytes f.0, f.1.items)) files.items; calls = no_calls failing.items } }
+        ensures { result ≡ record { files = file_list files.items; calls = no_calls failing.items } }
     {
         MapShelf {
             files,
@@ -94,7 +95,7 @@ impl Shelf for MapShelf {
 
 // The bytes of the first file of that name.
 fn find_file<'a>(files: &'a [(String, Vec<u8>)], name: &str) -> Option<&'a Vec<u8>>
-    ensures { option_map (λ bytes. bytes.now.items) result ≡ file_of (map (λ f. (string_bytes f.0, f.1.items)) files.now) name.now }
+    ensures { option_map (λ bytes. bytes.now.items) result ≡ file_of (file_list files.now) name.now }
 {
     for (file_name, bytes) in files {
         if file_name.as_str() == name {

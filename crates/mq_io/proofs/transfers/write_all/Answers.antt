@@ -10,5 +10,5 @@ pub pieces-preserved : goal.pieces-preserved
 pieces-preserved g c = record {
   within = search rules;
   written = Appends-more _ _ _ _ _ _ c.pieces.invariant.written c.in_ok-at.ensures.bytes;
-  later = search rules
+  later = search rules;
 }
