@@ -17,3 +17,6 @@ pub use shelves::{Fetched, MapShelf, Shelf};
 pub use sinks::{Sink, VecSink, WriterSink};
 pub use sources::{BytesSource, ReaderSource, Source};
 pub use transfers::{READ_SIZE, read_all, write_all};
+
+#[cfg(test)]
+mod tests;
