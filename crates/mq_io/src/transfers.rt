@@ -7,7 +7,7 @@ ghost use Rattle.mq_io.specs.Progress.{GaveAtMost, JudgesLength, ReadsMore, Appe
 use crate::faults::{IoFault, ReadFault};
 use crate::sinks::Sink;
 use crate::sources::Source;
-use std::alloc::Global;
+use std::alloc::{AllocError, Global};
 
 /// How many bytes are asked of a source at once.
 pub const READ_SIZE: usize = 65536;
@@ -31,10 +31,17 @@ pub fn read_all<S: Source>(
     ensures later { S.faults source.old ≤ S.faults source.new }
     ensures failed { IsErrOf result ReadFault.Failed → Rose (S.faults source.old) (S.faults source.new) }
 {
-    let mut buffer = vec![in alloc; 0u8; READ_SIZE]?;
+    let mut buffer = read_buffer(alloc)?;
     let mut bytes = Vec::new(alloc);
     gather(source, &mut buffer, &mut bytes, limit)?;
     Ok(bytes)
+}
+
+// The bytes that a read writes over.
+fn read_buffer(alloc: Global) -> Result<Vec<u8>, AllocError>
+    ensures { IfOk result (λ buffer. length buffer.items ≡ READ_SIZE) }
+{
+    vec![in alloc; 0u8; READ_SIZE]
 }
 
 // Reads on to the end of the source, a buffer at a time.
