@@ -1,0 +1,6 @@
+pub mod Answers
+pub mod Number
+pub mod Shared
+pub mod Text
+pub mod Words
+pub mod formers

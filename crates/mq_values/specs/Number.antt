@@ -1,0 +1,7 @@
+-- Numbers.
+use Rattle.std.specs.Prelude.{ℕ, ℤ}
+
+-- the number mant / 10^scale, kept to that scale
+pub record Number : Type 0 where
+  pub mant : ℤ
+  pub scale : ℕ
