@@ -1,3 +1,5 @@
+ghost use Rattle.std.specs.Prelude.{◌≡◌, ◌≤◌};
+
 use std::marker::Model;
 
 /// A number to a scale: `mant / 10^scale`.
@@ -18,4 +20,28 @@ impl Model for Num {
     ghost invariant = { λ n. n.scale ≤ 12 };
 
     ghost inverse = { λ n. record { mant = n.mant; scale = n.scale } };
+}
+
+impl Num {
+    /// The number with this mantissa and scale.
+    pub fn new(mant: i128, scale: u8) -> Num
+        requires { scale ≤ 12 }
+        ensures { result ≡ record { mant = mant; scale = scale } }
+    {
+        Num { mant, scale }
+    }
+
+    pub fn mant(self) -> i128
+        ensures { result ≡ self.mant }
+    {
+        self.mant
+    }
+
+    /// The scale, which is at most 12.
+    pub fn scale(self) -> u8
+        ensures scale { result ≡ self.scale }
+        ensures bound { result ≤ 12 }
+    {
+        self.scale
+    }
 }
