@@ -29,7 +29,7 @@ pub enum FaultKind {
 }
 
 /// A fault and where it came: the rule's number from 1, or 0 outside of the rules, the partition's key and the cell's.
-#[derive(Debug, Drop)]
+#[derive(Debug, Drop, PartialEq, Eq)]
 pub struct QueryFault {
     pub kind: FaultKind,
     pub rule: u32,
@@ -38,7 +38,7 @@ pub struct QueryFault {
 }
 
 /// Why a statement was refused, with the detail that is printed (docs/LANGUAGE.md, "Refusals").
-#[derive(Debug, Drop)]
+#[derive(Debug, Drop, PartialEq, Eq)]
 pub enum Refused {
     TooDeep,
     Syntax,

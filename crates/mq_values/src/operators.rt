@@ -57,7 +57,7 @@ pub enum Func {
 }
 
 /// What a symbolic item of a rule asks of a dimension's value, with its operands evaluated.
-#[derive(Debug, Drop)]
+#[derive(Debug, Drop, PartialEq, Eq)]
 pub enum DimTest {
     Any,
     At(Value),
