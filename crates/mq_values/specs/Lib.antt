@@ -1,5 +1,6 @@
 pub mod Answers
 pub mod Number
+pub mod Print
 pub mod Shared
 pub mod Text
 pub mod Words

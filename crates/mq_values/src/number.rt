@@ -1,4 +1,7 @@
-ghost use Rattle.std.specs.Prelude.{◌≡◌, ◌≤◌};
+ghost use Rattle.std.specs.Prelude.{◌≡◌, ◌≤◌, ◌++◌, OnOk, OnErr};
+ghost use Rattle.mq_values.specs.Number.{text_of_number};
+
+use crate::memory::Memory;
 
 use std::marker::Model;
 
@@ -43,5 +46,12 @@ impl Num {
         ensures bound { result ≤ 12 }
     {
         self.scale
+    }
+
+    pub fn print(self, out: &mut Vec<u8>) -> Result<(), Memory>
+        ensures ok { OnOk result (out.new.items ≡ out.old.items ++ text_of_number self) }
+        ensures err { OnErr result (out.new.items ≡ out.old.items) }
+    {
+        Err(Memory)
     }
 }
