@@ -1,0 +1,6 @@
+//! Values and their arithmetic.
+#![tactic(auto)]
+
+mod number;
+
+pub use number::Num;
