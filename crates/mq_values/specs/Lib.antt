@@ -1,2 +1,9 @@
+pub mod Answers
+pub mod Arithmetic
 pub mod Number
 pub mod NumberOrder
+pub mod Print
+pub mod Shared
+pub mod Text
+pub mod Words
+pub mod formers

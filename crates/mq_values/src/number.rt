@@ -107,7 +107,7 @@ impl Num {
 }
 
 /// Ten to that power.
-fn ten_to(power: u8) -> i128
+pub(crate) fn ten_to(power: u8) -> i128
     requires { power ≤ 24 }
     ensures { result ≡ pos (10 ^ power) }
 {
