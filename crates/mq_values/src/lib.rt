@@ -17,7 +17,7 @@ mod text;
 mod value;
 mod words;
 
-pub use arithmetic::add;
+pub use arithmetic::{add, div, mul, sub};
 pub use boxed::Boxed;
 pub use faults::{FaultKind, QueryFault, Refused, ValueFault};
 pub use items::Items;
