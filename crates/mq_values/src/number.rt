@@ -1,5 +1,5 @@
 //! The exact decimal number, and its orders.
-ghost use Rattle.std.specs.Prelude.{◌≡◌, ◌≤◌, pos, ◌^◌, ◌*ℤ◌, IsTrue};
+ghost use Rattle.std.specs.Prelude.{◌≡◌, ◌≤◌, pos, ◌^◌, ◌*ℤ◌, ◌<ℤ◌, IsTrue};
 ghost use Rattle.std.proofs.Common.{rules};
 ghost use Rattle.std.specs.Cmp.Rules.{comparing};
 ghost use Rattle.std.specs.Ordering.{as_partial_cmp};
@@ -108,9 +108,10 @@ impl Num {
 }
 
 /// Ten to that power.
-fn ten_to(power: u8) -> i128
+pub(crate) fn ten_to(power: u8) -> i128
     requires { power ≤ 24 }
-    ensures { result ≡ pos (10 ^ power) }
+    ensures value { result ≡ pos (10 ^ power) }
+    ensures positive { pos 0 <ℤ result }
 {
     TENS[power as usize]
 }
