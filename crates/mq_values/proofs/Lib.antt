@@ -1,4 +1,5 @@
 pub mod NumberTexts
 pub mod Ranges
 pub mod Steps
+pub mod Tallies
 pub mod Tens

@@ -1,3 +1,4 @@
+pub mod Aggregate
 pub mod Answers
 pub mod Arithmetic
 pub mod Convert
@@ -7,6 +8,7 @@ pub mod Order
 pub mod OrderLaws
 pub mod Print
 pub mod Shared
+pub mod Tally
 pub mod Text
 pub mod Words
 pub mod formers
