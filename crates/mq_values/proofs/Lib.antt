@@ -1,3 +1,4 @@
 pub mod Ranges
 pub mod Tens
 pub mod Steps
+pub mod Written

@@ -11,7 +11,10 @@ pub fn add(a: Num, b: Num) -> Result<Num, ValueFault>
     ensures { result ≡ sum_of a b }
 {
     let scale = a.scale().max(b.scale());
-    match (a.with_zeros(scale - a.scale()), b.with_zeros(scale - b.scale())) {
+    match (
+        a.with_zeros(scale - a.scale()),
+        b.with_zeros(scale - b.scale()),
+    ) {
         (Some(m), Some(n)) => match m.checked_add(n) {
             Some(sum) => Ok(Num::new(sum, scale)),
             None => Err(ValueFault::Overflow),
@@ -26,7 +29,10 @@ pub fn sub(a: Num, b: Num) -> Result<Num, ValueFault>
     ensures { result ≡ difference_of a b }
 {
     let scale = a.scale().max(b.scale());
-    match (a.with_zeros(scale - a.scale()), b.with_zeros(scale - b.scale())) {
+    match (
+        a.with_zeros(scale - a.scale()),
+        b.with_zeros(scale - b.scale()),
+    ) {
         (Some(m), Some(n)) => match m.checked_sub(n) {
             Some(rest) => Ok(Num::new(rest, scale)),
             None => Err(ValueFault::Overflow),
@@ -134,5 +140,9 @@ fn rounded_size(dividend: u128, divisor: u128) -> u128
 {
     let quotient = dividend / divisor;
     let rest = dividend % divisor;
-    if rest < divisor - rest { quotient } else { quotient + 1 }
+    if rest < divisor - rest {
+        quotient
+    } else {
+        quotient + 1
+    }
 }
