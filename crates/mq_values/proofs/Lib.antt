@@ -1,4 +1,5 @@
+pub mod NumberTexts
 pub mod Ranges
-pub mod Tens
 pub mod Steps
+pub mod Tens
 pub mod Written

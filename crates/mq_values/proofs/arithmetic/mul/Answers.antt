@@ -11,4 +11,4 @@ returns-in-Some-2 c =
     let s : c.scale.result + c.scale-2.result ≡ c.args.a.scale + c.args.b.scale = omega arith in
     let exact = c.in-Some-2.ensures in
     let same = c.in-Some-2.exact-is in
-    c.quotient.ensures ∙ product_step c.args.a c.args.b c.mant.result c.mant-2.result c.in-Some.exact c.ten_to.result (c.scale.result + c.scale-2.result) s (omega arith) c.mant.ensures c.mant-2.ensures f g c.ten_to.ensures.value t exact.0 (same ∙ exact.1)
+    c.quotient.ensures ∙ product_step c.args.a c.args.b c.mant.result c.mant-2.result c.in-Some.exact c.ten_to.result (c.scale.result + c.scale-2.result) s (omega arith) c.mant.ensures.value c.mant-2.ensures.value f g c.ten_to.ensures.value t exact.0 (same ∙ exact.1)
