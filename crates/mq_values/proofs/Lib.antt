@@ -3,3 +3,4 @@ pub mod Ranges
 pub mod Steps
 pub mod Tallies
 pub mod Tens
+pub mod Written

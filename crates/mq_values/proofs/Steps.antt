@@ -35,7 +35,7 @@ pub half_up-le : (n d : ℕ) → 0 < d → half_up n d ≤ n
 half_up-le n d p =
     let more : n ≤ n * d = le-mul_of_pos_right n p in
     let below : 2 * n + d < suc n * (2 * d) = omega arith in
-    let less : half_up n d < suc n = (div-lt_iff_lt-mul (omega arith)).1 below in
+    let less : half_up n d < suc n = (div-lt_iff_lt-mul {k = 2 * d} {x = 2 * n + d} {y = suc n} (omega arith)).1 below in
     omega arith
 
 negated : (q n : ℕ) → q ≤ suc n → FitsSigned w128 (negsuc n) → FitsSigned w128 (neg_ℤ (pos q))
