@@ -2,6 +2,7 @@ pub mod Aggregate
 pub mod Answers
 pub mod Arithmetic
 pub mod Convert
+pub mod Laws
 pub mod Number
 pub mod NumberOrder
 pub mod Order
