@@ -17,6 +17,8 @@ mod order;
 mod printing;
 mod shared;
 mod tally;
+#[cfg(test)]
+mod tests;
 mod text;
 mod value;
 mod words;
