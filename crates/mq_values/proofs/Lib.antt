@@ -3,3 +3,5 @@ pub mod Ranges
 pub mod Steps
 pub mod Tens
 pub mod Written
+pub mod NumberApart
+pub mod Rounding

@@ -2,6 +2,7 @@ pub mod Answers
 pub mod Arithmetic
 pub mod Convert
 pub mod Number
+pub mod NumberLaws
 pub mod NumberOrder
 pub mod Order
 pub mod OrderLaws

@@ -16,7 +16,7 @@ use Rattle.mq_values.specs.Number.{Number, is_mantissa, cmp_number}
 pub ten_pos : (k : ℕ) → 0 < 10 ^ k
 ten_pos k = one-le-pow k 10 (omega arith)
 
-neg_times : (n k : ℕ) → neg_ℤ (pos n) *ℤ pos k ≡ neg_ℤ (pos (n * k))
+pub neg_times : (n k : ℕ) → neg_ℤ (pos n) *ℤ pos k ≡ neg_ℤ (pos (n * k))
 neg_times zero k = ap (λ n. pos n) (zero-mul k) ∙ ap (λ n. neg_ℤ (pos n)) (sym (zero-mul k))
 neg_times (suc n) k = refl
 

@@ -11,6 +11,7 @@ mod faults;
 mod items;
 mod memory;
 mod number;
+mod number_laws;
 mod operators;
 mod order;
 mod printing;
@@ -26,6 +27,10 @@ pub use faults::{FaultKind, QueryFault, Refused, ValueFault};
 pub use items::Items;
 pub use memory::{Fail, Memory};
 pub use number::Num;
+pub use number_laws::{
+    casts_back_nearby, floors_below, orders_by_worth, prints_apart, rounds_to_nearest,
+    subtracts_by_negation,
+};
 pub use operators::{Agg, CmpOp, DimTest, Func, Mode, ProdOp, SumOp};
 pub use order::{cmp_sql, cmp_total};
 pub use printing::print;
