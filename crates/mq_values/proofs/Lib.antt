@@ -4,3 +4,5 @@ pub mod Steps
 pub mod Tallies
 pub mod Tens
 pub mod Written
+pub mod NumberApart
+pub mod Rounding

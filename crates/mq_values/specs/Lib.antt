@@ -4,6 +4,7 @@ pub mod Arithmetic
 pub mod Convert
 pub mod Laws
 pub mod Number
+pub mod NumberLaws
 pub mod NumberOrder
 pub mod Order
 pub mod OrderLaws

@@ -3,7 +3,7 @@ ghost use Rattle.std.specs.Prelude.{◌≡◌, ◌≢◌, ◌≤◌, ◌<◌, �
 ghost use Rattle.mq_values.specs.Arithmetic.{difference_of, floor_of, half_up, in_range, magnitude_of, negation_of, product_of, quotient_of, rescaled, rounded, sum_of};
 
 use crate::faults::ValueFault;
-use crate::number::{Num, ten_to};
+use crate::number::{Num, ten_to, times};
 
 /// The sum `a + b`, of the larger scale. `Overflow` comes exactly where one of the two mantissas, brought
 /// to that scale, or their sum is out of range (docs/LANGUAGE.md, "Arithmetic").
@@ -47,7 +47,7 @@ pub fn mul(a: Num, b: Num) -> Result<Num, ValueFault>
     ensures { result ≡ product_of a b }
 {
     let scale = a.scale() + b.scale();
-    match a.mant().checked_mul(b.mant()) {
+    match times(a.mant(), b.mant()) {
         Some(exact) if scale <= 12 => Ok(Num::new(exact, scale)),
         Some(exact) => quotient(exact, ten_to(scale - 12), 12),
         None => Err(ValueFault::Overflow),

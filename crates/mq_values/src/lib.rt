@@ -12,6 +12,7 @@ mod items;
 mod laws;
 mod memory;
 mod number;
+mod number_laws;
 mod operators;
 mod order;
 mod printing;
@@ -31,6 +32,10 @@ pub use items::Items;
 pub use laws::{keys_are_ordered, order_agrees_with_comparison, values_are_ordered};
 pub use memory::{Fail, Memory};
 pub use number::Num;
+pub use number_laws::{
+    casts_back_nearby, floors_below, orders_by_worth, prints_apart, rounds_to_nearest,
+    subtracts_by_negation,
+};
 pub use operators::{Agg, CmpOp, DimTest, Func, Mode, ProdOp, SumOp};
 pub use order::{cmp_sql, cmp_total};
 pub use printing::print;

@@ -103,7 +103,20 @@ impl Num {
         requires { zeros ≤ 24 }
         ensures { result ≡ fitting (self.mant *ℤ pos (10 ^ zeros)) }
     {
-        self.mant.checked_mul(ten_to(zeros))
+        if zeros == 0 {
+            return Some(self.mant);
+        }
+        times(self.mant, ten_to(zeros))
+    }
+}
+
+/// The product, where it is in range. Most mantissas are short, and their products are always in range.
+pub(crate) fn times(a: i128, b: i128) -> Option<i128>
+    ensures { result ≡ fitting (a *ℤ b) }
+{
+    match (i64::try_from(a), i64::try_from(b)) {
+        (Ok(short), Ok(other)) => Some(short as i128 * other as i128),
+        _ => a.checked_mul(b),
     }
 }
 
@@ -137,6 +150,9 @@ impl Ord for Num {
     ghost matches_eq = { equal_together };
 
     fn cmp(&self, other: &Num) -> Ordering {
+        if self.scale == other.scale {
+            return self.mant.cmp(&other.mant);
+        }
         self.cmp_value(*other).then(self.scale.cmp(&other.scale))
     }
 }
