@@ -29,7 +29,9 @@ pub use boxed::Boxed;
 pub use convert::{cast, concat, length};
 pub use faults::{FaultKind, QueryFault, Refused, ValueFault};
 pub use items::Items;
-pub use laws::{keys_are_ordered, order_agrees_with_comparison, values_are_ordered};
+pub use laws::{
+    keys_are_ordered, order_agrees_with_comparison, values_are_ordered, values_print_apart,
+};
 pub use memory::{Fail, Memory};
 pub use number::Num;
 pub use number_laws::{
