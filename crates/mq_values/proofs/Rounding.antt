@@ -86,9 +86,9 @@ casts n there back s l h k =
     ⊎_elim
     (λ e. no_difference back.mant n.mant (10 ^ (n.scale - s)) (same_scale n there back s e h k))
     (λ lt. let u = 10 ^ (n.scale - s) in
-      let positive = ten_pos (n.scale - s) in
-      let ne : pos u ≢ pos 0 = λ e. omega (arith, ints) in
-      off_by back.mant n.mant (rounded n.mant (pos u) *ℤ pos u) u (smaller_scale n there back s lt h k) (rounds n.mant (pos u) ne).0)
+    let positive = ten_pos (n.scale - s) in
+    let ne : pos u ≢ pos 0 = λ e. omega (arith, ints) in
+    off_by back.mant n.mant (rounded n.mant (pos u) *ℤ pos u) u (smaller_scale n there back s lt h k) (rounds n.mant (pos u) ne).0)
     (eq-or-lt_of_le l)
 
 negative_at : (z : ℤ) (k : ℕ) → neg_ℤ z *ℤ pos k ≡ neg_ℤ (z *ℤ pos k)
