@@ -13,6 +13,8 @@ mod laws;
 mod memory;
 mod number;
 mod number_laws;
+#[cfg(test)]
+mod number_tests;
 mod operators;
 mod order;
 mod printing;
