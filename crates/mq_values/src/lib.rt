@@ -1,0 +1,6 @@
+//! Values.
+#![tactic(auto)]
+
+mod memory;
+
+pub use memory::Memory;
