@@ -92,8 +92,11 @@ quoted z = text_of z (closing false (drop 1 z))
 
 -- ---- comments: `--` to before the next LF, `/*` to behind the next `*/`
 
+abbrev pub is_not_lf : ℕ → Bool
+is_not_lf b = not (b == 10)
+
 unfoldable pub line_comment : Text → Front
-line_comment z = a_gap (prefix_len (λ b. not (b == 10)) z)
+line_comment z = a_gap (prefix_len is_not_lf z)
 
 -- the length of what stands up to the next `*/`, with it
 abbrev pub comment_end : Text → Option ℕ

@@ -48,6 +48,7 @@ fn word_len(z: &[u8]) -> usize
     n
 }
 
+#[tactic(auto, unfolding(crate::specs::Tokens::word))]
 fn word(z: &[u8]) -> Front
     ensures { result ≡ spec.word z.now }
 {
@@ -77,6 +78,7 @@ fn digits_len(z: &[u8], at: usize) -> usize
 }
 
 // The length of a point and the digits behind it, from a place on; 0 where they do not stand there.
+#[tactic(auto, unfolding(crate::specs::Tokens::fraction_len))]
 fn fraction_len(z: &[u8], at: usize) -> usize
     requires { at ≤ length z.now }
     ensures value { result ≡ spec.fraction_len z.now at }
@@ -90,6 +92,7 @@ fn fraction_len(z: &[u8], at: usize) -> usize
 }
 
 // Whether the digits, without the point, make no greater number than the limit.
+#[tactic(auto, using(crate::proofs::Numbers::too_great))]
 fn is_small(mut number: &[u8]) -> bool
     ensures { result ≡ spec.is_small number.entry.now }
 {
@@ -107,6 +110,7 @@ fn is_small(mut number: &[u8]) -> bool
     true
 }
 
+#[tactic(auto, unfolding(crate::specs::Tokens::number))]
 fn number(z: &[u8]) -> Front
     ensures { result ≡ spec.number z.now }
 {
@@ -122,27 +126,21 @@ fn number(z: &[u8]) -> Front
 }
 
 // The length of the longest front that ends with the closing quote of a text.
-fn closing(mut z: &[u8]) -> Option<usize>
-    requires { length z.now < 2 ^ 63 }
-    ensures value { result ≡ spec.closing false z.entry.now }
-    ensures within { IfSome result (λ n. (1 ≤ n) × (n ≤ length z.entry.now)) }
+fn closing(z: &[u8]) -> Option<usize>
+    ensures value { result ≡ spec.closing false z.now }
+    ensures within { IfSome result (λ n. (1 ≤ n) × (n ≤ length z.now)) }
 {
     let mut found = None;
     let mut behind_quote = false;
-    let mut at = 0;
-    while let [b, rest @ ..] = z {
+    for (at, b) in z.iter().enumerate() {
         let is_quote = *b == b'\'';
-        if behind_quote {
-            if !is_quote {
-                return Some(at);
-            }
-            found = Some(at);
+        if behind_quote && !is_quote {
+            return Some(at);
         }
+        found = if behind_quote { Some(at) } else { found };
         behind_quote = is_quote && !behind_quote;
-        at += 1;
-        z = rest;
     }
-    if behind_quote { Some(at) } else { found }
+    if behind_quote { Some(z.len()) } else { found }
 }
 
 // Whether this stands between the quotes of a text: few enough bytes, and no control character.
@@ -166,6 +164,7 @@ fn is_content(mut inner: &[u8]) -> bool
     true
 }
 
+#[tactic(auto, unfolding(crate::specs::Tokens::quoted))]
 fn quoted(z: &[u8]) -> Front
     requires { 0 < length z.now }
     ensures { result ≡ spec.quoted z.now }
@@ -187,6 +186,7 @@ fn quoted(z: &[u8]) -> Front
 }
 
 // The length of a comment that ends before the next LF.
+#[tactic(auto, unfolding(crate::specs::Tokens::line_comment))]
 fn line_comment(z: &[u8]) -> Front
     ensures { result ≡ spec.line_comment z.now }
 {
@@ -214,6 +214,7 @@ fn comment_end(mut z: &[u8]) -> Option<usize>
     None
 }
 
+#[tactic(auto, unfolding(crate::specs::Tokens::block_comment))]
 fn block_comment(z: &[u8]) -> Front
     requires { 1 < length z.now }
     ensures { result ≡ spec.block_comment z.now }
@@ -231,6 +232,7 @@ fn block_comment(z: &[u8]) -> Front
 }
 
 // The length of the sign that begins with these bytes; 0 where none does.
+#[tactic(auto, unfolding(crate::specs::Tokens::sign_len))]
 fn sign_len(b: u8, next: u8) -> usize
     ensures { result ≡ spec.sign_len b next }
 {
@@ -245,6 +247,7 @@ fn sign_len(b: u8, next: u8) -> usize
 }
 
 // The length of the character at the front.
+#[tactic(auto, unfolding(crate::specs::Tokens::char_len))]
 fn char_len(z: &[u8]) -> usize
     requires { 0 < length z.now }
     ensures { result ≡ spec.char_len z.now }
@@ -259,6 +262,7 @@ fn char_len(z: &[u8]) -> usize
     n
 }
 
+#[tactic(auto, unfolding(crate::specs::Tokens::sign_or_bad))]
 fn sign_or_bad(z: &[u8]) -> Front
     requires { 0 < length z.now }
     ensures { result ≡ spec.sign_or_bad z.now }
@@ -276,6 +280,7 @@ fn sign_or_bad(z: &[u8]) -> Front
 }
 
 /// What stands at the front.
+#[tactic(auto, unfolding(crate::specs::Tokens::front))]
 pub(crate) fn front(z: &[u8]) -> Front
     requires { 0 < length z.now }
     ensures { result ≡ spec.front z.now }
