@@ -1,3 +1,5 @@
+pub mod Cuts
 pub mod Numbers
 pub mod Places
 pub mod Quotes
+pub mod Scans
