@@ -214,11 +214,11 @@ cut-if : (z : Text) (q : Bool) (x y : Front) → (q ≡ true → Cut z x.len) �
 cut-if z true x y h k = h refl
 cut-if z false x y h k = k refl
 
-and-left : (p q : Bool) → (p && q) ≡ true → p ≡ true
+pub and-left : (p q : Bool) → (p && q) ≡ true → p ≡ true
 and-left true q e = refl
 and-left false q e = absurd (cc)
 
-and-right : (p q : Bool) → (p && q) ≡ true → q ≡ true
+pub and-right : (p q : Bool) → (p && q) ≡ true → q ≡ true
 and-right true q e = e
 and-right false q e = absurd (cc)
 

@@ -3,3 +3,5 @@ pub mod Numbers
 pub mod Places
 pub mod Quotes
 pub mod Scans
+pub mod StatementLemmas
+pub mod WordLemmas
