@@ -45,7 +45,7 @@ letter_word b is = grind (arith, nat_tests)
 digit_ascii : (b : ℕ) → is_ascii_digit b ≡ true → b < 128
 digit_ascii b is = grind (arith, nat_tests)
 
-word-cut : (z : Text) → 0 < length z → is_ascii_alphabetic (get_or z 0 0) ≡ true → Cut z (word z).len
+pub word-cut : (z : Text) → 0 < length z → is_ascii_alphabetic (get_or z 0 0) ≡ true → Cut z (word z).len
 unfolding word
 word-cut z some letter =
     let first : 1 ≤ word_len z = prefix_len_some is_word_byte z some (letter_word (get_or z 0 0) letter) in
@@ -111,7 +111,7 @@ number_alone z (suc n) some begins is ends =
     let at_end : 0 + digits_len z 0 - 1 ≡ suc n - 1 = omega arith in
     (omega arith, subst (λ i. get_or z i 0 < 128) at_end (last_digit z 0 (omega arith)))
 
-number-cut : (z : Text) → 0 < length z → (is_ascii_digit (get_or z 0 0) || (eqb (get_or z 0 0) 46 && is_ascii_digit (get_or z 1 0))) ≡ true → Cut z (number z).len
+pub number-cut : (z : Text) → 0 < length z → (is_ascii_digit (get_or z 0 0) || (eqb (get_or z 0 0) 46 && is_ascii_digit (get_or z 1 0))) ≡ true → Cut z (number z).len
 unfolding number fraction_len
 number-cut z some begins =
     let whole = digits_len z 0 in
@@ -197,17 +197,20 @@ char-cut z some =
             let stops : is_continuation (get_or (drop 1 z) n 0) ≡ false = prefix_len_stops is_continuation (drop 1 z) 0 (omega (arith, length-drop 1 z)) in
             grind (arith, nat_tests)) ] refl
 
+sign-cut : (z : Text) (n : ℕ) → 0 < length z → Signs (get_or z 0 0) (get_or z 1 0) (suc n) → Cut z (suc n)
+sign-cut z zero some e = ascii_end z 1 (omega arith) (omega arith) (e.one refl)
+sign-cut z (suc zero) some e = ascii_end z 2 (omega arith) (second_within z (e.two refl).1) (e.two refl).0
+sign-cut z (suc (suc n)) some e = absurd (omega (arith, e.short))
+
+pub sign-within : (z : Text) (n : ℕ) → sign_len (get_or z 0 0) (get_or z 1 0) ≡ suc n → 0 < length z → suc n ≤ length z
+sign-within z n e some = (sign-cut z n some (subst (Signs (get_or z 0 0) (get_or z 1 0)) e (signs (get_or z 0 0) (get_or z 1 0)))).within
+
 sign_or_bad-cut : (z : Text) → 0 < length z → Cut z (sign_or_bad z).len
 unfolding sign_or_bad
 sign_or_bad-cut z some =
     elim (sign_len (get_or z 0 0) (get_or z 1 0)) as (λ n. Signs (get_or z 0 0) (get_or z 1 0) n → Cut z (sign_of n z).len)
     [ zero ↦ λ e. char-cut z some
     | suc n ↦ λ e. sign-cut z n some e ] (signs (get_or z 0 0) (get_or z 1 0))
-  where
-    sign-cut : (z : Text) (n : ℕ) → 0 < length z → Signs (get_or z 0 0) (get_or z 1 0) (suc n) → Cut z (suc n)
-    sign-cut z zero some e = ascii_end z 1 (omega arith) (omega arith) (e.one refl)
-    sign-cut z (suc zero) some e = ascii_end z 2 (omega arith) (second_within z (e.two refl).1) (e.two refl).0
-    sign-cut z (suc (suc n)) some e = absurd (omega (arith, e.short))
 
 -- one of two
 cut-if : (z : Text) (q : Bool) (x y : Front) → (q ≡ true → Cut z x.len) → (q ≡ false → Cut z y.len) → Cut z (cond q x y).len

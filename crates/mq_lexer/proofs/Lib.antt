@@ -3,5 +3,6 @@ pub mod Numbers
 pub mod Places
 pub mod Quotes
 pub mod Scans
+pub mod Spellings
 pub mod StatementLemmas
 pub mod WordLemmas

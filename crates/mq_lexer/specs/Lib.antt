@@ -1,4 +1,5 @@
 pub mod Lexemes
+pub mod Spelling
 pub mod Statements
 pub mod Tokens
 pub mod Words

@@ -183,3 +183,10 @@ token_of p = token_at p.sort p.text p.line
 
 unfoldable pub tokens : Text → List Lexeme
 tokens z = filter_map token_of (pieces z)
+
+-- a word, a number or a sign
+abbrev pub is_readable : Sort → Bool
+is_readable sort.Word = true
+is_readable sort.Number = true
+is_readable sort.Sign = true
+is_readable _ = false
