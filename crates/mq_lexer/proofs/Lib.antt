@@ -1,4 +1,5 @@
 pub mod Cuts
+pub mod LawLemmas
 pub mod Numbers
 pub mod Places
 pub mod Quotes

@@ -78,7 +78,7 @@ all_good : list_all good signs ≡ true
 unfolding good sign_len sign_byte
 all_good = refl
 
-listed : (p : Text → Bool) (t : Text) (xs : List Text) → list_any (bytes_eq t) xs ≡ true → list_all p xs ≡ true → p t ≡ true
+pub listed : (p : Text → Bool) (t : Text) (xs : List Text) → list_any (bytes_eq t) xs ≡ true → list_all p xs ≡ true → p t ≡ true
 listed p t [] any all = absurd (cc)
 listed p t (x ∷ xs) any all =
     elim (bytes_eq t x) as (λ q. (bytes_eq t x ≡ q) → (q || list_any (bytes_eq t) xs) ≡ true → (p x && list_all p xs) ≡ true → p t ≡ true)
@@ -386,7 +386,7 @@ sign-none_longer z letter number quote sort.Bad m fits more within s = absurd s
 
 -- ---- the front of a text
 
-abbrev Reads : Text → Front → Type 0
+abbrev pub Reads : Text → Front → Type 0
 Reads z f = (s : Sort) × (f ≡ a_token s f.len) × (IsLongest z s f.len ⊎ IsUnreadable z s f.len)
 
 reads-if : (z : Text) (q : Bool) (x y : Front) → (q ≡ true → Reads z x) → (q ≡ false → Reads z y) → Reads z (cond q x y)
