@@ -64,19 +64,20 @@ digits_within z at = omega (arith, prefix_len-le-length is_ascii_digit (drop at 
 
 -- digits, with a point and digits behind them or without
 number_end : (z : Text) (whole : ℕ) (point none : Bool) → whole ≤ length z → none ≡ eqb (digits_len z (whole + 1)) 0
-  → ((point && not none) ≡ false → (1 ≤ whole) × (get_or z (whole - 1) 0 < 128))
-  → Cut z (whole + cond (point && not none) (digits_len z (whole + 1) + 1) 0)
+    → ((point && not none) ≡ false → (1 ≤ whole) × (get_or z (whole - 1) 0 < 128))
+    → Cut z (whole + cond (point && not none) (digits_len z (whole + 1) + 1) 0)
 number_end z whole point none within is alone =
-    elim (point && not none) as (λ q. ((point && not none) ≡ q) → Cut z (whole + cond q (digits_len z (whole + 1) + 1) 0))
-    [ true ↦ λ e.
-        let n = digits_len z (whole + 1) in
-        let digits : 1 ≤ n = grind (arith, nat_tests) in
-        let fits : n ≤ length z - (whole + 1) = digits_within z (whole + 1) in
-        let at_end : whole + 1 + n - 1 ≡ whole + (n + 1) - 1 = omega arith in
-        ascii_end z (whole + (n + 1)) (omega arith) (omega arith) (subst (λ i. get_or z i 0 < 128) at_end (last_digit z (whole + 1) digits))
-    | false ↦ λ e.
-        let here : whole ≡ whole + 0 = omega arith in
-        subst (Cut z) here (ascii_end z whole (alone e).0 within (alone e).1) ] refl
+    elim (point && not none) as (λ q. ((point && not none) ≡ q) → Cut z (whole + cond q (digits_len z (whole + 1) + 1) 0)) [
+      | true ↦ λ e.
+          let n = digits_len z (whole + 1) in
+          let digits : 1 ≤ n = grind (arith, nat_tests) in
+          let fits : n ≤ length z - (whole + 1) = digits_within z (whole + 1) in
+          let at_end : whole + 1 + n - 1 ≡ whole + (n + 1) - 1 = omega arith in
+          ascii_end z (whole + (n + 1)) (omega arith) (omega arith) (subst (λ i. get_or z i 0 < 128) at_end (last_digit z (whole + 1) digits))
+      | false ↦ λ e.
+          let here : whole ≡ whole + 0 = omega arith in
+          subst (Cut z) here (ascii_end z whole (alone e).0 within (alone e).1)
+    ] refl
 
 second_within : (z : Text) → 0 < get_or z 1 0 → 2 ≤ length z
 second_within [] h = absurd (omega arith)
@@ -88,7 +89,7 @@ begins_digit z is some = prefix_len_some is_ascii_digit z some is
 
 -- a number that begins with a point has digits behind it
 begins_point : (z : Text) → 0 < length z → digits_len z 0 ≡ 0 → (is_ascii_digit (get_or z 0 0) || (eqb (get_or z 0 0) 46 && is_ascii_digit (get_or z 1 0))) ≡ true
-  → (eqb (get_or z 0 0) 46 && not (eqb (digits_len z 1) 0)) ≡ true
+    → (eqb (get_or z 0 0) 46 && not (eqb (digits_len z 1) 0)) ≡ true
 begins_point z some none begins =
     let first : is_ascii_digit (get_or z 0 0) ≡ false = no_digit (is_ascii_digit (get_or z 0 0)) (λ e. begins_digit z e some) in
     let point : eqb (get_or z 0 0) 46 ≡ true = grind arith in
@@ -105,7 +106,7 @@ begins_point z some none begins =
 
 -- a number with no digits behind a point
 number_alone : (z : Text) (whole : ℕ) → 0 < length z → (is_ascii_digit (get_or z 0 0) || (eqb (get_or z 0 0) 46 && is_ascii_digit (get_or z 1 0))) ≡ true
-  → whole ≡ digits_len z 0 → (eqb (get_or z whole 0) 46 && not (eqb (digits_len z (whole + 1)) 0)) ≡ false → (1 ≤ whole) × (get_or z (whole - 1) 0 < 128)
+    → whole ≡ digits_len z 0 → (eqb (get_or z whole 0) 46 && not (eqb (digits_len z (whole + 1)) 0)) ≡ false → (1 ≤ whole) × (get_or z (whole - 1) 0 < 128)
 number_alone z zero some begins is ends = let point = begins_point z some (sym is) begins in absurd (cc)
 number_alone z (suc n) some begins is ends =
     let at_end : 0 + digits_len z 0 - 1 ≡ suc n - 1 = omega arith in
@@ -122,13 +123,14 @@ quoted-cut : (z : Text) → get_or z 0 0 ≡ 39 → 0 < length z → Cut z (quot
 unfolding quoted
 quoted-cut [] quote some = absurd (omega arith)
 quoted-cut (b ∷ z) quote some =
-    elim (closing false z) as (λ o. (closing false z ≡ o) → Cut (b ∷ z) (text_of (b ∷ z) o).len)
-    [ None ↦ λ e. all_of (b ∷ z) some
-    | Some n ↦ λ e.
-        let bounds = closing_bounds z n e in
-        let quote_at : get_or (b ∷ z) n 0 ≡ 39 = closing_ends b z n e in
-        let at_end : n ≡ n + 1 - 1 = omega arith in
-        ascii_end (b ∷ z) (n + 1) (omega arith) (omega (arith, bounds.1)) (subst (λ i. get_or (b ∷ z) i 0 < 128) at_end (omega arith)) ] refl
+    elim (closing false z) as (λ o. (closing false z ≡ o) → Cut (b ∷ z) (text_of (b ∷ z) o).len) [
+      | None ↦ λ e. all_of (b ∷ z) some
+      | Some n ↦ λ e.
+          let bounds = closing_bounds z n e in
+          let quote_at : get_or (b ∷ z) n 0 ≡ 39 = closing_ends b z n e in
+          let at_end : n ≡ n + 1 - 1 = omega arith in
+          ascii_end (b ∷ z) (n + 1) (omega arith) (omega (arith, bounds.1)) (subst (λ i. get_or (b ∷ z) i 0 < 128) at_end (omega arith))
+    ] refl
 
 line_comment-cut : (z : Text) → get_or z 0 0 ≡ 45 → 0 < length z → Cut z (line_comment z).len
 unfolding line_comment
@@ -136,8 +138,8 @@ line_comment-cut z dash some =
     let n = prefix_len is_not_lf z in
     let first : 1 ≤ n = prefix_len_some is_not_lf z some (rw dash refl) in
     before z n first (prefix_len-le-length is_not_lf z) (λ more high.
-        let stops : is_not_lf (get_or z n 0) ≡ false = prefix_len_stops is_not_lf z 0 more in
-        grind (arith, nat_tests))
+    let stops : is_not_lf (get_or z n 0) ≡ false = prefix_len_stops is_not_lf z 0 more in
+    grind (arith, nat_tests))
 
 -- what closes a comment ends with a slash, in the text
 abbrev EndsComment : Text → Option ℕ → Type 0
@@ -157,22 +159,24 @@ slash_within (b ∷ z) e = omega arith
 ends_comment : (z : Text) → EndsComment z (comment_end z)
 ends_comment [] = tt
 ends_comment (b ∷ z) =
-    elim (eqb b 42 && eqb (get_or z 0 0) 47) as (λ q. ((eqb b 42 && eqb (get_or z 0 0) 47) ≡ q) → EndsComment (b ∷ z) (cond q (Some 2) (option_map suc (comment_end z))))
-    [ true ↦ λ e.
-        let slash : get_or z 0 0 ≡ 47 = grind (arith, nat_tests) in
-        let more : 1 ≤ length z = slash_within z slash in
-        (omega arith, omega arith, slash)
-    | false ↦ λ e. ends_comment-suc b z (comment_end z) (ends_comment z) ] refl
+    elim (eqb b 42 && eqb (get_or z 0 0) 47) as (λ q. ((eqb b 42 && eqb (get_or z 0 0) 47) ≡ q) → EndsComment (b ∷ z) (cond q (Some 2) (option_map suc (comment_end z)))) [
+      | true ↦ λ e.
+          let slash : get_or z 0 0 ≡ 47 = grind (arith, nat_tests) in
+          let more : 1 ≤ length z = slash_within z slash in
+          (omega arith, omega arith, slash)
+      | false ↦ λ e. ends_comment-suc b z (comment_end z) (ends_comment z)
+    ] refl
 
 block_comment-cut : (z : Text) → get_or z 1 0 ≡ 42 → 0 < length z → Cut z (block_comment z).len
 unfolding block_comment
 block_comment-cut z star some =
-    elim (comment_end (drop 2 z)) as (λ o. EndsComment (drop 2 z) o → Cut z (comment_of z o).len)
-    [ None ↦ λ e. all_of z some
-    | Some n ↦ λ e.
-        let at_end : 2 + (n - 1) ≡ n + 2 - 1 = omega (arith, e.0) in
-        let slash : get_or z (2 + (n - 1)) 0 ≡ 47 = sym (get_or-drop 2 z (n - 1) 0) ∙ e.2 in
-        ascii_end z (n + 2) (omega arith) (omega (arith, e.0, e.1, length-drop 2 z)) (subst (λ i. get_or z i 0 < 128) at_end (omega arith)) ] (ends_comment (drop 2 z))
+    elim (comment_end (drop 2 z)) as (λ o. EndsComment (drop 2 z) o → Cut z (comment_of z o).len) [
+      | None ↦ λ e. all_of z some
+      | Some n ↦ λ e.
+          let at_end : 2 + (n - 1) ≡ n + 2 - 1 = omega (arith, e.0) in
+          let slash : get_or z (2 + (n - 1)) 0 ≡ 47 = sym (get_or-drop 2 z (n - 1) 0) ∙ e.2 in
+          ascii_end z (n + 2) (omega arith) (omega (arith, e.0, e.1, length-drop 2 z)) (subst (λ i. get_or z i 0 < 128) at_end (omega arith))
+    ] (ends_comment (drop 2 z))
 
 -- a sign is of ASCII characters, all of them there
 record Signs (b next n : ℕ) : Type 0 where
@@ -188,14 +192,15 @@ char-cut : (z : Text) → 0 < length z → Cut z (char_len z)
 unfolding char_len
 char-cut z some =
     let n = prefix_len is_continuation (drop 1 z) in
-    elim (nat_lt (get_or z 0 0) 128) as (λ q. (nat_lt (get_or z 0 0) 128 ≡ q) → Cut z (cond q 1 (1 + n)))
-    [ true ↦ λ e. ascii_end z 1 (omega arith) (omega arith) (grind (arith, nat_tests))
-    | false ↦ λ e.
-        let fits : 1 + n ≤ length z = omega (arith, prefix_len-le-length is_continuation (drop 1 z), length-drop 1 z) in
-        before z (1 + n) (omega arith) fits (λ more high.
-            let next : get_or (drop 1 z) n 0 ≡ get_or z (1 + n) 0 = get_or-drop 1 z n 0 in
-            let stops : is_continuation (get_or (drop 1 z) n 0) ≡ false = prefix_len_stops is_continuation (drop 1 z) 0 (omega (arith, length-drop 1 z)) in
-            grind (arith, nat_tests)) ] refl
+    elim (nat_lt (get_or z 0 0) 128) as (λ q. (nat_lt (get_or z 0 0) 128 ≡ q) → Cut z (cond q 1 (1 + n))) [
+      | true ↦ λ e. ascii_end z 1 (omega arith) (omega arith) (grind (arith, nat_tests))
+      | false ↦ λ e.
+          let fits : 1 + n ≤ length z = omega (arith, prefix_len-le-length is_continuation (drop 1 z), length-drop 1 z) in
+          before z (1 + n) (omega arith) fits (λ more high.
+          let next : get_or (drop 1 z) n 0 ≡ get_or z (1 + n) 0 = get_or-drop 1 z n 0 in
+          let stops : is_continuation (get_or (drop 1 z) n 0) ≡ false = prefix_len_stops is_continuation (drop 1 z) 0 (omega (arith, length-drop 1 z)) in
+          grind (arith, nat_tests))
+    ] refl
 
 sign-cut : (z : Text) (n : ℕ) → 0 < length z → Signs (get_or z 0 0) (get_or z 1 0) (suc n) → Cut z (suc n)
 sign-cut z zero some e = ascii_end z 1 (omega arith) (omega arith) (e.one refl)
@@ -208,9 +213,10 @@ sign-within z n e some = (sign-cut z n some (subst (Signs (get_or z 0 0) (get_or
 sign_or_bad-cut : (z : Text) → 0 < length z → Cut z (sign_or_bad z).len
 unfolding sign_or_bad
 sign_or_bad-cut z some =
-    elim (sign_len (get_or z 0 0) (get_or z 1 0)) as (λ n. Signs (get_or z 0 0) (get_or z 1 0) n → Cut z (sign_of n z).len)
-    [ zero ↦ λ e. char-cut z some
-    | suc n ↦ λ e. sign-cut z n some e ] (signs (get_or z 0 0) (get_or z 1 0))
+    elim (sign_len (get_or z 0 0) (get_or z 1 0)) as (λ n. Signs (get_or z 0 0) (get_or z 1 0) n → Cut z (sign_of n z).len) [
+      | zero ↦ λ e. char-cut z some
+      | suc n ↦ λ e. sign-cut z n some e
+    ] (signs (get_or z 0 0) (get_or z 1 0))
 
 -- one of two
 cut-if : (z : Text) (q : Bool) (x y : Front) → (q ≡ true → Cut z x.len) → (q ≡ false → Cut z y.len) → Cut z (cond q x y).len

@@ -37,7 +37,7 @@ pieces-texts z = texts 0 1 z
 
 -- the line of a piece is the one that the bytes before it lead to
 lines : (skip line : ℕ) (z : Text) (before : List Piece) (p : Piece) (behind : List Piece) → pieces_from skip line z ≡ before ++ p ∷ behind
-  → p.line ≡ fold line_after line (take skip z ++ flat_map text_of before)
+    → p.line ≡ fold line_after line (take skip z ++ flat_map text_of before)
 lines skip line [] [] p behind e = absurd (cc)
 lines skip line [] (q ∷ before) p behind e = absurd (cc)
 lines (suc skip) line (b ∷ z) before p behind e = lines skip (line_after line b) z before p behind e
@@ -56,12 +56,13 @@ line-count line [] low = omega arith
 line-count line (b ∷ z) low =
     let rest = count_by (λ b. eqb b 10) z in
     let more : count_by (λ b. eqb b 10) (b ∷ z) ≡ cond (eqb b 10) 1 0 + rest = sum_by-cons (λ b. cond (eqb b 10) 1 0) b z in
-    rw more (elim (eqb b 10) as (λ q. fold line_after (cond q (min (line + 1) (2 ^ 32 - 1)) line) z ≡ min (line + (cond q 1 0 + rest)) (2 ^ 32 - 1))
-    [ true ↦ line-count (min (line + 1) (2 ^ 32 - 1)) z (omega arith) ∙ omega arith
-    | false ↦ line-count line z low ∙ omega arith ])
+    rw more (elim (eqb b 10) as (λ q. fold line_after (cond q (min (line + 1) (2 ^ 32 - 1)) line) z ≡ min (line + (cond q 1 0 + rest)) (2 ^ 32 - 1)) [
+      | true ↦ line-count (min (line + 1) (2 ^ 32 - 1)) z (omega arith) ∙ omega arith
+      | false ↦ line-count line z low ∙ omega arith
+    ])
 
 pub pieces-lines : (z : Text) (before : List Piece) (p : Piece) (behind : List Piece) → pieces z ≡ before ++ p ∷ behind
-  → p.line ≡ min (1 + count_by (λ b. eqb b 10) (flat_map (λ (p : Piece). p.text) before)) (2 ^ 32 - 1)
+    → p.line ≡ min (1 + count_by (λ b. eqb b 10) (flat_map (λ (p : Piece). p.text) before)) (2 ^ 32 - 1)
 unfolding pieces
 pieces-lines z before p behind e = lines 0 1 z before p behind e ∙ line-count 1 (flat_map text_of before) (omega arith)
 
@@ -70,9 +71,10 @@ pieces-lines z before p behind e = lines 0 1 z before p behind e ∙ line-count 
 no_blank : (p : ℕ → Bool) (t : Text) → ((b : ℕ) → p b ≡ true → is_blank b ≡ false) → list_all p t ≡ true → list_any is_blank t ≡ false
 no_blank p [] none all = refl
 no_blank p (b ∷ t) none all =
-    elim (p b) as (λ q. (p b ≡ q) → (q && list_all p t) ≡ true → (is_blank b || list_any is_blank t) ≡ false)
-    [ true ↦ λ e all. rw (none b e) (no_blank p t none all)
-    | false ↦ λ e all. absurd (cc) ] refl all
+    elim (p b) as (λ q. (p b ≡ q) → (q && list_all p t) ≡ true → (is_blank b || list_any is_blank t) ≡ false) [
+      | true ↦ λ e all. rw (none b e) (no_blank p t none all)
+      | false ↦ λ e all. absurd (cc)
+    ] refl all
 
 word-blank : (b : ℕ) → is_word_byte b ≡ true → is_blank b ≡ false
 word-blank b is = grind (arith, nat_tests)
@@ -83,9 +85,10 @@ digit-blank b is = grind (arith, nat_tests)
 any-append : (xs ys : Text) → list_any is_blank xs ≡ false → list_any is_blank ys ≡ false → list_any is_blank (xs ++ ys) ≡ false
 any-append [] ys e f = f
 any-append (x ∷ xs) ys e f =
-    elim (is_blank x) as (λ q. (q || list_any is_blank xs) ≡ false → (q || list_any is_blank (xs ++ ys)) ≡ false)
-    [ true ↦ λ e. absurd (cc)
-    | false ↦ λ e. any-append xs ys e f ] e
+    elim (is_blank x) as (λ q. (q || list_any is_blank xs) ≡ false → (q || list_any is_blank (xs ++ ys)) ≡ false) [
+      | true ↦ λ e. absurd (cc)
+      | false ↦ λ e. any-append xs ys e f
+    ] e
 
 no_blank_sign : Text → Bool
 no_blank_sign t = not (list_any is_blank t)
@@ -172,9 +175,10 @@ reads-clear z (s, is, inr u) = subst (λ f. Clear f.sort (take (front z).len z))
 
 front-clear : (z : Text) → 0 < length z → Clear (front z).sort (take (front z).len z)
 front-clear z some =
-    elim (begins_gap z) as (λ q. (begins_gap z ≡ q) → Clear (front z).sort (take (front z).len z))
-    [ true ↦ λ e. dull-clear (front z).sort (take (front z).len z) (gap-dull z e)
-    | false ↦ λ e. reads-clear z (front-reads z some e) ] refl
+    elim (begins_gap z) as (λ q. (begins_gap z ≡ q) → Clear (front z).sort (take (front z).len z)) [
+      | true ↦ λ e. dull-clear (front z).sort (take (front z).len z) (gap-dull z e)
+      | false ↦ λ e. reads-clear z (front-reads z some e)
+    ] refl
 
 abbrev IsClear : Lexeme → Type 0
 IsClear t = is_readable t.sort ≡ true → list_any is_blank t.text ≡ false
@@ -204,9 +208,10 @@ put_first-flat t (p ∷ ps) = refl
 parts-flat : (ts : List Lexeme) → flat_map (λ p. p) (parts ts) ≡ filter (λ t. not (is_semicolon t)) ts
 parts-flat [] = refl
 parts-flat (t ∷ ts) =
-    elim (is_semicolon t) as (λ q. flat_map (λ p. p) (cond q ([] ∷ parts ts) (put_first t (parts ts))) ≡ cond (not q) (t ∷ filter (λ t. not (is_semicolon t)) ts) (filter (λ t. not (is_semicolon t)) ts))
-    [ true ↦ parts-flat ts
-    | false ↦ put_first-flat t (parts ts) ∙ ap (λ l. t ∷ l) (parts-flat ts) ]
+    elim (is_semicolon t) as (λ q. flat_map (λ p. p) (cond q ([] ∷ parts ts) (put_first t (parts ts))) ≡ cond (not q) (t ∷ filter (λ t. not (is_semicolon t)) ts) (filter (λ t. not (is_semicolon t)) ts)) [
+      | true ↦ parts-flat ts
+      | false ↦ put_first-flat t (parts ts) ∙ ap (λ l. t ∷ l) (parts-flat ts)
+    ]
 
 statement-flat : (ps : List (List Lexeme)) → flat_map (λ s. s.tokens) (filter_map statement_of ps) ≡ flat_map (λ p. p) ps
 statement-flat [] = refl

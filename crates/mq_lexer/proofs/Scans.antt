@@ -22,7 +22,7 @@ pieces_from-drop (suc n) line (b ∷ z) = pieces_from-drop n (line_after line b)
 
 -- the first piece, and the others
 pub pieces_from-front : (line : ℕ) (z : Text) → 0 < length z → 1 ≤ (front z).len
-  → pieces_from 0 line z ≡ piece (front z) z line ∷ pieces_from 0 (fold line_after line (take (front z).len z)) (drop (front z).len z)
+    → pieces_from 0 line z ≡ piece (front z) z line ∷ pieces_from 0 (fold line_after line (take (front z).len z)) (drop (front z).len z)
 pieces_from-front line [] some moves = absurd (omega arith)
 pieces_from-front line (b ∷ z) some moves =
     let n = (front (b ∷ z)).len in
@@ -39,15 +39,15 @@ unfolding tokens pieces
 scans_first text found none utf8 = record { so_far = ap (λ ts. map lexeme ts ++ filter_map token_of (pieces_from 0 1 text)) none; utf8 = utf8 }
 
 pub scans_next : (text : Text) (found more : List Token) (line next : ℕ) (rest taken after : Text) (f : Front)
-  → Scans text found line rest → 0 < length rest → f ≡ front rest → taken ≡ take f.len rest → after ≡ drop f.len rest
-  → map lexeme more ≡ map lexeme found ++ option_to_list (token_at f.sort taken line) → next ≡ fold line_after line taken → Scans text more next after
+    → Scans text found line rest → 0 < length rest → f ≡ front rest → taken ≡ take f.len rest → after ≡ drop f.len rest
+    → map lexeme more ≡ map lexeme found ++ option_to_list (token_at f.sort taken line) → next ≡ fold line_after line taken → Scans text more next after
 scans_next text found more line next rest taken after f scans some is taken-is after-is more-is next-is =
     let cut = front-cut rest some in
     let n = (front rest).len in
     let len : f.len ≡ n = ap (λ f. f.len) is in
     let whole = pieces_from-front line rest some cut.some in
     let step : map lexeme more ++ filter_map token_of (pieces_from 0 next after) ≡ map lexeme found ++ filter_map token_of (pieces_from 0 line rest) =
-        rw (more-is, next-is, taken-is, after-is, is, whole) (split_option (map lexeme found) _ _) in
+    rw (more-is, next-is, taken-is, after-is, is, whole) (split_option (map lexeme found) _ _) in
     record { so_far = step ∙ scans.so_far; utf8 = subst IsUtf8 (sym (after-is ∙ ap (λ n. drop n rest) len)) (IsUtf8-drop rest n scans.utf8 (cut.splits scans.utf8)) }
 
 pub scans_last : (text : Text) (found : List Token) (line : ℕ) (rest : Text) → Scans text found line rest → length rest ≡ 0 → map lexeme found ≡ tokens text

@@ -23,32 +23,36 @@ use Rattle.mq_lexer.proofs.Cuts.{word-cut, number-cut, sign-within}
 prefix-passes : (p : ℕ → Bool) (z : Text) → list_all p (take (prefix_len p z) z) ≡ true
 prefix-passes p [] = refl
 prefix-passes p (b ∷ z) =
-    elim (p b) as (λ q. (p b ≡ q) → list_all p (take (cond q (1 + prefix_len p z) 0) (b ∷ z)) ≡ true)
-    [ true ↦ λ e. let one : 1 + prefix_len p z ≡ suc (prefix_len p z) = omega arith in rw (one, e) (prefix-passes p z)
-    | false ↦ λ e. refl ] refl
+    elim (p b) as (λ q. (p b ≡ q) → list_all p (take (cond q (1 + prefix_len p z) 0) (b ∷ z)) ≡ true) [
+      | true ↦ λ e. let one : 1 + prefix_len p z ≡ suc (prefix_len p z) = omega arith in rw (one, e) (prefix-passes p z)
+      | false ↦ λ e. refl
+    ] refl
 
 -- and is the longest
 passes-prefix : (p : ℕ → Bool) (z : Text) (m : ℕ) → m ≤ length z → list_all p (take m z) ≡ true → m ≤ prefix_len p z
 passes-prefix p z zero within all = omega arith
 passes-prefix p [] (suc m) within all = absurd (omega arith)
 passes-prefix p (b ∷ z) (suc m) within all =
-    elim (p b) as (λ q. (q && list_all p (take m z)) ≡ true → suc m ≤ cond q (1 + prefix_len p z) 0)
-    [ true ↦ λ e. omega (arith, passes-prefix p z m (omega arith) e)
-    | false ↦ λ e. absurd (cc) ] all
+    elim (p b) as (λ q. (q && list_all p (take m z)) ≡ true → suc m ≤ cond q (1 + prefix_len p z) 0) [
+      | true ↦ λ e. omega (arith, passes-prefix p z m (omega arith) e)
+      | false ↦ λ e. absurd (cc)
+    ] all
 
 prefix-append : (p : ℕ → Bool) (xs : Text) (b : ℕ) (ys : Text) → list_all p xs ≡ true → p b ≡ false → prefix_len p (xs ++ b ∷ ys) ≡ length xs
 prefix-append p [] b ys all no_more = rw no_more refl
 prefix-append p (x ∷ xs) b ys all no_more =
-    elim (p x) as (λ q. (q && list_all p xs) ≡ true → cond q (1 + prefix_len p (xs ++ b ∷ ys)) 0 ≡ suc (length xs))
-    [ true ↦ λ e. omega (arith, prefix-append p xs b ys e no_more)
-    | false ↦ λ e. absurd (cc) ] all
+    elim (p x) as (λ q. (q && list_all p xs) ≡ true → cond q (1 + prefix_len p (xs ++ b ∷ ys)) 0 ≡ suc (length xs)) [
+      | true ↦ λ e. omega (arith, prefix-append p xs b ys e no_more)
+      | false ↦ λ e. absurd (cc)
+    ] all
 
 prefix-longer : (p : ℕ → Bool) (xs ys : Text) → list_all p xs ≡ true → length xs ≤ prefix_len p (xs ++ ys)
 prefix-longer p [] ys all = omega arith
 prefix-longer p (x ∷ xs) ys all =
-    elim (p x) as (λ q. (q && list_all p xs) ≡ true → suc (length xs) ≤ cond q (1 + prefix_len p (xs ++ ys)) 0)
-    [ true ↦ λ e. omega (arith, prefix-longer p xs ys e)
-    | false ↦ λ e. absurd (cc) ] all
+    elim (p x) as (λ q. (q && list_all p xs) ≡ true → suc (length xs) ≤ cond q (1 + prefix_len p (xs ++ ys)) 0) [
+      | true ↦ λ e. omega (arith, prefix-longer p xs ys e)
+      | false ↦ λ e. absurd (cc)
+    ] all
 
 drop-append_whole : (xs ys : Text) (b : ℕ) → drop (length xs + 1) (xs ++ b ∷ ys) ≡ ys
 drop-append_whole [] ys b = refl
@@ -81,9 +85,10 @@ all_good = refl
 pub listed : (p : Text → Bool) (t : Text) (xs : List Text) → list_any (bytes_eq t) xs ≡ true → list_all p xs ≡ true → p t ≡ true
 listed p t [] any all = absurd (cc)
 listed p t (x ∷ xs) any all =
-    elim (bytes_eq t x) as (λ q. (bytes_eq t x ≡ q) → (q || list_any (bytes_eq t) xs) ≡ true → (p x && list_all p xs) ≡ true → p t ≡ true)
-    [ true ↦ λ e _ all. ap p ((bytes_eq-Decides t x).0 e) ∙ first (p x) (list_all p xs) all
-    | false ↦ λ e any all. listed p t xs any (second (p x) (list_all p xs) all) ] refl any all
+    elim (bytes_eq t x) as (λ q. (bytes_eq t x ≡ q) → (q || list_any (bytes_eq t) xs) ≡ true → (p x && list_all p xs) ≡ true → p t ≡ true) [
+      | true ↦ λ e _ all. ap p ((bytes_eq-Decides t x).0 e) ∙ first (p x) (list_all p xs) all
+      | false ↦ λ e any all. listed p t xs any (second (p x) (list_all p xs) all)
+    ] refl any all
   where
     first : (q r : Bool) → (q && r) ≡ true → q ≡ true
     first true r e = refl
@@ -149,9 +154,10 @@ sign-longest z m within spelled = by_length z m within (listed good (take m z) s
 content-doubled : (c : Text) → content false (doubled c) ≡ c
 content-doubled [] = refl
 content-doubled (b ∷ c) =
-    elim (eqb b 39) as (λ q. (eqb b 39 ≡ q) → content false (cond q (39 ∷ 39 ∷ doubled c) (b ∷ doubled c)) ≡ b ∷ c)
-    [ true ↦ λ e. let is : 39 ≡ b = sym ((Decides-eqb b 39).0 e) in ap (λ x. 39 ∷ x) (content-doubled c) ∙ ap (λ x. x ∷ c) is
-    | false ↦ λ e. rw e (ap (λ x. b ∷ x) (content-doubled c)) ] refl
+    elim (eqb b 39) as (λ q. (eqb b 39 ≡ q) → content false (cond q (39 ∷ 39 ∷ doubled c) (b ∷ doubled c)) ≡ b ∷ c) [
+      | true ↦ λ e. let is : 39 ≡ b = sym ((Decides-eqb b 39).0 e) in ap (λ x. 39 ∷ x) (content-doubled c) ∙ ap (λ x. x ∷ c) is
+      | false ↦ λ e. rw e (ap (λ x. b ∷ x) (content-doubled c))
+    ] refl
 
 -- behind a quote something closes, if only that quote
 behind : (z : Text) → (k : ℕ) × (closing true z ≡ Some k)
@@ -169,9 +175,10 @@ closes : (c rest : Text) → (k : ℕ) × (closing false (doubled c ++ 39 ∷ re
 closes [] rest = let b = behind rest in (suc b.0, ap (option_map suc) b.1, omega arith)
 closes (b ∷ c) rest =
     let h = closes c rest in
-    elim (eqb b 39) as (λ q. (eqb b 39 ≡ q) → (k : ℕ) × (closing false (cond q (39 ∷ 39 ∷ doubled c) (b ∷ doubled c) ++ 39 ∷ rest) ≡ Some k) × (length (cond q (39 ∷ 39 ∷ doubled c) (b ∷ doubled c)) + 1 ≤ k))
-    [ true ↦ λ e. (suc (suc h.0), ap (λ o. option_map suc (option_or (option_map suc o) (Some 0))) h.1, omega (arith, h.2))
-    | false ↦ λ e. (suc h.0, rw e (ap (option_map suc) h.1), omega (arith, h.2)) ] refl
+    elim (eqb b 39) as (λ q. (eqb b 39 ≡ q) → (k : ℕ) × (closing false (cond q (39 ∷ 39 ∷ doubled c) (b ∷ doubled c) ++ 39 ∷ rest) ≡ Some k) × (length (cond q (39 ∷ 39 ∷ doubled c) (b ∷ doubled c)) + 1 ≤ k)) [
+      | true ↦ λ e. (suc (suc h.0), ap (λ o. option_map suc (option_or (option_map suc o) (Some 0))) h.1, omega (arith, h.2))
+      | false ↦ λ e. (suc h.0, rw e (ap (option_map suc) h.1), omega (arith, h.2))
+    ] refl
 
 -- what is closed is spelled
 abbrev Closed : Text → ℕ → Type 0
@@ -182,9 +189,10 @@ closed-one b z n quote some = let one : 1 ≡ n = cc in ([], rw (← one, quote)
 
 closed-quote : (b d : ℕ) (z : Text) (n : ℕ) → b ≡ 39 → ((m : ℕ) → closing false z ≡ Some m → Closed z m) → option_map suc (closing true (d ∷ z)) ≡ Some n → Closed (b ∷ d ∷ z) n
 closed-quote b d z n quote shorter some =
-    elim (eqb d 39) as (λ q. (eqb d 39 ≡ q) → option_map suc (cond q (option_or (option_map suc (closing false z)) (Some 0)) (Some 0)) ≡ Some n → Closed (b ∷ d ∷ z) n)
-    [ true ↦ λ is some. twice ((Decides-eqb d 39).0 is) (closing false z) refl some
-    | false ↦ λ is some. closed-one b (d ∷ z) n quote some ] refl some
+    elim (eqb d 39) as (λ q. (eqb d 39 ≡ q) → option_map suc (cond q (option_or (option_map suc (closing false z)) (Some 0)) (Some 0)) ≡ Some n → Closed (b ∷ d ∷ z) n) [
+      | true ↦ λ is some. twice ((Decides-eqb d 39).0 is) (closing false z) refl some
+      | false ↦ λ is some. closed-one b (d ∷ z) n quote some
+    ] refl some
   where
     twice : d ≡ 39 → (o : Option ℕ) → closing false z ≡ o → option_map suc (option_or (option_map suc o) (Some 0)) ≡ Some n → Closed (b ∷ d ∷ z) n
     twice second None o-is some = closed-one b (d ∷ z) n quote some
@@ -203,13 +211,15 @@ closed-other b d z n is shorter (Some m) o-is some =
 closed : (z : Text) (n : ℕ) → closing false z ≡ Some n → Closed z n
 closed [] n e = absurd (cc)
 closed (b ∷ []) n e =
-    elim (eqb b 39) as (λ q. (eqb b 39 ≡ q) → option_map suc (closing q []) ≡ Some n → Closed (b ∷ []) n)
-    [ true ↦ λ is some. closed-one b [] n ((Decides-eqb b 39).0 is) some
-    | false ↦ λ is some. absurd (cc) ] refl e
+    elim (eqb b 39) as (λ q. (eqb b 39 ≡ q) → option_map suc (closing q []) ≡ Some n → Closed (b ∷ []) n) [
+      | true ↦ λ is some. closed-one b [] n ((Decides-eqb b 39).0 is) some
+      | false ↦ λ is some. absurd (cc)
+    ] refl e
 closed (b ∷ d ∷ z) n e =
-    elim (eqb b 39) as (λ q. (eqb b 39 ≡ q) → option_map suc (closing q (d ∷ z)) ≡ Some n → Closed (b ∷ d ∷ z) n)
-    [ true ↦ λ is some. closed-quote b d z n ((Decides-eqb b 39).0 is) (closed z) some
-    | false ↦ λ is some. closed-other b d z n is (closed (d ∷ z)) (closing false (d ∷ z)) refl some ] refl e
+    elim (eqb b 39) as (λ q. (eqb b 39 ≡ q) → option_map suc (closing q (d ∷ z)) ≡ Some n → Closed (b ∷ d ∷ z) n) [
+      | true ↦ λ is some. closed-quote b d z n ((Decides-eqb b 39).0 is) (closed z) some
+      | false ↦ λ is some. closed-other b d z n is (closed (d ∷ z)) (closing false (d ∷ z)) refl some
+    ] refl e
 
 -- what stands between the quotes is the content, with its quotes doubled
 content-closed : (z c : Text) (n : ℕ) → n ≤ length z → take n z ≡ doubled c ++ 39 ∷ [] → content false (take (n - 1) z) ≡ c
@@ -217,7 +227,7 @@ content-closed z c n within is =
     let size : n ≡ length (doubled c) + 1 = sym (length-take-le n z within) ∙ ap length is ∙ length-append (doubled c) (39 ∷ []) in
     let less : n - 1 ≡ length (doubled c) = omega arith in
     let inner : take (n - 1) z ≡ doubled c =
-        ap (λ k. take k z) less ∙ sym (shorter (length (doubled c)) n z (omega arith)) ∙ ap (take (length (doubled c))) is ∙ whole (doubled c) (39 ∷ []) in
+    ap (λ k. take k z) less ∙ sym (shorter (length (doubled c)) n z (omega arith)) ∙ ap (take (length (doubled c))) is ∙ whole (doubled c) (39 ∷ []) in
     ap (content false) inner ∙ content-doubled c
   where
     shorter : (k n : ℕ) (z : Text) → k ≤ n → take k (take n z) ≡ take k z
@@ -255,7 +265,7 @@ next-take (b ∷ []) (suc (suc m)) some = refl
 next-take (b ∷ c ∷ z) (suc (suc m)) some = refl
 
 fraction-head : (t whole fraction : Text) → t ≡ whole ++ 46 ∷ fraction → 0 < length fraction → list_all is_ascii_digit whole ≡ true → list_all is_ascii_digit fraction ≡ true
-  → (is_ascii_digit (get_or t 0 0) ≡ true) ⊎ ((get_or t 0 0 ≡ 46) × (is_ascii_digit (get_or t 1 0) ≡ true) × (2 ≤ length t))
+    → (is_ascii_digit (get_or t 0 0) ≡ true) ⊎ ((get_or t 0 0 ≡ 46) × (is_ascii_digit (get_or t 1 0) ≡ true) × (2 ≤ length t))
 fraction-head t [] [] is some whole_digits digits = absurd (omega arith)
 fraction-head t [] (b ∷ fraction) is some whole_digits digits =
     inr (ap (λ l. get_or l 0 0) is, ap (λ l. is_ascii_digit (get_or l 1 0)) is ∙ all-head is_ascii_digit (b ∷ fraction) some digits, omega (arith, ap length is))
@@ -269,12 +279,13 @@ head sort.Number z m fits some within (inl s) =
     ap (λ q. q || (eqb (get_or z 0 0) 46 && is_ascii_digit (get_or z 1 0))) first
 head sort.Number z m fits some within (inr s) =
     elim (fraction-head (take m z) s.whole s.fraction s.is s.some s.whole_digits s.fraction_digits) [
-      inl digit ↦ ap (λ q. q || (eqb (get_or z 0 0) 46 && is_ascii_digit (get_or z 1 0))) (ap is_ascii_digit (sym (head-take z m some)) ∙ digit)
-    | inr point ↦
-        let first : get_or z 0 0 ≡ 46 = sym (head-take z m some) ∙ point.0 in
-        let more : 2 ≤ m = omega (arith, point.2, length-take-le m z within) in
-        let second : is_ascii_digit (get_or z 1 0) ≡ true = ap is_ascii_digit (sym (next-take z m more)) ∙ point.1 in
-        rw (first, second) refl ]
+      | inl digit ↦ ap (λ q. q || (eqb (get_or z 0 0) 46 && is_ascii_digit (get_or z 1 0))) (ap is_ascii_digit (sym (head-take z m some)) ∙ digit)
+      | inr point ↦
+          let first : get_or z 0 0 ≡ 46 = sym (head-take z m some) ∙ point.0 in
+          let more : 2 ≤ m = omega (arith, point.2, length-take-le m z within) in
+          let second : is_ascii_digit (get_or z 1 0) ≡ true = ap is_ascii_digit (sym (next-take z m more)) ∙ point.1 in
+          rw (first, second) refl
+    ]
 head sort.Text z m fits some within s = sym (head-take z m some) ∙ ap (λ t. get_or t 0 0) s.is
 head sort.Sign z m fits some within s = let longest = sign-longest z m within s.0 in omega (arith, longest.0, longest.1)
 head sort.Bad z m fits some within s = absurd s
@@ -377,7 +388,7 @@ quoted-none b z quote none sort.Sign m fits more within s = quote-sign b (get_or
 quoted-none b z quote none sort.Bad m fits more within s = absurd s
 
 sign-none_longer : (z : Text) → is_ascii_alphabetic (get_or z 0 0) ≡ false → begins_number (get_or z 0 0) (get_or z 1 0) ≡ false → eqb (get_or z 0 0) 39 ≡ false
-  → NoneLonger z (sign_len (get_or z 0 0) (get_or z 1 0))
+    → NoneLonger z (sign_len (get_or z 0 0) (get_or z 1 0))
 sign-none_longer z letter number quote sort.Word m fits more within s = true≢false (sym (head sort.Word z m fits (omega arith) within s) ∙ letter)
 sign-none_longer z letter number quote sort.Number m fits more within s = true≢false (sym (head sort.Number z m fits (omega arith) within s) ∙ number)
 sign-none_longer z letter number quote sort.Text m fits more within s = true≢false (sym ((Decides-eqb (get_or z 0 0) 39).1 (head sort.Text z m fits (omega arith) within s)) ∙ quote)
@@ -402,7 +413,8 @@ word-reads z letter some =
     let spells : SpellsWord (take n z) (nat_le n 128) = record {
       letter = ap is_ascii_alphabetic (head-take z n first) ∙ letter;
       bytes = prefix-passes is_word_byte z;
-      limit = ap (λ i. nat_le i 128) (sym (length-take-le n z within)) } in
+      limit = ap (λ i. nat_le i 128) (sym (length-take-le n z within));
+    } in
     (cond (nat_le n 128) sort.Word sort.Bad, refl, inl (record { spelled = sort.Word; fits = nat_le n 128; spells = spells; sort = refl; within = within; longest = word-longest z letter }))
 
 take-split : (z : Text) (w d : ℕ) → w < length z → take (w + (d + 1)) z ≡ take w z ++ get_or z w 0 ∷ take d (drop (w + 1) z)
@@ -422,22 +434,30 @@ number-spells z some within =
     let w = digits_len z 0 in
     let d = digits_len z (w + 1) in
     elim (eqb (get_or z w 0) 46 && not (eqb d 0)) as (λ q. ((eqb (get_or z w 0) 46 && not (eqb d 0)) ≡ q) → 1 ≤ w + cond q (d + 1) 0 → w + cond q (d + 1) 0 ≤ length z
-      → Spells sort.Number (take (w + cond q (d + 1) 0) z) (nat_le (cond q (d + 1) 0) 13 && is_small (take (w + cond q (d + 1) 0) z)))
-    [ true ↦ λ e some within.
-        let point : get_or z w 0 ≡ 46 = first_is (get_or z w 0) d e in
-        let digits : 1 ≤ d = second_is (get_or z w 0) d e in
-        let fraction = take d (drop (w + 1) z) in
-        let long : length fraction ≡ d = length-take-le d (drop (w + 1) z) (prefix_len-le-length is_ascii_digit (drop (w + 1) z)) in
-        let is : take (w + (d + 1)) z ≡ take w z ++ 46 ∷ fraction = take-split z w d (omega arith) ∙ ap (λ b. take w z ++ b ∷ fraction) point in
-        inr (record {
-          whole = take w z; fraction = fraction; is = is; some = omega arith; whole_digits = prefix-passes is_ascii_digit z; fraction_digits = prefix-passes is_ascii_digit (drop (w + 1) z);
-          limit = ap (λ q. q && is_small (take (w + (d + 1)) z)) (thirteen d (length fraction) long) })
-    | false ↦ λ e some within.
-        let same : w + 0 ≡ w = omega arith in
-        inl (record {
-          some = omega (arith, length-take-le (w + 0) z within);
-          digits = ap (λ i. list_all is_ascii_digit (take i z)) same ∙ prefix-passes is_ascii_digit z;
-          limit = refl }) ] refl some within
+    → Spells sort.Number (take (w + cond q (d + 1) 0) z) (nat_le (cond q (d + 1) 0) 13 && is_small (take (w + cond q (d + 1) 0) z))) [
+      | true ↦ λ e some within.
+          let point : get_or z w 0 ≡ 46 = first_is (get_or z w 0) d e in
+          let digits : 1 ≤ d = second_is (get_or z w 0) d e in
+          let fraction = take d (drop (w + 1) z) in
+          let long : length fraction ≡ d = length-take-le d (drop (w + 1) z) (prefix_len-le-length is_ascii_digit (drop (w + 1) z)) in
+          let is : take (w + (d + 1)) z ≡ take w z ++ 46 ∷ fraction = take-split z w d (omega arith) ∙ ap (λ b. take w z ++ b ∷ fraction) point in
+          inr (record {
+            whole = take w z;
+            fraction = fraction;
+            is = is;
+            some = omega arith;
+            whole_digits = prefix-passes is_ascii_digit z;
+            fraction_digits = prefix-passes is_ascii_digit (drop (w + 1) z);
+            limit = ap (λ q. q && is_small (take (w + (d + 1)) z)) (thirteen d (length fraction) long);
+          })
+      | false ↦ λ e some within.
+          let same : w + 0 ≡ w = omega arith in
+          inl (record {
+            some = omega (arith, length-take-le (w + 0) z within);
+            digits = ap (λ i. list_all is_ascii_digit (take i z)) same ∙ prefix-passes is_ascii_digit z;
+            limit = refl;
+          })
+    ] refl some within
   where
     first_is : (b d : ℕ) → (eqb b 46 && not (eqb d 0)) ≡ true → b ≡ 46
     first_is b d e = grind (arith, nat_tests)
@@ -456,31 +476,56 @@ quoted-reads : (z : Text) → get_or z 0 0 ≡ 39 → 0 < length z → Reads z (
 unfolding quoted
 quoted-reads [] quote some = absurd (omega arith)
 quoted-reads (b ∷ z) quote some =
-    elim (closing false z) as (λ o. (closing false z ≡ o) → Reads (b ∷ z) (text_of (b ∷ z) o))
-    [ None ↦ λ e. (sort.Bad, refl, inr (record { sort = refl; none = quoted-none b z quote e; quote = λ _. refl; other = λ k. absurd (k quote) }))
-    | Some n ↦ λ e.
-        let bounds = closing_bounds z n e in
-        let c = closed z n e in
-        let fits = is_content (take (n - 1) z) in
-        let one : n + 1 ≡ suc n = omega arith in
-        let front : take (n + 1) (b ∷ z) ≡ 39 ∷ doubled c.0 ++ 39 ∷ [] = ap (λ i. take i (b ∷ z)) one ∙ rw quote (ap (λ t. 39 ∷ t) c.1) in
-        let limit : fits ≡ (nat_le (length c.0) 256 && list_all is_plain c.0) = ap (λ t. nat_le (length t) 256 && list_all is_plain t) (content-closed z c.0 n bounds.1 c.1) in
-        (cond fits sort.Text sort.Bad, refl, inl (record {
-          spelled = sort.Text; fits = fits; spells = record { content = c.0; is = front; limit = limit };
-          sort = refl; within = omega (arith, bounds.1); longest = quoted-longest b z n quote e })) ] refl
+    elim (closing false z) as (λ o. (closing false z ≡ o) → Reads (b ∷ z) (text_of (b ∷ z) o)) [
+      | None ↦ λ e. (sort.Bad, refl, inr (record { sort = refl; none = quoted-none b z quote e; quote = λ _. refl; other = λ k. absurd (k quote) }))
+      | Some n ↦ λ e.
+          let bounds = closing_bounds z n e in
+          let c = closed z n e in
+          let fits = is_content (take (n - 1) z) in
+          let one : n + 1 ≡ suc n = omega arith in
+          let front : take (n + 1) (b ∷ z) ≡ 39 ∷ doubled c.0 ++ 39 ∷ [] = ap (λ i. take i (b ∷ z)) one ∙ rw quote (ap (λ t. 39 ∷ t) c.1) in
+          let limit : fits ≡ (nat_le (length c.0) 256 && list_all is_plain c.0) = ap (λ t. nat_le (length t) 256 && list_all is_plain t) (content-closed z c.0 n bounds.1 c.1) in (
+            cond fits sort.Text sort.Bad,
+            refl,
+            inl (record {
+              spelled = sort.Text;
+              fits = fits;
+              spells = record { content = c.0; is = front; limit = limit };
+              sort = refl;
+              within = omega (arith, bounds.1);
+              longest = quoted-longest b z n quote e;
+            }),
+          )
+    ] refl
 
 sign-reads : (z : Text) → is_ascii_alphabetic (get_or z 0 0) ≡ false → begins_number (get_or z 0 0) (get_or z 1 0) ≡ false → eqb (get_or z 0 0) 39 ≡ false → 0 < length z → Reads z (sign_or_bad z)
 unfolding sign_or_bad
 sign-reads z letter number quote some =
-    elim (sign_len (get_or z 0 0) (get_or z 1 0)) as (λ n. (sign_len (get_or z 0 0) (get_or z 1 0) ≡ n) → Reads z (sign_of n z))
-    [ zero ↦ λ e. (sort.Bad, refl, inr (record {
-        sort = refl; none = subst (NoneLonger z) e (sign-none_longer z letter number quote);
-        quote = λ q. absurd (true≢false (sym ((Decides-eqb (get_or z 0 0) 39).1 q) ∙ quote)); other = λ _. refl }))
-    | suc n ↦ λ e.
-        let within : suc n ≤ length z = sign-within z n e some in
-        (sort.Sign, refl, inl (record {
-          spelled = sort.Sign; fits = true; spells = (sign-spells z n e within, refl);
-          sort = refl; within = within; longest = subst (NoneLonger z) e (sign-none_longer z letter number quote) })) ] refl
+    elim (sign_len (get_or z 0 0) (get_or z 1 0)) as (λ n. (sign_len (get_or z 0 0) (get_or z 1 0) ≡ n) → Reads z (sign_of n z)) [
+      | zero ↦ λ e. (
+        sort.Bad,
+        refl,
+        inr (record {
+          sort = refl;
+          none = subst (NoneLonger z) e (sign-none_longer z letter number quote);
+          quote = λ q. absurd (true≢false (sym ((Decides-eqb (get_or z 0 0) 39).1 q) ∙ quote));
+          other = λ _. refl;
+        }),
+      )
+      | suc n ↦ λ e.
+          let within : suc n ≤ length z = sign-within z n e some in (
+            sort.Sign,
+            refl,
+            inl (record {
+              spelled = sort.Sign;
+              fits = true;
+              spells = (sign-spells z n e within, refl);
+              sort = refl;
+              within = within;
+              longest = subst (NoneLonger z) e (sign-none_longer z letter number quote);
+            }),
+          )
+    ] refl
 
 pub front-reads : (z : Text) → 0 < length z → begins_gap z ≡ false → Reads z (front z)
 unfolding front
