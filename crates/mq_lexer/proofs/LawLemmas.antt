@@ -1,20 +1,18 @@
 -- The pieces of a text as a whole.
-use Rattle.std.proofs.Common.{◌≡◌, ℕ, zero, suc, ◌+◌, ◌-◌, ◌*◌, ◌^◌, ◌<◌, ◌≤◌, min, Bool, true, false, not, ◌&&◌, ◌||◌, cond, eqb, List, [], ◌∷◌, ◌++◌, length, take, drop, filter, ◌⊎◌, inl, inr, refl, ap, sym, subst, true≢false, get_or, ◌∙◌, arith, append_assoc, take-append-drop}
+use Rattle.std.proofs.Common.{◌≡◌, ℕ, zero, suc, ◌+◌, ◌-◌, ◌^◌, ◌<◌, ◌≤◌, min, Bool, true, false, not, ◌&&◌, ◌||◌, cond, eqb, List, [], ◌∷◌, ◌++◌, length, take, drop, filter, inl, inr, refl, ap, sym, subst, true≢false, get_or, ◌∙◌, arith, take-append-drop}
 use Rattle.std.proofs.lemmas.Bool.Decides.{nat_tests}
 use Rattle.std.proofs.lemmas.List.Elements.{All-cons}
 use Rattle.std.proofs.lemmas.List.Sums.{sum_by-cons}
-use Rattle.std.proofs.lemmas.Slice.Eq.{bytes_eq-Decides}
 use Rattle.std.specs.Prelude.{All, Option, Some, None}
 use Rattle.std.specs.Char.{is_ascii_digit, is_ascii_alphabetic}
 use Rattle.std.specs.List.{flat_map, fold, filter_map, cons_option, list_all, list_any, count_by}
-use Rattle.std.specs.Str.{bytes_eq}
 use Rattle.mq_lexer.specs.declared.sorts.Sort.{Sort}
 use Rattle.mq_lexer.specs.declared.sorts.Sort.TheVariants as sort
 use Rattle.mq_lexer.specs.declared.sorts.Front.{Front}
 use Rattle.mq_lexer.specs.Lexemes.{Lexeme}
-use Rattle.mq_lexer.specs.Tokens.{Text, a_token, front, line_comment, comment_end, comment_of, block_comment, line_after, Piece, piece, pieces_from, pieces, token_at, token_of, tokens, is_blank, is_word_byte, is_readable}
-use Rattle.mq_lexer.specs.Spelling.{signs, Spells, IsLongest, IsUnreadable, begins_gap}
-use Rattle.mq_lexer.specs.Statements.{Statement, is_semicolon, put_first, parts, statement_of, statements}
+use Rattle.mq_lexer.specs.Tokens.{Text, front, line_comment, comment_end, comment_of, block_comment, line_after, Piece, piece, pieces_from, pieces, token_at, token_of, tokens, is_blank, is_word_byte, is_readable}
+use Rattle.mq_lexer.specs.Spelling.{signs, Spells, begins_gap}
+use Rattle.mq_lexer.specs.Statements.{is_semicolon, put_first, parts, statement_of, statements}
 use Rattle.mq_lexer.proofs.Cuts.{front-cut}
 use Rattle.mq_lexer.proofs.Spellings.{front-reads, Reads, listed}
 

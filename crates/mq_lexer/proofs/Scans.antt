@@ -1,14 +1,14 @@
 -- The loop over the pieces of a text: the tokens so far, and those of what is left, are the tokens of the text.
-use Rattle.std.proofs.Common.{◌≡◌, ℕ, zero, suc, ◌+◌, ◌-◌, ◌<◌, ◌≤◌, List, [], ◌∷◌, ◌++◌, length, take, drop, map, IsUtf8, refl, ap, sym, subst, ◌∙◌, arith, append_assoc, append-nil}
+use Rattle.std.proofs.Common.{◌≡◌, ℕ, zero, suc, ◌-◌, ◌<◌, ◌≤◌, List, [], ◌∷◌, ◌++◌, length, take, drop, map, IsUtf8, refl, ap, sym, subst, ◌∙◌, arith, append_assoc, append-nil}
 use Rattle.std.specs.Prelude.{Option, Some, None}
 use Rattle.std.specs.List.{fold, filter_map, cons_option}
 use Rattle.std.specs.Option.{option_to_list}
 use Rattle.std.proofs.lemmas.Str.{IsUtf8-drop}
 use Rattle.mq_lexer.specs.declared.sorts.Token.{Token}
 use Rattle.mq_lexer.specs.declared.sorts.Front.{Front}
-use Rattle.mq_lexer.specs.Lexemes.{Lexeme, lexeme}
-use Rattle.mq_lexer.specs.Tokens.{Text, front, line_after, Piece, piece, pieces_from, token_at, token_of, pieces, tokens}
-use Rattle.mq_lexer.proofs.Cuts.{Cut, front-cut}
+use Rattle.mq_lexer.specs.Lexemes.{lexeme}
+use Rattle.mq_lexer.specs.Tokens.{Text, front, line_after, piece, pieces_from, token_at, token_of, pieces, tokens}
+use Rattle.mq_lexer.proofs.Cuts.{front-cut}
 
 pub record Scans (text : Text) (found : List Token) (line : ℕ) (rest : Text) : Type 0 where
   pub so_far : map lexeme found ++ filter_map token_of (pieces_from 0 line rest) ≡ tokens text

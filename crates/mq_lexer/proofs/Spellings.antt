@@ -1,8 +1,7 @@
 -- The token at the front is the longest that is spelled there.
-use Rattle.std.proofs.Common.{◌≡◌, ◌≢◌, true≢false, ℕ, zero, suc, ◌+◌, ◌-◌, ◌<◌, ◌≤◌, Bool, true, false, not, ◌&&◌, ◌||◌, cond, eqb, List, [], ◌∷◌, ◌++◌, length, get_or, take, drop, refl, ap, sym, subst, ◌∙◌, ◌⊎◌, inl, inr, arith, append_assoc, add-zero, length-append, length-drop, length-take-le, take-append-drop}
+use Rattle.std.proofs.Common.{◌≡◌, true≢false, ℕ, zero, suc, ◌+◌, ◌-◌, ◌<◌, ◌≤◌, Bool, true, false, not, ◌&&◌, ◌||◌, cond, eqb, List, [], ◌∷◌, ◌++◌, length, get_or, take, drop, refl, ap, sym, subst, ◌∙◌, ◌⊎◌, inl, inr, arith, append_assoc, length-append, length-take-le, take-append-drop}
 use Rattle.std.proofs.lemmas.Bool.Decides.{nat_tests, Decides-eqb}
-use Rattle.std.proofs.lemmas.List.{get_or-drop}
-use Rattle.std.proofs.lemmas.List.Sums.{prefix_len_passes, prefix_len_stops, prefix_len-le-length}
+use Rattle.std.proofs.lemmas.List.Sums.{prefix_len-le-length}
 use Rattle.std.proofs.lemmas.Slice.Eq.{bytes_eq-Decides}
 use Rattle.std.specs.Prelude.{Option, Some, None, nat_le}
 use Rattle.std.specs.Char.{is_ascii_digit, is_ascii_alphabetic}
@@ -12,8 +11,8 @@ use Rattle.std.specs.Str.{bytes_eq}
 use Rattle.mq_lexer.specs.declared.sorts.Sort.{Sort}
 use Rattle.mq_lexer.specs.declared.sorts.Sort.TheVariants as sort
 use Rattle.mq_lexer.specs.declared.sorts.Front.{Front}
-use Rattle.mq_lexer.specs.Tokens.{Text, a_token, a_token_if, is_word_byte, word_len, word, digits_len, fraction_len, is_small, number, closing, content, is_content, is_plain, text_of, quoted, sign_len, char_len, sign_of, sign_or_bad, front, is_blank}
-use Rattle.mq_lexer.specs.Spelling.{SpellsWord, SpellsWhole, SpellsFraction, doubled, SpellsText, signs, Spells, NoneLonger, IsLongest, IsUnreadable, begins_gap}
+use Rattle.mq_lexer.specs.Tokens.{Text, a_token, is_word_byte, word_len, word, digits_len, fraction_len, is_small, number, closing, content, is_content, is_plain, text_of, quoted, sign_len, sign_of, sign_or_bad, front, is_blank}
+use Rattle.mq_lexer.specs.Spelling.{SpellsWord, SpellsFraction, doubled, SpellsText, signs, Spells, NoneLonger, IsLongest, IsUnreadable, begins_gap}
 use Rattle.mq_lexer.proofs.Quotes.{closing_bounds}
 use Rattle.mq_lexer.proofs.Cuts.{word-cut, number-cut, sign-within}
 

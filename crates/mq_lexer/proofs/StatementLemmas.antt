@@ -1,12 +1,11 @@
 -- The statements of a token list, one after the other.
-use Rattle.std.proofs.Common.{◌≡◌, ℕ, zero, suc, ◌+◌, ◌-◌, ◌<◌, ◌≤◌, Bool, true, false, not, cond, List, [], ◌∷◌, ◌++◌, length, get_or, take, drop, map, refl, ap, sym, subst, ◌∙◌, arith, add-zero, length-drop}
+use Rattle.std.proofs.Common.{◌≡◌, ℕ, zero, suc, ◌+◌, ◌-◌, ◌<◌, ◌≤◌, Bool, true, false, not, cond, List, [], ◌∷◌, length, get_or, take, drop, map, refl, ap, sym, ◌∙◌, arith, add-zero, length-drop}
 use Rattle.std.proofs.lemmas.List.{drop-drop, get_or-drop}
-use Rattle.std.specs.Prelude.{Option, Some, None}
+use Rattle.std.specs.Prelude.{Some}
 use Rattle.std.specs.List.{drop-map, take-map, filter_map, cons_option, prefix_len}
 use Rattle.mq_lexer.specs.declared.sorts.Token.{Token}
-use Rattle.mq_lexer.specs.declared.script.Statement as code
 use Rattle.mq_lexer.specs.Lexemes.{Lexeme, lexeme}
-use Rattle.mq_lexer.specs.Statements.{Statement, is_semicolon, put_first, parts, statement_of, statements, statement, is_break, is_no_break, Next}
+use Rattle.mq_lexer.specs.Statements.{is_semicolon, put_first, parts, statement_of, statements, is_break, is_no_break}
 
 abbrev goes_on : Lexeme → Bool
 goes_on t = not (is_semicolon t)

@@ -1,4 +1,4 @@
-use Rattle.std.proofs.Common.{◌≡◌, ◌+◌, ◌≤◌, length, ◌&&◌, false}
+use Rattle.std.proofs.Common.{◌≡◌, ◌+◌, ◌≤◌, length, ◌&&◌}
 use Rattle.std.specs.Prelude.{nat_le}
 use Rattle.std.specs.List.{list_all}
 use Rattle.mq_lexer.specs.Tokens.{content, is_content, is_plain}
