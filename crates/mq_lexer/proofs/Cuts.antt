@@ -10,7 +10,10 @@ use Rattle.std.specs.List.{prefix_len}
 use Rattle.std.specs.Option.{option_map}
 use Rattle.std.specs.Str.{IsCharBoundary}
 use Rattle.mq_lexer.specs.declared.sorts.Front.{Front}
-use Rattle.mq_lexer.specs.Tokens.{Text, is_word_byte, word_len, word, digits_len, fraction_len, number, closing, text_of, quoted, is_not_lf, line_comment, comment_end, comment_of, block_comment, sign_len, is_continuation, char_len, sign_of, sign_or_bad, front, is_blank}
+use Rattle.mq_lexer.specs.Fronts.{Text}
+use Rattle.mq_lexer.specs.Numbers.{digits_len, fraction_len, number}
+use Rattle.mq_lexer.specs.Pieces.{is_word_byte, word_len, word, is_not_lf, line_comment, comment_end, comment_of, block_comment, sign_len, is_continuation, char_len, sign_of, sign_or_bad, front, is_blank}
+use Rattle.mq_lexer.specs.Quotes.{closing, text_of, quoted}
 use Rattle.mq_lexer.proofs.Quotes.{closing_ends, closing_bounds}
 
 pub record Cut (z : Text) (n : ℕ) : Type 0 where

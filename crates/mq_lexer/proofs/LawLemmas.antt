@@ -10,7 +10,9 @@ use Rattle.mq_lexer.specs.declared.sorts.Sort.{Sort}
 use Rattle.mq_lexer.specs.declared.sorts.Sort.TheVariants as sort
 use Rattle.mq_lexer.specs.declared.sorts.Front.{Front}
 use Rattle.mq_lexer.specs.Lexemes.{Lexeme}
-use Rattle.mq_lexer.specs.Tokens.{Text, front, line_comment, comment_end, comment_of, block_comment, line_after, Piece, piece, pieces_from, pieces, token_at, token_of, tokens, is_blank, is_word_byte, is_readable}
+use Rattle.mq_lexer.specs.Fronts.{Text}
+use Rattle.mq_lexer.specs.Pieces.{front, line_comment, comment_end, comment_of, block_comment, is_blank, is_word_byte}
+use Rattle.mq_lexer.specs.Tokens.{line_after, Piece, piece, pieces_from, pieces, token_at, token_of, tokens, is_readable}
 use Rattle.mq_lexer.specs.Spelling.{signs, Spells, begins_gap}
 use Rattle.mq_lexer.specs.Statements.{is_semicolon, put_first, parts, statement_of, statements}
 use Rattle.mq_lexer.proofs.Cuts.{front-cut}

@@ -3,7 +3,8 @@ use Rattle.std.proofs.Common.{◌≡◌, ℕ, suc, ◌+◌, ◌<◌, ◌≤◌, 
 use Rattle.std.proofs.lemmas.List.{drop_all}
 use Rattle.std.specs.Prelude.{Option, Some, None, IfSome}
 use Rattle.std.specs.Option.{option_map, option_or}
-use Rattle.mq_lexer.specs.Tokens.{Text, closing}
+use Rattle.mq_lexer.specs.Fronts.{Text}
+use Rattle.mq_lexer.specs.Quotes.{closing}
 use Rattle.mq_lexer.proofs.Places.{from_place, from_place-suc}
 
 second : (at : ℕ) (o found : Option ℕ) → option_or (from_place at (option_or (option_map suc o) (Some 0))) found ≡ option_or (from_place (suc at) o) (Some at)

@@ -7,7 +7,9 @@ use Rattle.std.proofs.lemmas.Str.{IsUtf8-drop}
 use Rattle.mq_lexer.specs.declared.sorts.Token.{Token}
 use Rattle.mq_lexer.specs.declared.sorts.Front.{Front}
 use Rattle.mq_lexer.specs.Lexemes.{lexeme}
-use Rattle.mq_lexer.specs.Tokens.{Text, front, line_after, piece, pieces_from, token_at, token_of, pieces, tokens}
+use Rattle.mq_lexer.specs.Fronts.{Text}
+use Rattle.mq_lexer.specs.Pieces.{front}
+use Rattle.mq_lexer.specs.Tokens.{line_after, piece, pieces_from, token_at, token_of, pieces, tokens}
 use Rattle.mq_lexer.proofs.Cuts.{front-cut}
 
 pub record Scans (text : Text) (found : List Token) (line : ℕ) (rest : Text) : Type 0 where

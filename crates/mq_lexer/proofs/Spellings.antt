@@ -11,7 +11,10 @@ use Rattle.std.specs.Str.{bytes_eq}
 use Rattle.mq_lexer.specs.declared.sorts.Sort.{Sort}
 use Rattle.mq_lexer.specs.declared.sorts.Sort.TheVariants as sort
 use Rattle.mq_lexer.specs.declared.sorts.Front.{Front}
-use Rattle.mq_lexer.specs.Tokens.{Text, a_token, is_word_byte, word_len, word, digits_len, fraction_len, is_small, number, closing, content, is_content, is_plain, text_of, quoted, sign_len, sign_of, sign_or_bad, front, is_blank}
+use Rattle.mq_lexer.specs.Fronts.{Text, a_token}
+use Rattle.mq_lexer.specs.Numbers.{digits_len, fraction_len, is_small, number}
+use Rattle.mq_lexer.specs.Pieces.{is_word_byte, word_len, word, sign_len, sign_of, sign_or_bad, front, is_blank}
+use Rattle.mq_lexer.specs.Quotes.{closing, content, is_content, is_plain, text_of, quoted}
 use Rattle.mq_lexer.specs.Spelling.{SpellsWord, SpellsFraction, doubled, SpellsText, signs, Spells, NoneLonger, IsLongest, IsUnreadable, begins_gap}
 use Rattle.mq_lexer.proofs.Quotes.{closing_bounds}
 use Rattle.mq_lexer.proofs.Cuts.{word-cut, number-cut, sign-within}

@@ -5,7 +5,7 @@ use Rattle.std.proofs.lemmas.Slice.Eq.{bytes_eq-Decides}
 use Rattle.std.proofs.lemmas.List.{length-map}
 use Rattle.std.specs.Char.{to_ascii_lowercase, to_ascii_uppercase}
 use Rattle.std.specs.List.{list_any, list_all}
-use Rattle.mq_lexer.specs.Tokens.{Text}
+use Rattle.mq_lexer.specs.Fronts.{Text}
 use Rattle.mq_lexer.proofs.Cuts.{and-left, and-right}
 use Rattle.mq_lexer.specs.Words.{folded, same_word, reserved, reserved_of, is_reserved}
 

@@ -5,7 +5,10 @@ use Rattle.std.specs.List.{list_all, list_any}
 use Rattle.std.specs.Str.{bytes_eq}
 use Rattle.mq_lexer.specs.declared.sorts.Sort.{Sort}
 use Rattle.mq_lexer.specs.declared.sorts.Sort.TheVariants as sort
-use Rattle.mq_lexer.specs.Tokens.{Text, is_blank, is_word_byte, is_plain, is_small, char_len}
+use Rattle.mq_lexer.specs.Fronts.{Text}
+use Rattle.mq_lexer.specs.Numbers.{is_small}
+use Rattle.mq_lexer.specs.Pieces.{is_blank, is_word_byte, char_len}
+use Rattle.mq_lexer.specs.Quotes.{is_plain}
 
 -- a letter, then letters, digits and `_`; at most 128 bytes
 pub record SpellsWord (t : Text) (fits : Bool) : Type 0 where

@@ -3,7 +3,9 @@
 ghost use Rattle.std.specs.Prelude.{◌≡◌, ℕ, ◌+◌, ◌-◌, ◌^◌, ◌<◌, ◌==◌, ◌⊎◌, ◌++◌, ◌∷◌, Bool, false, true, not, min, List, length, filter, All};
 ghost use Rattle.std.specs.List.{flat_map, list_any, count_by};
 ghost use Rattle.mq_lexer.specs.Lexemes.{Lexeme};
-ghost use Rattle.mq_lexer.specs.Tokens.{Text, Piece, pieces, tokens, front, a_token, is_blank, is_readable};
+ghost use Rattle.mq_lexer.specs.Fronts.{Text, a_token};
+ghost use Rattle.mq_lexer.specs.Pieces.{front, is_blank};
+ghost use Rattle.mq_lexer.specs.Tokens.{Piece, pieces, tokens, is_readable};
 ghost use Rattle.mq_lexer.specs.Spelling.{IsLongest, IsUnreadable, begins_gap};
 ghost use Rattle.mq_lexer.specs.Statements.{statements, is_semicolon};
 
