@@ -1,0 +1,11 @@
+-- Texts as values.
+use Rattle.std.specs.Prelude.{ℕ, Bool, not, ◌&&◌, ◌==◌, nat_le, List, length}
+use Rattle.std.specs.List.{list_all}
+
+-- a text holds no control character, which would be a byte of its own in UTF-8
+abbrev pub is_plain : ℕ → Bool
+is_plain b = nat_le 32 b && not (b == 127)
+
+-- at most 256 bytes, and no control character
+abbrev pub is_text : List ℕ → Bool
+is_text bytes = nat_le (length bytes) 256 && list_all is_plain bytes

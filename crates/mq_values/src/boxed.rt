@@ -1,0 +1,70 @@
+ghost use Rattle.std.specs.Prelude.{◌≡◌, IfOk};
+
+use crate::memory::Memory;
+use std::alloc::{AllocError, Global};
+use std::marker::Model;
+
+/// A value on the heap, so that a tree can hold trees. Contracts see it as the value.
+#[derive(Debug, Drop)]
+pub struct Boxed<T> {
+    inner: Box<T>,
+}
+
+impl<T> Model for Boxed<T> {
+    ghost Value = { T };
+
+    ghost coded = { T.code };
+
+    ghost view = { λ b. b.inner.value };
+}
+
+impl<T> Boxed<T> {
+    pub fn get(&self) -> &T
+        ensures { result.now ≡ self.now }
+    {
+        &self.inner
+    }
+
+    /// The value itself. It takes no memory.
+    pub fn into_inner(self) -> T
+        ensures { result ≡ self }
+    {
+        let Boxed { inner } = self;
+        Box::into_inner(inner)
+    }
+}
+
+impl<T: Drop> Boxed<T> {
+    /// Puts `value` on the heap.
+    pub fn new(alloc: Global, value: T) -> Result<Boxed<T>, Memory>
+        ensures { IfOk result (λ b. b ≡ value) }
+    {
+        Ok(Boxed {
+            inner: Box::new(alloc, value)?,
+        })
+    }
+}
+
+impl<T: Clone + Drop> Clone for Boxed<T> {
+    ghost is_clone = { T.is_clone };
+
+    fn clone(&self) -> Result<Boxed<T>, AllocError> {
+        Ok(Boxed {
+            inner: self.inner.clone()?,
+        })
+    }
+}
+
+impl<T: PartialEq> PartialEq for Boxed<T> {
+    ghost eq = { T.eq };
+
+    ghost laws = { T.laws };
+
+    fn eq(&self, other: &Boxed<T>) -> bool {
+        self.get() == other.get()
+    }
+}
+
+impl<T: Eq> Eq for Boxed<T> {
+    ghost laws = { T.Eq.laws };
+}

@@ -1,0 +1,58 @@
+use crate::value::Key;
+use crate::words::Words;
+use thiserror::Error;
+
+/// Why a value cannot be worked out (docs/LANGUAGE.md, "Values").
+#[derive(Clone, Copy, Debug, PartialEq, Eq, Error)]
+pub enum ValueFault {
+    #[error("a number is out of range")]
+    Overflow,
+    #[error("a divisor is zero")]
+    DivideByZero,
+    #[error("a text is longer than 256 bytes")]
+    TextTooLong,
+}
+
+/// Why a query has no rows (docs/LANGUAGE.md, "Faults").
+#[derive(Clone, Copy, Debug, PartialEq, Eq)]
+pub enum FaultKind {
+    NotUnique,
+    Overflow,
+    DivideByZero,
+    TextTooLong,
+    Cycle,
+    AssignedTwice,
+    SelfOrder,
+    TooManyCells,
+    TooManyUnfolded,
+    TooManyRows,
+}
+
+/// A fault and where it came: the rule's number from 1, or 0 outside of the rules, the partition's key and the cell's.
+#[derive(Debug, Drop, PartialEq, Eq)]
+pub struct QueryFault {
+    pub kind: FaultKind,
+    pub rule: u32,
+    pub partition: Key,
+    pub cell: Key,
+}
+
+/// Why a statement was refused, with the detail that is printed (docs/LANGUAGE.md, "Refusals").
+#[derive(Debug, Drop, PartialEq, Eq)]
+pub enum Refused {
+    TooDeep,
+    Syntax,
+    UnknownName(Words),
+    DuplicateName(Words),
+    KindMismatch,
+    ModelForm(u32),
+    Limit(u32),
+    InUse(Words),
+    NoFile,
+    FileTooLong,
+    LoadHeader,
+    LoadRow(u32),
+    ChangeValue(u32, ValueFault),
+    NotNull(Words),
+    DuplicateKey(Key),
+}

@@ -1,0 +1,133 @@
+ghost use Rattle.std.specs.Prelude.{◌≡◌, [], IfOk};
+ghost use Rattle.std.specs.Hash as fed;
+ghost use Rattle.std.specs.Hash.{items_Alike};
+ghost use Rattle.std.specs.Cmp.Lexicographic.{pointwise, slice_cmp, slice_partial_cmp, lists_equiv, lists_agrees, lists_total, lists_ties, lists_per, lists_po};
+
+use crate::items::Items;
+use crate::memory::Memory;
+use std::alloc::{AllocError, Global};
+use std::cmp::Ordering;
+use std::hash::{Hash, Hasher};
+use std::marker::Model;
+use std::sync::Arc;
+
+/// A list that many hold at once. A copy of it copies no item. Contracts see it as the list of its items.
+#[derive(Debug, Drop)]
+pub struct Shared<T> {
+    items: Option<Arc<Vec<T>>>,
+}
+
+impl<T> Model for Shared<T> {
+    ghost use Rattle.std.specs.Prelude.{List};
+    ghost use Rattle.std.specs.Coded.{coded_list};
+    ghost use Rattle.mq_values.specs.Shared.{items_behind};
+
+    ghost Value = { List T };
+
+    ghost coded = { coded_list T.code };
+
+    ghost view = { λ s. items_behind s.items };
+}
+
+impl<T> Shared<T> {
+    /// The empty list. It takes no memory.
+    pub fn empty() -> Shared<T>
+        ensures { result ≡ [] }
+    {
+        Shared { items: None }
+    }
+
+    pub fn as_slice(&self) -> &[T]
+        ensures { result.now ≡ self.now }
+    {
+        match &self.items {
+            None => &[],
+            Some(items) => items.as_slice(),
+        }
+    }
+}
+
+impl<T: Drop> Shared<T> {
+    /// The list of `items`, to be shared from now on.
+    pub fn new(alloc: Global, items: Items<T>) -> Result<Shared<T>, Memory>
+        ensures { IfOk result (λ s. s ≡ items) }
+    {
+        if items.is_empty() {
+            return Ok(Shared::empty());
+        }
+        Ok(Shared {
+            items: Some(Arc::new(alloc, items.into_vec())?),
+        })
+    }
+
+    /// The same list once more. Its items are not copied.
+    pub fn copy(&self) -> Result<Shared<T>, Memory>
+        ensures { IfOk result (λ s. s ≡ self.now) }
+    {
+        match &self.items {
+            None => Ok(Shared::empty()),
+            Some(items) => Ok(Shared {
+                items: Some(Arc::try_clone(items)?),
+            }),
+        }
+    }
+}
+
+impl<T: Drop> Clone for Shared<T> {
+    ghost is_clone = { λ a b. b ≡ a };
+
+    fn clone(&self) -> Result<Shared<T>, AllocError> {
+        match self.copy() {
+            Ok(copy) => Ok(copy),
+            Err(_) => Err(AllocError),
+        }
+    }
+}
+
+impl<T: PartialEq> PartialEq for Shared<T> {
+    ghost eq = { pointwise T.eq };
+
+    ghost laws = { lists_per T.laws };
+
+    fn eq(&self, other: &Shared<T>) -> bool {
+        self.as_slice() == other.as_slice()
+    }
+}
+
+impl<T: Eq> Eq for Shared<T> {
+    ghost laws = { lists_equiv T.Eq.laws };
+}
+
+impl<T: PartialOrd> PartialOrd for Shared<T> {
+    ghost partial_cmp = { slice_partial_cmp T.partial_cmp };
+
+    ghost laws = { lists_po T.PartialOrd.laws };
+
+    fn partial_cmp(&self, other: &Shared<T>) -> Option<Ordering> {
+        self.as_slice().partial_cmp(other.as_slice())
+    }
+}
+
+impl<T: Ord> Ord for Shared<T> {
+    ghost cmp = { slice_cmp T.cmp };
+
+    ghost total = { lists_total T.total };
+
+    ghost matches_partial_cmp = { lists_agrees T.matches_partial_cmp };
+
+    ghost matches_eq = { lists_ties T.cmp T.matches_eq };
+
+    fn cmp(&self, other: &Shared<T>) -> Ordering {
+        self.as_slice().cmp(other.as_slice())
+    }
+}
+
+impl<T: Hash> Hash for Shared<T> {
+    ghost hash_input = { fed.slice T.hash_input };
+
+    ghost respects_eq = { (items_Alike (record { fed = T.respects_eq })).fed };
+
+    fn hash<H: Hasher>(&self, state: &mut H) {
+        self.as_slice().hash(state);
+    }
+}
