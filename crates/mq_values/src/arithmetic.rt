@@ -72,7 +72,7 @@ pub fn div(a: Num, b: Num) -> Result<Num, ValueFault>
 
 impl Num {
     /// The number brought to another scale: a cast, and ROUND. `Overflow` comes exactly where the result is
-    /// out of range (docs/LANGUAGE.md, "Conversions").
+    /// out of range (docs/LANGUAGE.md, "Arithmetic").
     pub fn rescale(self, scale: u8) -> Result<Num, ValueFault>
         requires { scale ≤ 12 }
         ensures { result ≡ rescaled self scale }
@@ -86,7 +86,8 @@ impl Num {
         }
     }
 
-    /// The number with the other sign. `Overflow` comes exactly where that is out of range.
+    /// The number with the other sign. `Overflow` comes exactly where that is out of range
+    /// (docs/LANGUAGE.md, "Arithmetic").
     pub fn neg(self) -> Result<Num, ValueFault>
         ensures { result ≡ negation_of self }
     {
@@ -96,7 +97,8 @@ impl Num {
         }
     }
 
-    /// The number without its sign. `Overflow` comes exactly where that is out of range.
+    /// The number without its sign. `Overflow` comes exactly where that is out of range
+    /// (docs/LANGUAGE.md, "Arithmetic").
     pub fn abs(self) -> Result<Num, ValueFault>
         ensures { result ≡ magnitude_of self }
     {
@@ -106,7 +108,7 @@ impl Num {
         }
     }
 
-    /// The greatest whole number that is not above this one.
+    /// The greatest whole number that is not above this one (docs/LANGUAGE.md, "Arithmetic").
     pub fn floor(self) -> Num
         ensures { result ≡ floor_of self }
     {

@@ -13,6 +13,8 @@ mod laws;
 mod memory;
 mod number;
 mod number_laws;
+#[cfg(test)]
+mod number_tests;
 mod operators;
 mod order;
 mod printing;
@@ -29,7 +31,9 @@ pub use boxed::Boxed;
 pub use convert::{cast, concat, length};
 pub use faults::{FaultKind, QueryFault, Refused, ValueFault};
 pub use items::Items;
-pub use laws::{keys_are_ordered, order_agrees_with_comparison, values_are_ordered};
+pub use laws::{
+    keys_are_ordered, order_agrees_with_comparison, values_are_ordered, values_print_apart,
+};
 pub use memory::{Fail, Memory};
 pub use number::Num;
 pub use number_laws::{

@@ -10,6 +10,7 @@ ghost use Rattle.mq_values.specs.NumberOrder.{equal_together};
 use std::cmp::Ordering;
 use std::marker::Model;
 
+/// The powers of ten.
 static TENS: [i128; 25] = [
     1,
     10,
@@ -38,7 +39,8 @@ static TENS: [i128; 25] = [
     1_000_000_000_000_000_000_000_000,
 ];
 
-/// An exact decimal number: a mantissa and a scale from 0 to 12, worth mantissa / 10^scale.
+/// An exact decimal number: a mantissa and a scale from 0 to 12, worth mantissa / 10^scale
+/// (docs/LANGUAGE.md, "Numbers"). Equality, order and hash tell `1.0` from `1.00`.
 #[derive(Clone, Copy, Debug, PartialEq, Eq, Hash)]
 pub struct Num {
     mant: i128,
@@ -83,7 +85,7 @@ impl Num {
         self.scale
     }
 
-    /// Compares by worth alone, whatever the scales.
+    /// Compares by worth alone, whatever the scales: `1.0` and `1.00` are equal (docs/LANGUAGE.md, "Order").
     pub fn cmp_value(self, other: Num) -> Ordering
         ensures { result ≡ cmp_worth self other }
     {
@@ -140,6 +142,7 @@ fn scaled_cmp(a: Num, b: Num) -> Ordering
     }
 }
 
+/// The total order: by worth, and then by scale (docs/LANGUAGE.md, "Order").
 impl Ord for Num {
     ghost cmp = { cmp_number };
 

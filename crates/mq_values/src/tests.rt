@@ -257,21 +257,31 @@ fn aggregate(alloc: Global, agg: Agg, values: &[Given]) -> Result<Value, Failure
 #[test]
 fn aggregates_take_values_in_order(rt: HostRuntime) -> Result<(), Fail> {
     let prices = [N(25, 1), Given::Null, N(-1, 0), N(50, 2)];
-    let names = [T("b"), T("ab"), T("c")];
-    let cases: [(Agg, &[Given], Given); 9] = [
-        (Agg::Sum, &prices, N(200, 2)),
-        (Agg::Avg, &prices, N(666_667, 6)),
-        (Agg::Min, &prices, N(-1, 0)),
-        (Agg::Max, &prices, N(25, 1)),
-        (Agg::Count, &prices, N(3, 0)),
-        (Agg::Min, &names, T("ab")),
-        (Agg::Max, &names, T("c")),
-        (Agg::Sum, &[Given::Null], Given::Null),
-        (Agg::Count, &[Given::Null], N(0, 0)),
-    ];
-    for (agg, values, want) in cases {
-        let answer = aggregate(rt.alloc(), agg, values);
-        assert!(rt; answers(rt.alloc(), answer, want)?, "{agg:?} {want:?}");
+    for (agg, want) in [
+        (Agg::Sum, N(200, 2)),
+        (Agg::Avg, N(666_667, 6)),
+        (Agg::Min, N(-1, 0)),
+        (Agg::Max, N(25, 1)),
+        (Agg::Count, N(3, 0)),
+    ] {
+        let answer = aggregate(rt.alloc(), agg, &prices);
+        assert!(rt; answers(rt.alloc(), answer, want)?, "{agg:?} of prices");
+    }
+    for (agg, want) in [
+        (Agg::Min, T("ab")),
+        (Agg::Max, T("c")),
+        (Agg::Sum, Given::Null),
+    ] {
+        let answer = aggregate(rt.alloc(), agg, &[T("b"), T("ab"), T("c")]);
+        assert!(rt; answers(rt.alloc(), answer, want)?, "{agg:?} of names");
+    }
+    for (agg, want) in [
+        (Agg::Avg, Given::Null),
+        (Agg::Max, Given::Null),
+        (Agg::Count, N(0, 0)),
+    ] {
+        let answer = aggregate(rt.alloc(), agg, &[Given::Null]);
+        assert!(rt; answers(rt.alloc(), answer, want)?, "{agg:?} of nothing");
     }
     let back_in_range = aggregate(rt.alloc(), Agg::Sum, &[N(i128::MAX, 0), N(1, 0), N(-1, 0)]);
     assert_eq!(rt; back_in_range, Err(Failure::Cause(ValueFault::Overflow)));
