@@ -3,4 +3,9 @@ pub mod Spelling
 pub mod Continuing
 pub mod Chains
 pub mod GrammarNames
+pub mod GrammarLists
 pub mod GrammarExpression
+pub mod GrammarQuery
+pub mod GrammarRule
+pub mod GrammarModel
+pub mod GrammarStatement
