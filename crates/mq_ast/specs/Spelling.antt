@@ -1,5 +1,5 @@
 -- How a token of the lexer becomes a token of the grammar.
-use Rattle.std.specs.Prelude.{ℕ, ◌-◌, ◌&&◌, nat_le, Bool, false, if◌then◌else◌, ◌==◌, pos, List, [], ◌∷◌, length, map, take, drop, codes, Option, Some, None}
+use Rattle.std.specs.Prelude.{ℕ, ◌-◌, ◌&&◌, nat_le, false, if◌then◌else◌, ◌==◌, pos, List, [], ◌∷◌, length, map, take, drop, codes, Option, Some, None}
 use Rattle.std.specs.List.{fold}
 use Rattle.std.specs.Str.{bytes_eq}
 use Rattle.mq_values.specs.declared.operators.Agg.TheVariants as agg

@@ -4,11 +4,16 @@
 #![tactic(auto)]
 
 mod expressions;
+mod laws;
 mod queries;
 mod statements;
 mod terminals;
 
 pub use expressions::{Arm, E, Path, Place, ProdTerm, SumTerm};
+pub use laws::{
+    one_conjunction, one_expression, one_plain, one_primary, one_product, one_query, one_statement,
+    one_sum, one_test,
+};
 pub use queries::{
     ForList, FromItem, LeftPlace, LeftTree, ModelTree, Opt, OrderKey, Plain, Query, RefTree,
     RuleTree, Sel,
