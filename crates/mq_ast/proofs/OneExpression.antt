@@ -412,3 +412,7 @@ mutual
   pub else_same : {o o' : Option E} {from to to' : List Tok} → ElseE o from (Word word.End ∷ to) → ElseE o' from (Word word.End ∷ to') → Same o o' (Word word.End ∷ to) (Word word.End ∷ to')
   else_same else_none else_none = (refl, refl)
   else_same (else_some d) (else_some d') = let p = expr_same d d' (omega arith) (omega arith) in (cc, p.1)
+
+-- an expression up to a closing bracket
+pub closed_same : {a a' : E} {from to to' : List Tok} → Expr a from (closer ∷ to) → Expr a' from (closer ∷ to') → Same a a' to to'
+closed_same d d' = let p = expr_same d d' (omega arith) (omega arith) in (p.0, cut p.1)
