@@ -5,3 +5,4 @@ pub mod OneQuery
 pub mod OneRule
 pub mod OneModel
 pub mod OneStatement
+pub mod WordLemmas

@@ -11,8 +11,8 @@ mod terminals;
 
 pub use expressions::{Arm, E, Path, Place, ProdTerm, SumTerm};
 pub use laws::{
-    one_conjunction, one_expression, one_plain, one_primary, one_product, one_query, one_statement,
-    one_sum, one_test,
+    keywords_are_reserved, one_conjunction, one_expression, one_plain, one_primary, one_product,
+    one_query, one_statement, one_sum, one_test,
 };
 pub use queries::{
     ForList, FromItem, LeftPlace, LeftTree, ModelTree, Opt, OrderKey, Plain, Query, RefTree,
@@ -20,3 +20,6 @@ pub use queries::{
 };
 pub use statements::{ColDef, Stmt};
 pub use terminals::{Keyword, Symbol, Terminal};
+
+#[cfg(test)]
+mod tests;
