@@ -1,5 +1,5 @@
 -- Two queries without MODEL that read the same tokens are equal.
-use Rattle.std.proofs.Common.{◌≡◌, ℕ, List, [], ◌∷◌, refl, ap, arith}
+use Rattle.std.proofs.Common.{◌≡◌, ℕ, List, ◌∷◌, refl, ap, arith}
 use Rattle.std.specs.Prelude.{Option, Some, Bool}
 use Rattle.mq_ast.specs.declared.expressions.Path.{Path}
 use Rattle.mq_ast.specs.declared.expressions.E.{E}
@@ -14,12 +14,12 @@ use Rattle.mq_ast.specs.Tokens.{Tok, terminal_at, star}
 use Rattle.mq_ast.specs.Continuing.{Stops, Not, EndsKeys}
 use Rattle.mq_ast.specs.OneTree.{OneTree}
 use Rattle.mq_ast.specs.GrammarNames.{PathE}
-use Rattle.mq_ast.specs.GrammarLists.{SomeOf, some_of}
+use Rattle.mq_ast.specs.GrammarLists.{SomeOf, some_of, ManyOf}
 use Rattle.mq_ast.specs.GrammarExpression.{Expr}
-use Rattle.mq_ast.specs.GrammarQuery.{AliasE, alias_none, alias_as, alias_name, SelE, sel, Cols, cols, ItemE, item, MoreItems, items_end, items_comma, items_join, items_inner, items_cross, FromE, items, SelectE, select_star, select_list, WhereE, where_none, where_some, GroupE, group_none, group_some, PlainE, plain, KeyE, key_plain, key_asc, key_desc, OrderE, order_none, order_some}
-use Rattle.mq_ast.proofs.Common.{Same, same_flip, begin, cut}
+use Rattle.mq_ast.specs.GrammarQuery.{AliasE, alias_none, alias_as, alias_name, SelE, sel, Cols, cols, ItemE, item, JoinE, join_comma, join_on, join_inner, join_cross, FromE, items, SelectE, select_star, select_list, WhereE, where_none, where_some, GroupE, group_none, group_some, PlainE, plain, KeyE, key_plain, key_asc, key_desc, OrderE, order_none, order_some}
+use Rattle.mq_ast.proofs.Common.{Same, begin, cut}
 use Rattle.mq_ast.proofs.OneExpression.{expr_same, expr_no_star, path_same}
-use Rattle.mq_ast.proofs.OneList.{some_same, stops_not}
+use Rattle.mq_ast.proofs.OneList.{some_same, many_same, many_stop, stops_not}
 
 -- aliases and items of lists
 
@@ -58,48 +58,40 @@ cols_same (cols d) (cols d') = let p = sels_same d d' (omega arith, λ e. cc) (o
 pub item_same : {on on' : Option E} {i i' : FromItem} {from to to' : List Tok} → ItemE on i from to → ItemE on' i' from to' → Stops 8 to → Stops 8 to' → (on ≡ on' → i ≡ i') × (to ≡ to')
 item_same (item d) (item d') s s' = let p = alias_same d d' s s' in ((λ e. cc), p.1)
 
-pub items_stop : {xs : List FromItem} {from to : List Tok} → MoreItems xs from to → Stops 9 to → Stops 8 from
-items_stop items_end s = omega arith
-items_stop _ s = omega arith
-
-pub items_stay : {xs : List FromItem} {from to : List Tok} → MoreItems xs from to → Stops 9 from → Same [] xs from to
-items_stay items_end s = (refl, refl)
-items_stay _ s = absurd (omega arith)
-
-pub more_items_same : {xs xs' : List FromItem} {from to to' : List Tok} → MoreItems xs from to → MoreItems xs' from to' → Stops 9 to → Stops 9 to' → Same xs xs' to to'
-more_items_same items_end t s s' = items_stay t s
-more_items_same t items_end s s' = same_flip (items_stay t s')
-more_items_same (items_comma d ds) (items_comma d' ds') s s' =
-    let p = item_same d d' (items_stop ds s) (items_stop ds' s') in
-    let q = more_items_same ds (begin MoreItems p.1 ds') s s' in
-    let i = p.0 refl in
-    (cc, q.1)
-more_items_same (items_cross d ds) (items_cross d' ds') s s' =
-    let p = item_same d d' (items_stop ds s) (items_stop ds' s') in
-    let q = more_items_same ds (begin MoreItems p.1 ds') s s' in
-    let i = p.0 refl in
-    (cc, q.1)
-more_items_same (items_join d f ds) (items_join d' f' ds') s s' =
+pub join_same : OneTree JoinE (Stops 8)
+join_same _ _ _ _ _ (join_comma d) (join_comma d') s s' =
+    let p = item_same d d' s s' in
+    (p.0 refl, p.1)
+join_same _ _ _ _ _ (join_cross d) (join_cross d') s s' =
+    let p = item_same d d' s s' in
+    (p.0 refl, p.1)
+join_same _ _ _ _ _ (join_on d f) (join_on d' f') s s' =
     let p = item_same d d' (omega arith) (omega arith) in
-    let h = items_stop ds s in
-    let h' = items_stop ds' s' in
-    let r = expr_same f (begin Expr (cut p.1) f') (omega arith) (omega arith) in
-    let q = more_items_same ds (begin MoreItems r.1 ds') s s' in
-    let i = p.0 (ap Some r.0) in
-    (cc, q.1)
-more_items_same (items_inner d f ds) (items_inner d' f' ds') s s' =
+    let q = expr_same f (begin Expr (cut p.1) f') (omega arith) (omega arith) in
+    (p.0 (ap Some q.0), q.1)
+join_same _ _ _ _ _ (join_inner d f) (join_inner d' f') s s' =
     let p = item_same d d' (omega arith) (omega arith) in
-    let h = items_stop ds s in
-    let h' = items_stop ds' s' in
-    let r = expr_same f (begin Expr (cut p.1) f') (omega arith) (omega arith) in
-    let q = more_items_same ds (begin MoreItems r.1 ds') s s' in
-    let i = p.0 (ap Some r.0) in
-    (cc, q.1)
+    let q = expr_same f (begin Expr (cut p.1) f') (omega arith) (omega arith) in
+    (p.0 (ap Some q.0), q.1)
+
+pub join_begins : (i : FromItem) (from to : List Tok) → JoinE i from to → Stops 8 from
+join_begins _ _ _ (join_comma d) = omega arith
+join_begins _ _ _ _ = omega arith
+
+pub join_not_stop : (i : FromItem) (from to : List Tok) → Stops 9 from → JoinE i from to → ⊥
+join_not_stop _ _ _ s (join_comma d) = absurd (omega arith)
+join_not_stop _ _ _ s _ = absurd (omega arith)
+
+pub joins_stop : {xs : List FromItem} {from to : List Tok} → ManyOf JoinE xs from to → Stops 9 to → Stops 8 from
+joins_stop = many_stop FromItem JoinE (Stops 8) (Stops 9) join_same (λ ts s. omega arith) join_begins join_not_stop
+
+pub joins_same : {xs xs' : List FromItem} {from to to' : List Tok} → ManyOf JoinE xs from to → ManyOf JoinE xs' from to' → Stops 9 to → Stops 9 to' → Same xs xs' to to'
+joins_same = many_same FromItem JoinE (Stops 8) (Stops 9) join_same (λ ts s. omega arith) join_begins join_not_stop
 
 pub from_same : {xs xs' : List FromItem} {from to to' : List Tok} → FromE xs from to → FromE xs' from to' → Stops 9 to → Stops 9 to' → Same xs xs' to to'
 from_same (items d ds) (items d' ds') s s' =
-    let p = item_same d d' (items_stop ds s) (items_stop ds' s') in
-    let q = more_items_same ds (begin MoreItems p.1 ds') s s' in
+    let p = item_same d d' (joins_stop ds s) (joins_stop ds' s') in
+    let q = joins_same ds (begin (ManyOf JoinE) p.1 ds') s s' in
     let i = p.0 refl in
     (cc, q.1)
 
