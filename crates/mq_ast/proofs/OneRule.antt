@@ -14,11 +14,11 @@ use Rattle.mq_ast.specs.Tokens.{Tok, Word, terminal_at, opener, closer}
 use Rattle.mq_ast.specs.Continuing.{Stops, Not, Ends, Past}
 use Rattle.mq_ast.specs.OneTree.{OneTree}
 use Rattle.mq_ast.specs.GrammarLists.{SomeOf, some_of}
-use Rattle.mq_ast.specs.GrammarExpression.{Expr, Exprs, exprs, Tuple, tuple}
+use Rattle.mq_ast.specs.GrammarExpression.{Expr, Tuple, tuple}
 use Rattle.mq_ast.specs.GrammarQuery.{OrderE}
-use Rattle.mq_ast.specs.GrammarRule.{ModeE, mode_update, mode_upsert, mode_upsert_all, MaybeMode, mode_none, mode_some, ValuesE, values_list, values_rows, TuplesE, tuples_list, tuples_rows, DownE, down_no, down_yes, LitE, lit_any, lit_expr, lit_in, lit_range, LeftE, left_places, left_tuples, RuleE, rule, RuleList, rules_none, rules_some}
+use Rattle.mq_ast.specs.GrammarRule.{AloneE, alone, ModeE, mode_update, mode_upsert, mode_upsert_all, MaybeMode, mode_none, mode_some, ValuesE, values_list, values_rows, TuplesE, tuples_list, tuples_rows, DownE, down_no, down_yes, LitE, lit_any, lit_expr, lit_in, lit_range, LeftE, left_places, left_tuples, RuleE, rule, RuleList, rules_none, rules_some}
 use Rattle.mq_ast.proofs.Common.{Same, begin, cut}
-use Rattle.mq_ast.proofs.OneExpression.{expr_same, exprs_same, tuple_same, expr_no_any, expr_no_for, expr_no_select}
+use Rattle.mq_ast.proofs.OneExpression.{expr_same, tuple_same, expr_no_any, expr_no_for, expr_no_select}
 use Rattle.mq_ast.proofs.OneList.{some_same, names_same, Whatever}
 use Rattle.mq_ast.proofs.OneQuery.{plain_same, plain_front, order_same}
 
@@ -53,13 +53,22 @@ tuple_one _ _ _ _ _ d d' s s' = tuple_same d d'
 pub tuples_same : {xs xs' : List (List E)} {from to to' : List Tok} → SomeOf Tuple xs from to → SomeOf Tuple xs' from to' → NoComma to → NoComma to' → Same xs xs' to to'
 tuples_same = some_same (List E) Tuple Whatever NoComma tuple_one (λ ts s. tt) (λ ts. tt) (λ a ts mid s d. s refl)
 
-pub exprs_no_plain : {xs : List E} {from to : List Tok} → Exprs xs from to → terminal_at from ≡ terminal.Word word.Select → ⊥
-exprs_no_plain (exprs d ds) e = expr_no_select d e
+pub alone_same : OneTree AloneE (Stops 7)
+alone_same _ _ _ _ _ (alone d) (alone d') s s' = let p = expr_same d d' s s' in (cc, p.1)
+
+abbrev pub EndsExprs : List Tok → Type 0
+EndsExprs ts = Ends (terminal.Sign sign.Comma) ts
+
+pub alones_same : {xs xs' : List (List E)} {from to to' : List Tok} → SomeOf AloneE xs from to → SomeOf AloneE xs' from to' → EndsExprs to → EndsExprs to' → Same xs xs' to to'
+alones_same = some_same (List E) AloneE (Stops 7) EndsExprs alone_same (λ ts s. s.0) (λ ts. omega arith) (λ a ts mid s d. s.1 refl)
+
+pub alones_no_plain : {xs : List (List E)} {from to : List Tok} → SomeOf AloneE xs from to → terminal_at from ≡ terminal.Word word.Select → ⊥
+alones_no_plain (some_of (alone d) ds) e = expr_no_select d e
 
 pub values_same : {l l' : ForList} {from to to' : List Tok} → ValuesE l from (closer ∷ to) → ValuesE l' from (closer ∷ to') → Same l l' to to'
-values_same (values_list d) (values_list d') = let p = exprs_same d d' (omega arith, λ e. cc) (omega arith, λ e. cc) in (cc, cut p.1)
-values_same (values_list d) (values_rows q') = absurd (exprs_no_plain d (plain_front q'))
-values_same (values_rows q) (values_list d') = absurd (exprs_no_plain d' (plain_front q))
+values_same (values_list d) (values_list d') = let p = alones_same d d' (omega arith, λ e. cc) (omega arith, λ e. cc) in (cc, cut p.1)
+values_same (values_list d) (values_rows q') = absurd (alones_no_plain d (plain_front q'))
+values_same (values_rows q) (values_list d') = absurd (alones_no_plain d' (plain_front q))
 values_same (values_rows q) (values_rows q') = let p = plain_same q q' (omega arith) (omega arith) in (cc, cut p.1)
 
 pub tuples_no_plain : {xs : List (List E)} {from to : List Tok} → SomeOf Tuple xs from to → terminal_at from ≡ terminal.Word word.Select → ⊥
@@ -97,9 +106,6 @@ lit_same _ _ _ _ _ (lit_range d f g h) (lit_range d' f' g' h') s s' =
     let r = down_same g (begin DownE q.1 g') in
     let u = expr_same h (begin Expr r.1 h') s s' in
     (cc, u.1)
-
-abbrev pub EndsExprs : List Tok → Type 0
-EndsExprs ts = Ends (terminal.Sign sign.Comma) ts
 
 pub lits_same : {ps ps' : List LeftPlace} {from to to' : List Tok} → SomeOf LitE ps from to → SomeOf LitE ps' from to' → EndsExprs to → EndsExprs to' → Same ps ps' to to'
 lits_same = some_same LeftPlace LitE (Stops 7) EndsExprs lit_same (λ ts s. s.0) (λ ts. omega arith) (λ a ts mid s d. s.1 refl)

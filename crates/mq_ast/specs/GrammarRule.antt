@@ -1,5 +1,5 @@
 -- The grammar of the rules of a MODEL clause.
-use Rattle.std.specs.Prelude.{ℕ, Bool, true, false, List, [], ◌∷◌, map, Option, None, Some}
+use Rattle.std.specs.Prelude.{ℕ, Bool, true, false, List, [], ◌∷◌, Option, None, Some}
 use Rattle.mq_values.specs.declared.operators.Mode.{Mode}
 use Rattle.mq_values.specs.declared.operators.Mode.TheVariants as mode
 use Rattle.mq_ast.specs.declared.expressions.E.{E}
@@ -15,15 +15,11 @@ use Rattle.mq_ast.specs.declared.queries.RuleTree.{RuleTree}
 use Rattle.mq_ast.specs.declared.terminals.Keyword.TheVariants as word
 use Rattle.mq_ast.specs.Tokens.{Tok, Word, Name, opener, closer, open_square, close_square, equal}
 use Rattle.mq_ast.specs.GrammarLists.{SomeOf, NameE}
-use Rattle.mq_ast.specs.GrammarExpression.{Expr, Exprs, Tuple}
+use Rattle.mq_ast.specs.GrammarExpression.{Expr, Tuple}
 use Rattle.mq_ast.specs.GrammarQuery.{PlainE, OrderE}
 
 abbrev pub rule_of : Option Mode → List ℕ → LeftTree → List OrderKey → E → RuleTree
 rule_of m n l ks a = record { mode = m; measure = n; left = l; order = ks; right = a }
-
--- a value by itself is a list of one
-abbrev pub alone : E → List E
-alone a = a ∷ []
 
 -- mode := UPDATE | UPSERT [ALL]
 pub data ModeE : Mode → List Tok → List Tok → Type 0 where
@@ -36,9 +32,13 @@ pub data MaybeMode : Option Mode → List Tok → List Tok → Type 0 where
   mode_none : {to : List Tok} → MaybeMode None to to
   mode_some : {m : Mode} {from to : List Tok} → ModeE m from to → MaybeMode (Some m) from to
 
+-- e, as a list of one
+pub data AloneE : List E → List Tok → List Tok → Type 0 where
+  alone : {a : E} {from to : List Tok} → Expr a from to → AloneE (a ∷ []) from to
+
 -- e {',' e} | plain
 pub data ValuesE : ForList → List Tok → List Tok → Type 0 where
-  values_list : {xs : List E} {from to : List Tok} → Exprs xs from to → ValuesE (Values (map alone xs)) from to
+  values_list : {xss : List (List E)} {from to : List Tok} → SomeOf AloneE xss from to → ValuesE (Values xss) from to
   values_rows : {p : Plain} {from to : List Tok} → PlainE p from to → ValuesE (Rows p) from to
 
 -- tuple {',' tuple} | plain
