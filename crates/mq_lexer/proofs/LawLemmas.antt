@@ -13,10 +13,10 @@ use Rattle.mq_lexer.specs.Lexemes.{Lexeme}
 use Rattle.mq_lexer.specs.Fronts.{Text}
 use Rattle.mq_lexer.specs.Pieces.{front, line_comment, comment_end, comment_of, block_comment, is_blank, is_word_byte}
 use Rattle.mq_lexer.specs.Tokens.{line_after, Piece, piece, pieces_from, pieces, token_at, token_of, tokens, is_readable}
-use Rattle.mq_lexer.specs.Spelling.{signs, Spells, begins_gap}
+use Rattle.mq_lexer.specs.Spelling.{signs, Spells, begins_gap, IsTokenOf}
 use Rattle.mq_lexer.specs.Statements.{is_semicolon, put_first, parts, statement_of, statements}
 use Rattle.mq_lexer.proofs.Cuts.{front-cut}
-use Rattle.mq_lexer.proofs.Spellings.{front-reads, Reads, listed}
+use Rattle.mq_lexer.proofs.Spellings.{front-reads, listed}
 
 abbrev text_of : Piece → Text
 text_of p = p.text
@@ -163,7 +163,7 @@ unfolding Dull Clear
 dull-clear None t dull = tt
 dull-clear (Some s) t dull = λ readable. absurd (cc)
 
-reads-clear : (z : Text) → Reads z (front z) → Clear (front z).sort (take (front z).len z)
+reads-clear : (z : Text) → IsTokenOf z (front z) → Clear (front z).sort (take (front z).len z)
 unfolding Clear
 reads-clear z (s, is, inl l) =
     subst (λ f. Clear f.sort (take (front z).len z)) (sym is)

@@ -1,3 +1,4 @@
+pub mod CommentLemmas
 pub mod Cuts
 pub mod LawLemmas
 pub mod Numbers

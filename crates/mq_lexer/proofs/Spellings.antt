@@ -11,18 +11,18 @@ use Rattle.std.specs.Str.{bytes_eq}
 use Rattle.mq_lexer.specs.declared.sorts.Sort.{Sort}
 use Rattle.mq_lexer.specs.declared.sorts.Sort.TheVariants as sort
 use Rattle.mq_lexer.specs.declared.sorts.Front.{Front}
-use Rattle.mq_lexer.specs.Fronts.{Text, a_token}
+use Rattle.mq_lexer.specs.Fronts.{Text}
 use Rattle.mq_lexer.specs.Numbers.{digits_len, fraction_len, is_small, number}
 use Rattle.mq_lexer.specs.Pieces.{is_word_byte, word_len, word, sign_len, sign_of, sign_or_bad, front, is_blank}
 use Rattle.mq_lexer.specs.Quotes.{closing, content, is_content, is_plain, text_of, quoted}
-use Rattle.mq_lexer.specs.Spelling.{SpellsWord, SpellsFraction, doubled, SpellsText, signs, Spells, NoneLonger, IsLongest, IsUnreadable, begins_gap}
+use Rattle.mq_lexer.specs.Spelling.{SpellsWord, SpellsFraction, doubled, SpellsText, signs, Spells, NoneLonger, IsTokenOf, begins_gap}
 use Rattle.mq_lexer.proofs.Quotes.{closing_bounds}
 use Rattle.mq_lexer.proofs.Cuts.{word-cut, number-cut, sign-within}
 
 -- ---- fronts of lists
 
 -- the longest front that passes passes
-prefix-passes : (p : ℕ → Bool) (z : Text) → list_all p (take (prefix_len p z) z) ≡ true
+pub prefix-passes : (p : ℕ → Bool) (z : Text) → list_all p (take (prefix_len p z) z) ≡ true
 prefix-passes p [] = refl
 prefix-passes p (b ∷ z) =
     elim (p b) as (λ q. (p b ≡ q) → list_all p (take (cond q (1 + prefix_len p z) 0) (b ∷ z)) ≡ true) [
@@ -399,14 +399,11 @@ sign-none_longer z letter number quote sort.Bad m fits more within s = absurd s
 
 -- ---- the front of a text
 
-abbrev pub Reads : Text → Front → Type 0
-Reads z f = (s : Sort) × (f ≡ a_token s f.len) × (IsLongest z s f.len ⊎ IsUnreadable z s f.len)
-
-reads-if : (z : Text) (q : Bool) (x y : Front) → (q ≡ true → Reads z x) → (q ≡ false → Reads z y) → Reads z (cond q x y)
+reads-if : (z : Text) (q : Bool) (x y : Front) → (q ≡ true → IsTokenOf z x) → (q ≡ false → IsTokenOf z y) → IsTokenOf z (cond q x y)
 reads-if z true x y h k = h refl
 reads-if z false x y h k = k refl
 
-word-reads : (z : Text) → is_ascii_alphabetic (get_or z 0 0) ≡ true → 0 < length z → Reads z (word z)
+word-reads : (z : Text) → is_ascii_alphabetic (get_or z 0 0) ≡ true → 0 < length z → IsTokenOf z (word z)
 unfolding word
 word-reads z letter some =
     let n = word_len z in
@@ -467,18 +464,18 @@ number-spells z some within =
     second_is : (b d : ℕ) → (eqb b 46 && not (eqb d 0)) ≡ true → 1 ≤ d
     second_is b d e = grind (arith, nat_tests)
 
-number-reads : (z : Text) → begins_number (get_or z 0 0) (get_or z 1 0) ≡ true → 0 < length z → Reads z (number z)
+number-reads : (z : Text) → begins_number (get_or z 0 0) (get_or z 1 0) ≡ true → 0 < length z → IsTokenOf z (number z)
 unfolding number
 number-reads z begins some =
     let cut = number-cut z some begins in
     let fits = nat_le (fraction_len z (digits_len z 0)) 13 && is_small (take (number z).len z) in
     (cond fits sort.Number sort.Bad, refl, inl (record { spelled = sort.Number; fits = fits; spells = number-spells z cut.some cut.within; sort = refl; within = cut.within; longest = number-longest z begins cut.some }))
 
-quoted-reads : (z : Text) → get_or z 0 0 ≡ 39 → 0 < length z → Reads z (quoted z)
+quoted-reads : (z : Text) → get_or z 0 0 ≡ 39 → 0 < length z → IsTokenOf z (quoted z)
 unfolding quoted
 quoted-reads [] quote some = absurd (omega arith)
 quoted-reads (b ∷ z) quote some =
-    elim (closing false z) as (λ o. (closing false z ≡ o) → Reads (b ∷ z) (text_of (b ∷ z) o)) [
+    elim (closing false z) as (λ o. (closing false z ≡ o) → IsTokenOf (b ∷ z) (text_of (b ∷ z) o)) [
       | None ↦ λ e. (sort.Bad, refl, inr (record { sort = refl; none = quoted-none b z quote e; quote = λ _. refl; other = λ k. absurd (k quote) }))
       | Some n ↦ λ e.
           let bounds = closing_bounds z n e in
@@ -500,10 +497,10 @@ quoted-reads (b ∷ z) quote some =
           )
     ] refl
 
-sign-reads : (z : Text) → is_ascii_alphabetic (get_or z 0 0) ≡ false → begins_number (get_or z 0 0) (get_or z 1 0) ≡ false → eqb (get_or z 0 0) 39 ≡ false → 0 < length z → Reads z (sign_or_bad z)
+sign-reads : (z : Text) → is_ascii_alphabetic (get_or z 0 0) ≡ false → begins_number (get_or z 0 0) (get_or z 1 0) ≡ false → eqb (get_or z 0 0) 39 ≡ false → 0 < length z → IsTokenOf z (sign_or_bad z)
 unfolding sign_or_bad
 sign-reads z letter number quote some =
-    elim (sign_len (get_or z 0 0) (get_or z 1 0)) as (λ n. (sign_len (get_or z 0 0) (get_or z 1 0) ≡ n) → Reads z (sign_of n z)) [
+    elim (sign_len (get_or z 0 0) (get_or z 1 0)) as (λ n. (sign_len (get_or z 0 0) (get_or z 1 0) ≡ n) → IsTokenOf z (sign_of n z)) [
       | zero ↦ λ e. (
         sort.Bad,
         refl,
@@ -529,7 +526,7 @@ sign-reads z letter number quote some =
           )
     ] refl
 
-pub front-reads : (z : Text) → 0 < length z → begins_gap z ≡ false → Reads z (front z)
+pub front-reads : (z : Text) → 0 < length z → begins_gap z ≡ false → IsTokenOf z (front z)
 unfolding front
 front-reads z some gap =
     let b = get_or z 0 0 in

@@ -1,3 +1,4 @@
+pub mod Comments
 pub mod Fronts
 pub mod Lexemes
 pub mod Numbers

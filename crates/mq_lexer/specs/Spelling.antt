@@ -5,7 +5,8 @@ use Rattle.std.specs.List.{list_all, list_any}
 use Rattle.std.specs.Str.{bytes_eq}
 use Rattle.mq_lexer.specs.declared.sorts.Sort.{Sort}
 use Rattle.mq_lexer.specs.declared.sorts.Sort.TheVariants as sort
-use Rattle.mq_lexer.specs.Fronts.{Text}
+use Rattle.mq_lexer.specs.declared.sorts.Front.{Front}
+use Rattle.mq_lexer.specs.Fronts.{Text, a_token}
 use Rattle.mq_lexer.specs.Numbers.{is_small}
 use Rattle.mq_lexer.specs.Pieces.{is_blank, is_word_byte, char_len}
 use Rattle.mq_lexer.specs.Quotes.{is_plain}
@@ -74,6 +75,10 @@ pub record IsUnreadable (z : Text) (s : Sort) (n : ℕ) : Type 0 where
   pub none : NoneLonger z 0
   pub quote : slice_index z 0 ≡ 39 → n ≡ length z
   pub other : slice_index z 0 ≢ 39 → n ≡ char_len z
+
+-- what stands at the front is the longest token there, or cannot be read
+abbrev pub IsTokenOf : Text → Front → Type 0
+IsTokenOf z f = (s : Sort) × (f ≡ a_token s f.len) × (IsLongest z s f.len ⊎ IsUnreadable z s f.len)
 
 -- a blank or a comment
 abbrev pub begins_gap : Text → Bool

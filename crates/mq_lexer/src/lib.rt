@@ -11,8 +11,8 @@ mod sorts;
 mod words;
 
 pub use laws::{
-    lines_are_counted_by_lf, pieces_give_the_text_back, readable_tokens_hold_no_blank,
-    statements_hold_the_tokens, tokens_are_the_longest,
+    gaps_are_blanks_and_comments, lines_are_counted_by_lf, pieces_give_the_text_back,
+    readable_tokens_hold_no_blank, statements_hold_the_tokens, tokens_are_the_longest,
 };
 pub use scanner::tokens;
 pub use script::{Statement, next_statement, statements};
