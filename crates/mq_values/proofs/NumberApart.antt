@@ -1,11 +1,10 @@
 -- Numbers of one scale print apart.
-use Rattle.std.proofs.Common.{◌≡◌, ◌≢◌, ℕ, zero, suc, ◌+◌, ◌*◌, ◌/◌, ◌%◌, ◌^◌, ◌<◌, ◌≤◌, ℤ, pos, negsuc, List, [], ◌∷◌, ◌++◌, length, true, refl, sym, ap, ◌∙◌, arith, append_assoc, append-nil, length-append, unsigned_abs, IsTrue}
-use Rattle.std.proofs.lemmas.Int.{ints}
+use Rattle.std.proofs.Common.{◌≡◌, ℕ, zero, suc, ◌+◌, ◌*◌, ◌/◌, ◌%◌, ◌^◌, ◌<◌, ℤ, pos, negsuc, List, [], ◌∷◌, ◌++◌, length, refl, sym, ap, ◌∙◌, arith, append_assoc, append-nil, length-append, unsigned_abs}
 use Rattle.std.proofs.lemmas.Fmt.{decimal_is_IsNumeral_wide, decimal_by_steps_wide}
 use Rattle.std.proofs.Math.Nat.{div-add-mod', div-le_self, mod-lt, pow-suc}
 use Rattle.std.specs.Fmt.{decimal}
 use Rattle.std.specs.Str.Parse.{digits_value}
-use Rattle.mq_values.specs.Number.{Number, is_mantissa, fixed_digits, fraction_text, sign_text, text_of_number}
+use Rattle.mq_values.specs.Number.{fixed_digits, fraction_text, sign_text, text_of_number}
 use Rattle.mq_values.specs.NumberOrder.{ten_pos}
 use Rattle.mq_values.specs.NumberLaws.{PrintsApart}
 use Rattle.mq_values.proofs.NumberTexts.{length-fixed, mantissa_small}

@@ -1,5 +1,5 @@
 -- Rounding, casts, differences and floors in other words.
-use Rattle.std.proofs.Common.{◌≡◌, ◌≢◌, ◌⊎◌, inl, inr, ⊎_elim, ℕ, zero, suc, ◌+◌, ◌-◌, ◌*◌, ◌/◌, ◌%◌, ◌^◌, ◌<◌, ◌≤◌, max, ℤ, pos, negsuc, neg_ℤ, ◌+ℤ◌, ◌-ℤ◌, ◌*ℤ◌, ◌<ℤ◌, ◌≤ℤ◌, Bool, true, false, ◌&&◌, refl, sym, ap, subst, ◌∙◌, arith, unsigned_abs, Ok, Err, Result, Ordering, Less, Equal, Greater, if◌then◌else◌}
+use Rattle.std.proofs.Common.{◌≡◌, ◌≢◌, ⊎_elim, ℕ, zero, suc, ◌+◌, ◌-◌, ◌*◌, ◌^◌, ◌<◌, ◌≤◌, max, ℤ, pos, negsuc, neg_ℤ, ◌+ℤ◌, ◌-ℤ◌, ◌*ℤ◌, ◌<ℤ◌, ◌≤ℤ◌, Bool, true, false, ◌&&◌, refl, sym, ap, ◌∙◌, arith, unsigned_abs, Ok, Err, Ordering, Less, Equal, Greater, if◌then◌else◌}
 use Rattle.std.proofs.lemmas.Int.{ints}
 use Rattle.std.proofs.Math.Nat.{div-mul-le_self, lt-div-mul-add, zero-mul, eq-or-lt_of_le}
 use Rattle.std.specs.Prelude.{nat_le}
@@ -8,11 +8,10 @@ use Rattle.std.specs.Int.{int_div_euclid}
 use Rattle.std.specs.Ordering.{nat_cmp, ordering_then}
 use Rattle.std.proofs.Math.IntN.{*ℤ-one, neg_ℤ-neg_ℤ}
 use lib.IntN.{one}
-use Rattle.mq_values.specs.Number.{Number, is_mantissa, mant_at, cmp_worth, cmp_number}
+use Rattle.mq_values.specs.Number.{Number, is_mantissa, mant_at, cmp_worth}
 use Rattle.mq_values.specs.NumberOrder.{ten_pos, neg_times}
-use Rattle.mq_values.specs.Arithmetic.{in_range, half_up, rounded, rescaled, sum_of, difference_of, negation_of, floor_of}
+use Rattle.mq_values.specs.Arithmetic.{in_range, half_up, rounded, rescaled, sum_of, difference_of}
 use Rattle.mq_values.specs.NumberLaws.{RoundsToNearest, CastsBackNearby, SubtractsByNegation, FloorsBelow, OrdersByWorth}
-use Rattle.mq_values.specs.declared.faults.ValueFault.{ValueFault}
 use Rattle.mq_values.specs.declared.faults.ValueFault.TheVariants.{Overflow}
 
 half_up_near : (n d : ℕ) → 0 < d → (2 * n < 2 * (half_up n d * d) + d) × (2 * (half_up n d * d) ≤ 2 * n + d)

@@ -1,5 +1,5 @@
 -- The last steps of the arithmetic, from what the code's calls gave to the definitions.
-use Rattle.std.proofs.Common.{◌≡◌, ◌≢◌, ℕ, zero, suc, ◌+◌, ◌-◌, ◌*◌, ◌/◌, ◌^◌, ◌<◌, ◌≤◌, max, min, ℤ, pos, negsuc, neg_ℤ, ◌+ℤ◌, ◌-ℤ◌, ◌*ℤ◌, Bool, true, false, refl, sym, ap, subst, ◌∙◌, arith, FitsSigned, Some, Ok, Err, to_z, of_z, int_eq}
+use Rattle.std.proofs.Common.{◌≡◌, ◌≢◌, ℕ, suc, ◌+◌, ◌-◌, ◌*◌, ◌^◌, ◌<◌, ◌≤◌, max, min, ℤ, pos, negsuc, neg_ℤ, ◌-ℤ◌, ◌*ℤ◌, Bool, true, false, refl, sym, ap, subst, ◌∙◌, arith, FitsSigned, Some, Ok, Err, to_z, of_z, int_eq}
 use Rattle.std.specs.Int.{w128}
 use Rattle.std.specs.Cmp.{signed_Decides}
 use Rattle.std.proofs.lemmas.Int.{ints, to_z-of_z}

@@ -1,5 +1,5 @@
 -- Digits that are written from the last to the first.
-use Rattle.std.proofs.Common.{◌≡◌, ℕ, suc, ◌+◌, ◌-◌, ◌/◌, ◌%◌, ◌^◌, ◌<◌, ◌≤◌, List, [], ◌∷◌, ◌++◌, length, drop, set, ℤ, pos, negsuc, true, false, refl, sym, ap, ◌∙◌, arith, append_assoc, length-append, int_le, true≢false, unsigned_abs}
+use Rattle.std.proofs.Common.{◌≡◌, ℕ, suc, ◌+◌, ◌-◌, ◌/◌, ◌%◌, ◌^◌, ◌<◌, ◌≤◌, List, [], ◌∷◌, ◌++◌, length, drop, set, ℤ, pos, negsuc, false, refl, sym, ap, ◌∙◌, arith, append_assoc, length-append, int_le, true≢false, unsigned_abs}
 use Rattle.std.proofs.lemmas.Fmt.{length-decimal-le_wide, decimal_step_wide}
 use Rattle.std.proofs.lemmas.List.{drop-set}
 use Rattle.std.specs.Fmt.{decimal}

@@ -1,5 +1,5 @@
 -- Aggregates of a list of values, in its order. Nulls are skipped.
-use Rattle.std.specs.Prelude.{ℕ, pos, Bool, true, false, if◌then◌else◌, List, [], ◌∷◌, length, Option, Some, None, Result, Ok}
+use Rattle.std.specs.Prelude.{pos, Bool, true, false, if◌then◌else◌, List, [], ◌∷◌, length, Option, Some, None, Result, Ok}
 use Rattle.std.specs.List.{filter, filter_map}
 use Rattle.std.specs.Ordering.{is_lt, is_gt}
 use Rattle.mq_values.specs.Answers.{result_map, result_and_then}

@@ -8,6 +8,7 @@ pub mod NumberLaws
 pub mod NumberOrder
 pub mod Order
 pub mod OrderLaws
+pub mod OrderTells
 pub mod Print
 pub mod Shared
 pub mod Tally

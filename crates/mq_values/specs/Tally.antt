@@ -1,7 +1,6 @@
 -- An aggregate on its way: some values are taken, others are still to come.
-use Rattle.std.specs.Prelude.{◌≡◌, ℕ, ◌+◌, pos, List, ◌∷◌, length, Option, Some, None, Result, Ok, Err}
+use Rattle.std.specs.Prelude.{◌≡◌, ◌+◌, pos, List, ◌∷◌, length, Some, None, Result, Ok, Err}
 use Rattle.mq_values.specs.Answers.{result_map, result_and_then}
-use Rattle.mq_values.specs.Number.{Number}
 use Rattle.mq_values.specs.Arithmetic.{in_range, quotient_of}
 use Rattle.mq_values.specs.Aggregate.{present, numbers, sum_from, sum_value, average_value, least, least_from, greatest, greatest_from}
 use Rattle.mq_values.specs.declared.faults.ValueFault.{ValueFault}

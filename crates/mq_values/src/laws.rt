@@ -27,3 +27,8 @@ pub fn order_agrees_with_comparison()
     ensures different { (a b : Value) → IfSome (compared a b) (λ r. r ≢ Equal → cmp_value a b ≡ r) }
     ensures equal { (a b : Value) → cmp_value a b ≡ Equal → IfSome (compared a b) (λ r. r ≡ Equal) }
 {}
+
+/// Two different values of one kind print differently.
+pub fn values_print_apart()
+    ensures { (k : Kind) (a b : Value) → IsTrue (is_of k a) → IsTrue (is_of k b) → printed a ≡ printed b → a ≡ b }
+{}

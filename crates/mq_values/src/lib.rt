@@ -20,6 +20,8 @@ mod order;
 mod printing;
 mod shared;
 mod tally;
+#[cfg(test)]
+mod tests;
 mod text;
 mod value;
 mod words;
@@ -29,7 +31,9 @@ pub use boxed::Boxed;
 pub use convert::{cast, concat, length};
 pub use faults::{FaultKind, QueryFault, Refused, ValueFault};
 pub use items::Items;
-pub use laws::{keys_are_ordered, order_agrees_with_comparison, values_are_ordered};
+pub use laws::{
+    keys_are_ordered, order_agrees_with_comparison, values_are_ordered, values_print_apart,
+};
 pub use memory::{Fail, Memory};
 pub use number::Num;
 pub use number_laws::{

@@ -1,4 +1,4 @@
-use Rattle.std.proofs.Common.{◌≡◌, suc, ◌+◌, ◌-◌, ◌/◌, ◌%◌, ◌≤◌, ◌++◌, length, drop, refl, ap, sym, ◌∙◌, arith, append-nil, set, length-set}
+use Rattle.std.proofs.Common.{◌≡◌, suc, ◌+◌, ◌-◌, ◌%◌, ◌≤◌, ◌++◌, length, drop, refl, ap, sym, ◌∙◌, arith, append-nil, length-set}
 use Rattle.std.proofs.lemmas.List.{drop_all}
 use Rattle.mq_values.specs.Number.{fixed_digits}
 use Rattle.mq_values.proofs.Written.{fixed_step, drop-put}

@@ -1,4 +1,4 @@
-use Rattle.std.proofs.Common.{◌≡◌, ◌≤◌, length, refl, drop, arith, [], List, ℕ}
+use Rattle.std.proofs.Common.{◌≤◌, length, refl, arith}
 use Rattle.std.proofs.lemmas.List.{drop_all}
 use Rattle.mq_values.proofs.digits.write_fraction.Goals as goal
 

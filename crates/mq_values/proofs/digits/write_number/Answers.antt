@@ -1,4 +1,4 @@
-use Rattle.std.proofs.Common.{◌≡◌, ◌-◌, ◌/◌, ◌%◌, ◌^◌, ◌≤◌, ◌++◌, [], ◌∷◌, drop, ap, sym, ◌∙◌, arith, unsigned_abs, of_z, to_z, int_le, pos, false, length, rules}
+use Rattle.std.proofs.Common.{◌≡◌, ◌^◌, ◌≤◌, ap, sym, ◌∙◌, arith, unsigned_abs, of_z, to_z, int_le, pos, false, length, rules}
 use Rattle.std.specs.Int.{w128}
 use Rattle.std.proofs.lemmas.Int.{to_z-of_z}
 use Rattle.mq_values.proofs.Written.{drop-put, negative_text}

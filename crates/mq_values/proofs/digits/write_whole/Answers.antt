@@ -1,5 +1,4 @@
-use Rattle.std.proofs.Common.{◌≡◌, ◌+◌, ◌-◌, ◌/◌, ◌%◌, ◌≤◌, ◌<◌, ◌++◌, length, drop, ap, sym, ◌∙◌, arith, set, length-set, length-append}
-use Rattle.std.specs.Fmt.{decimal}
+use Rattle.std.proofs.Common.{◌+◌, ◌-◌, ◌%◌, drop, sym, ◌∙◌, arith, length-set}
 use Rattle.mq_values.proofs.Written.{decimal_front, drop-put, length_whole, length_step}
 use Rattle.mq_values.proofs.digits.write_whole.Goals as goal
 

@@ -1,4 +1,5 @@
-use Rattle.mq_values.specs.OrderLaws.{value_total, value_itself, same_value}
+use Rattle.mq_values.specs.OrderLaws.{value_total}
+use Rattle.mq_values.specs.OrderTells.{value_itself, same_value}
 use Rattle.mq_values.proofs.laws.values_are_ordered.Goals as goal
 
 pub returns : goal.returns
