@@ -1,0 +1,73 @@
+-- What a query answers over tables.
+use Rattle.std.specs.Prelude.{ℕ, ◌+◌, List, [], ◌∷◌, ◌++◌, Option, Some, None, Result, Ok, Err, map, take, drop, slice_index_or, length, if◌then◌else◌}
+use Rattle.std.specs.Option.{option_map_or}
+use Rattle.std.specs.Map.{lookup}
+use Rattle.std.specs.Ordering.{is_lt}
+use Rattle.mq_values.specs.Order.{cmp_key}
+use Rattle.mq_values.specs.declared.faults.ValueFault.{ValueFault}
+use Rattle.mq_values.specs.declared.faults.FaultKind.{FaultKind}
+use Rattle.mq_values.specs.declared.faults.FaultKind.TheVariants as kind
+use Rattle.mq_values.specs.declared.faults.QueryFault.{QueryFault}
+use Rattle.mq_values.specs.declared.faults.ValueFault.TheVariants as fault
+use Rattle.mq_values.specs.declared.value.Value.{Value}
+use Rattle.mq_values.specs.declared.value.Value.TheVariants.{Null}
+use Rattle.mq_ir.specs.declared.query.BoundQuery.{BoundQuery}
+use Rattle.mq_ir.specs.declared.query.FromPart.{FromPart}
+use Rattle.mq_ir.specs.declared.query.Answer.{Answer}
+use Rattle.mq_ir.specs.declared.query.Answer.TheVariants as answer
+use Rattle.mq_ir.specs.declared.statement.Table.{Table}
+use Rattle.mq_ir.specs.Items.{items_of}
+use Rattle.mq_ir.specs.Partitions.{Tuple, Cells, cut_rows, cells_of, repeated}
+use Rattle.mq_ir.specs.Results.{◌>>=◌, each, marked}
+use Rattle.mq_ir.specs.Sequential.{rules_from}
+use Rattle.mq_ir.specs.Tables.{Tables, rows_of}
+
+abbrev pub kind_of : ValueFault → FaultKind
+kind_of fault.Overflow = kind.Overflow
+kind_of fault.DivideByZero = kind.DivideByZero
+kind_of fault.TextTooLong = kind.TextTooLong
+
+abbrev pub query_fault : FaultKind → ℕ → Tuple → QueryFault
+query_fault k rule cell = record { kind = k; rule = rule; partition = []; cell = cell }
+
+-- a tuple put before the first that is greater
+abbrev pub placed : Tuple → List Tuple → List Tuple
+placed x [] = x ∷ []
+placed x (y ∷ ys) = if is_lt (cmp_key x y) then x ∷ y ∷ ys else y ∷ placed x ys
+
+-- these tuples, ascending
+abbrev pub ascending : List Tuple → List Tuple
+ascending [] = []
+ascending (x ∷ xs) = placed x (ascending xs)
+
+-- the columns of these numbers
+abbrev pub columns_at : List ℕ → Tuple → List Value
+columns_at numbers row = map (λ n. slice_index_or row n Null) numbers
+
+-- the rows as they are printed: ascending by the ORDER BY columns, and then by all printed columns from the left
+abbrev pub printed_rows : BoundQuery → Cells → List Tuple
+printed_rows q cells =
+    map (λ row. drop (length q.order) row)
+    (ascending (map (λ cell. columns_at (q.order ++ q.print) (cell.0 ++ cell.1)) cells))
+
+-- the cells after the rules, over the item rows of the query
+abbrev pub model_cells : BoundQuery → List Tuple → Result Cells QueryFault
+model_cells q rows =
+    option_map_or (λ key. Err (query_fault kind.NotUnique 0 key))
+    (repeated (map (λ row. take (length q.model.dims) row) rows))
+    (marked (λ p. query_fault (kind_of p.2) p.0 p.1)
+    (rules_from (length q.model.measures) 1 q.model.rules (cells_of [] (cut_rows (length q.model.dims) rows))))
+
+-- the base rows: for each row of the table, in order, the list of it alone
+abbrev pub base_rows : Tables → FromPart → List (List Tuple)
+base_rows tables from = map (λ row. row ∷ []) (rows_of tables from.table)
+
+-- the rows of a query, or its first fault
+abbrev pub rows_answered : Tables → BoundQuery → Result (List Tuple) QueryFault
+rows_answered tables q =
+    marked (λ fault. query_fault (kind_of fault) 0 []) (each (items_of q.items) (base_rows tables q.from))
+    >>= model_cells q
+    >>= (λ cells. Ok (printed_rows q cells))
+
+abbrev pub answer_of : Tables → BoundQuery → Answer
+answer_of tables q = elim (rows_answered tables q) [ Ok rows ↦ answer.Rows rows | Err fault ↦ answer.Fault fault ]

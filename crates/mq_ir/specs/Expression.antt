@@ -1,0 +1,45 @@
+-- What an expression means.
+use Rattle.std.specs.Prelude.{◌≡◌, ℕ, List, [], ◌∷◌, Result, Ok, Err, map}
+use Rattle.mq_values.specs.Number.{Number}
+use Rattle.mq_values.specs.Arithmetic.{sum_of, difference_of}
+use Rattle.mq_values.specs.declared.faults.ValueFault.{ValueFault}
+use Rattle.mq_values.specs.declared.operators.SumOp.{SumOp}
+use Rattle.mq_values.specs.declared.operators.SumOp.TheVariants.{Add, Sub, Join}
+use Rattle.mq_values.specs.declared.value.Value.{Value}
+use Rattle.mq_values.specs.declared.value.Value.TheVariants as value
+use Rattle.mq_ir.specs.Results.{◌>>=◌}
+use Rattle.mq_ir.specs.declared.expression.Expr.{Expr, para-Expr}
+use Rattle.mq_ir.specs.declared.expression.Leaf.{Leaf}
+use Rattle.mq_ir.specs.declared.expression.BoundSum.{BoundSum}
+use Rattle.mq_ir.specs.declared.expression.Expr.TheOpen as layer
+
+-- a value, or the first fault on the way to it
+abbrev pub Outcome : Type 0
+Outcome = Result Value ValueFault
+
+-- two numbers; with a null, or with what is no number, an operator of numbers gives null
+abbrev pub on_numbers : (Number → Number → Result Number ValueFault) → Value → Value → Outcome
+on_numbers f (value.Num a) (value.Num b) = f a b >>= (λ n. Ok (value.Num n))
+on_numbers f _ _ = Ok value.Null
+
+abbrev pub combined : SumOp → Value → Value → Outcome
+combined Add = on_numbers sum_of
+combined Sub = on_numbers difference_of
+combined Join = λ a b. Ok value.Null
+
+-- a chain of operators, folded from the left: each right operand is evaluated just before it is combined
+abbrev pub chained : Outcome → List (SumOp × Outcome) → Outcome
+chained so_far [] = so_far
+chained so_far (term ∷ terms) = chained (so_far >>= (λ a. term.1 >>= combined term.0 a)) terms
+
+-- the value of an expression, where `leaves` gives that of each leaf
+pub ev : (Leaf → Outcome) → Expr → Outcome
+ev leaves = para-Expr Outcome (Unit {0}) (SumOp × Outcome) (expr_step leaves) (λ _. tt) sum_step
+  where
+    expr_step : (Leaf → Outcome) → layer.Expr-F (Expr × Outcome) (Leaf × Unit {0}) (BoundSum × (SumOp × Outcome)) → Outcome
+    expr_step leaves (layer.Lit v) = Ok v
+    expr_step leaves (layer.Leaf l) = leaves l.0
+    expr_step leaves (layer.Sum a terms) = chained a.1 (map (λ t. t.1) terms)
+
+    sum_step : layer.BoundSum-F (Expr × Outcome) (Leaf × Unit {0}) (BoundSum × (SumOp × Outcome)) → SumOp × Outcome
+    sum_step t = (t.op, t.e.1)

@@ -1,0 +1,18 @@
+-- The base rows of a query, and what is evaluated for each of them.
+use Rattle.std.specs.Prelude.{ℕ, List, [], ◌∷◌, Result, Ok, Err, slice_index_or}
+use Rattle.mq_values.specs.declared.faults.ValueFault.{ValueFault}
+use Rattle.mq_values.specs.declared.value.Value.{Value}
+use Rattle.mq_values.specs.declared.value.Value.TheVariants.{Null}
+use Rattle.mq_ir.specs.declared.expression.Leaf.{Leaf, out-Leaf}
+use Rattle.mq_ir.specs.declared.query.ItemPart.{ItemPart}
+use Rattle.mq_ir.specs.declared.expression.Expr.TheOpen as layer
+use Rattle.mq_ir.specs.Expression.{Outcome, ev}
+use Rattle.mq_ir.specs.Results.{each}
+
+-- The leaves of an item over a base row, which has a row for each FROM item: a column. A cell has no meaning there.
+abbrev pub row_leaves : List (List Value) → Leaf → Outcome
+row_leaves rows l = elim (out-Leaf l) [ layer.Column item column ↦ Ok (slice_index_or (slice_index_or rows item []) column Null) | layer.Cell measure places ↦ Ok Null ]
+
+-- the items of a base row, from left to right
+abbrev pub items_of : ItemPart → List (List Value) → Result (List Value) ValueFault
+items_of part rows = each (ev (row_leaves rows)) part.items

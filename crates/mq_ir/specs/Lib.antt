@@ -1,0 +1,9 @@
+pub mod Answer
+pub mod Expression
+pub mod Items
+pub mod Lines
+pub mod Partitions
+pub mod Results
+pub mod Sequential
+pub mod Statement
+pub mod Tables
