@@ -1,7 +1,6 @@
 -- What a query answers over tables.
-use Rattle.std.specs.Prelude.{ℕ, ◌+◌, List, [], ◌∷◌, ◌++◌, Option, Some, None, Result, Ok, Err, map, take, drop, slice_index_or, length, if◌then◌else◌}
+use Rattle.std.specs.Prelude.{ℕ, List, [], ◌∷◌, ◌++◌, Result, Ok, Err, map, take, drop, slice_index_or, length, if◌then◌else◌}
 use Rattle.std.specs.Option.{option_map_or}
-use Rattle.std.specs.Map.{lookup}
 use Rattle.std.specs.Ordering.{is_lt}
 use Rattle.mq_values.specs.Order.{cmp_key}
 use Rattle.mq_values.specs.declared.faults.ValueFault.{ValueFault}
@@ -12,10 +11,8 @@ use Rattle.mq_values.specs.declared.faults.ValueFault.TheVariants as fault
 use Rattle.mq_values.specs.declared.value.Value.{Value}
 use Rattle.mq_values.specs.declared.value.Value.TheVariants.{Null}
 use Rattle.mq_ir.specs.declared.query.BoundQuery.{BoundQuery}
-use Rattle.mq_ir.specs.declared.query.FromPart.{FromPart}
 use Rattle.mq_ir.specs.declared.query.Answer.{Answer}
 use Rattle.mq_ir.specs.declared.query.Answer.TheVariants as answer
-use Rattle.mq_ir.specs.declared.statement.Table.{Table}
 use Rattle.mq_ir.specs.Items.{items_of}
 use Rattle.mq_ir.specs.Partitions.{Tuple, Cells, cut_rows, cells_of, repeated}
 use Rattle.mq_ir.specs.Results.{◌>>=◌, each, marked}
@@ -59,15 +56,19 @@ model_cells q rows =
     (rules_from (length q.model.measures) 1 q.model.rules (cells_of [] (cut_rows (length q.model.dims) rows))))
 
 -- the base rows: for each row of the table, in order, the list of it alone
-abbrev pub base_rows : Tables → FromPart → List (List Tuple)
-base_rows tables from = map (λ row. row ∷ []) (rows_of tables from.table)
+abbrev pub base_rows : List Tuple → List (List Tuple)
+base_rows rows = map (λ row. row ∷ []) rows
 
--- the rows of a query, or its first fault
-abbrev pub rows_answered : Tables → BoundQuery → Result (List Tuple) QueryFault
-rows_answered tables q =
-    marked (λ fault. query_fault (kind_of fault) 0 []) (each (items_of q.items) (base_rows tables q.from))
+-- the rows of a query over the rows of its table, or its first fault
+abbrev pub rows_answered : List Tuple → BoundQuery → Result (List Tuple) QueryFault
+rows_answered rows q =
+    marked (λ fault. query_fault (kind_of fault) 0 []) (each (items_of q.items) (base_rows rows))
     >>= model_cells q
     >>= (λ cells. Ok (printed_rows q cells))
 
+abbrev pub answer_over : List Tuple → BoundQuery → Answer
+answer_over rows q = elim (rows_answered rows q) [ Ok printed ↦ answer.Rows printed | Err fault ↦ answer.Fault fault ]
+
+-- what a query answers over tables
 abbrev pub answer_of : Tables → BoundQuery → Answer
-answer_of tables q = elim (rows_answered tables q) [ Ok rows ↦ answer.Rows rows | Err fault ↦ answer.Fault fault ]
+answer_of tables q = answer_over (rows_of tables q.from.table) q

@@ -1,5 +1,5 @@
 -- What an expression means.
-use Rattle.std.specs.Prelude.{◌≡◌, ℕ, List, [], ◌∷◌, Result, Ok, Err, map}
+use Rattle.std.specs.Prelude.{List, [], ◌∷◌, Result, Ok, map}
 use Rattle.mq_values.specs.Number.{Number}
 use Rattle.mq_values.specs.Arithmetic.{sum_of, difference_of}
 use Rattle.mq_values.specs.declared.faults.ValueFault.{ValueFault}

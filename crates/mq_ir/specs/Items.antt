@@ -1,5 +1,5 @@
 -- The base rows of a query, and what is evaluated for each of them.
-use Rattle.std.specs.Prelude.{ℕ, List, [], ◌∷◌, Result, Ok, Err, slice_index_or}
+use Rattle.std.specs.Prelude.{List, [], Result, Ok, slice_index_or}
 use Rattle.mq_values.specs.declared.faults.ValueFault.{ValueFault}
 use Rattle.mq_values.specs.declared.value.Value.{Value}
 use Rattle.mq_values.specs.declared.value.Value.TheVariants.{Null}

@@ -1,5 +1,5 @@
 -- The lines that statements print, as data and as text.
-use Rattle.std.specs.Prelude.{ℕ, List, [], ◌∷◌, ◌++◌, Bool, true, false, codes, map, sum}
+use Rattle.std.specs.Prelude.{ℕ, List, [], ◌∷◌, ◌++◌, Bool, true, false, codes, map}
 use Rattle.std.specs.List.{join_with_byte}
 use Rattle.std.specs.Prelude.{decimal}
 use Rattle.mq_values.specs.Print.{printed}

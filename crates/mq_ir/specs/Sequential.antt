@@ -1,5 +1,5 @@
 -- What the rules of a model do to the cells of a partition, in text order.
-use Rattle.std.specs.Prelude.{ℕ, ◌+◌, List, [], ◌∷◌, Option, Some, None, Result, Ok, Err, slice_index_or, slice_set, replicate, map, if◌then◌else◌, is_some}
+use Rattle.std.specs.Prelude.{ℕ, ◌+◌, List, [], ◌∷◌, Result, Ok, slice_index_or, slice_set, replicate, if◌then◌else◌, is_some}
 use Rattle.std.specs.Option.{option_map_or}
 use Rattle.mq_values.specs.declared.faults.ValueFault.{ValueFault}
 use Rattle.mq_values.specs.declared.value.Value.{Value}

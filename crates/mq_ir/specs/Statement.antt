@@ -1,6 +1,5 @@
 -- What a statement does to the tables, and what it prints.
 use Rattle.std.specs.Prelude.{ℕ, List, [], ◌∷◌, ◌++◌, length, map}
-use Rattle.mq_values.specs.declared.value.Value.{Value}
 use Rattle.mq_ir.specs.Answer.{answer_of}
 use Rattle.mq_ir.specs.Lines.{Line, Done, Counted, RowLine, RowCount, FaultLine}
 use Rattle.mq_ir.specs.Tables.{Tables, with_rows}
