@@ -1,0 +1,4 @@
+pub mod Lexemes
+pub mod Statements
+pub mod Tokens
+pub mod Words
