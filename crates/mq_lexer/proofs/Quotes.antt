@@ -1,5 +1,5 @@
 -- The closing quote of a text.
-use Rattle.std.proofs.Common.{◌≡◌, ℕ, suc, ◌+◌, ◌<◌, ◌≤◌, get_or, drop, drop-cons, add-one, Bool, true, false, not, ◌&&◌, cond, eqb, [], ◌∷◌, length, refl, ap, sym, ◌∙◌, arith}
+use Rattle.std.proofs.Common.{◌≡◌, ℕ, suc, ◌+◌, ◌<◌, ◌≤◌, get_or, drop, drop-cons, add-one, Bool, true, false, not, ◌&&◌, cond, eqb, [], ◌∷◌, length, refl, ap, sym, subst, ◌∙◌, arith}
 use Rattle.std.proofs.lemmas.List.{drop_all}
 use Rattle.std.specs.Prelude.{Option, Some, None, IfSome}
 use Rattle.std.specs.Option.{option_map, option_or}
@@ -65,3 +65,31 @@ in_text z (Some n) h = (h.0 refl, h.1)
 
 pub closing_within : (z : Text) → IfSome (closing false z) (λ n. (1 ≤ n) × (n ≤ length z))
 closing_within z = in_text z (closing false z) (bounds false z)
+
+-- the byte at the end of what closes is a quote; c stands before the text
+abbrev Ends : ℕ → Text → Option ℕ → Type 0
+Ends c z None = Unit {0}
+Ends c z (Some n) = get_or (c ∷ z) n 0 ≡ 39
+
+ends-suc : (c b : ℕ) (z : Text) (o : Option ℕ) → Ends b z o → Ends c (b ∷ z) (option_map suc o)
+ends-suc c b z None h = tt
+ends-suc c b z (Some n) h = h
+
+ends-or : (c : ℕ) (z : Text) (o : Option ℕ) → c ≡ 39 → Ends c z o → Ends c z (option_or o (Some 0))
+ends-or c z None is h = is
+ends-or c z (Some n) is h = h
+
+ends : (behind : Bool) (c : ℕ) (z : Text) → (behind ≡ true → c ≡ 39) → Ends c z (closing behind z)
+ends false c [] is = tt
+ends true c [] is = is refl
+ends false c (b ∷ z) is = ends-suc c b z (closing (eqb b 39) z) (ends (eqb b 39) b z (λ e. grind arith))
+ends true c (b ∷ z) is =
+    elim (eqb b 39) as (λ q. Ends c (b ∷ z) (cond q (option_or (option_map suc (closing false z)) (Some 0)) (Some 0)))
+    [ true ↦ ends-or c (b ∷ z) (option_map suc (closing false z)) (is refl) (ends-suc c b z (closing false z) (ends false b z (λ e. absurd (cc))))
+    | false ↦ is refl ]
+
+pub closing_ends : (c : ℕ) (z : Text) (n : ℕ) → closing false z ≡ Some n → get_or (c ∷ z) n 0 ≡ 39
+closing_ends c z n e = subst (Ends c z) e (ends false c z (λ t. absurd (cc)))
+
+pub closing_bounds : (z : Text) (n : ℕ) → closing false z ≡ Some n → (1 ≤ n) × (n ≤ length z)
+closing_bounds z n e = subst (λ o. within z o) e (closing_within z)

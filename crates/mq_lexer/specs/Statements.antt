@@ -1,7 +1,8 @@
 -- The statements of a token list: the lists between `;` signs, empty ones left out.
-use Rattle.std.specs.Prelude.{◌≡◌, ℕ, ◌<◌, ◌≤◌, Bool, if◌then◌else◌, List, [], ◌∷◌, length, map, drop, codes, Option, Some, None}
+use Rattle.std.specs.Prelude.{◌≡◌, ℕ, ◌<◌, ◌≤◌, Bool, not, if◌then◌else◌, List, [], ◌∷◌, length, map, drop, codes, Option, Some, None}
 use Rattle.std.specs.List.{filter_map}
 use Rattle.mq_lexer.specs.declared.script.Statement as code
+use Rattle.mq_lexer.specs.declared.sorts.Token.{Token}
 use Rattle.mq_lexer.specs.Lexemes.{Lexeme, lexeme}
 use Rattle.mq_lexer.specs.Words.{is_sign}
 
@@ -39,3 +40,10 @@ abbrev pub Next : List Lexeme → ℕ → Option (code.Statement × ℕ) → Typ
 Next all at None = statements (drop at all) ≡ []
 Next all at (Some r) =
     (at < r.1) × (r.1 ≤ length all) × (statements (drop at all) ≡ statement r.0 ∷ statements (drop r.1 all))
+
+-- a token of the list that ends a statement, and one that does not
+abbrev pub is_break : Token → Bool
+is_break t = is_semicolon (lexeme t)
+
+abbrev pub is_no_break : Token → Bool
+is_no_break t = not (is_break t)

@@ -174,8 +174,12 @@ pieces_from zero line (b ∷ z) =
 unfoldable pub pieces : Text → List Piece
 pieces z = pieces_from 0 1 z
 
+-- a piece that has a sort is a token
+abbrev pub token_at : Option Sort → Text → ℕ → Option Lexeme
+token_at s text line = option_map (λ s. record { sort = s; text = text; line = line }) s
+
 abbrev pub token_of : Piece → Option Lexeme
-token_of p = option_map (λ s. record { sort = s; text = p.text; line = p.line }) p.sort
+token_of p = token_at p.sort p.text p.line
 
 unfoldable pub tokens : Text → List Lexeme
 tokens z = filter_map token_of (pieces z)

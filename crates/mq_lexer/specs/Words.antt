@@ -19,9 +19,12 @@ abbrev pub has_sign_sort : Sort → Bool
 has_sign_sort sort.Sign = true
 has_sign_sort _ = false
 
+abbrev pub same_word : Text → Text → Bool
+same_word a b = bytes_eq (folded a) (folded b)
+
 -- the token is this word
 abbrev pub is_word : Lexeme → Text → Bool
-is_word t word = has_word_sort t.sort && bytes_eq (folded t.text) (folded word)
+is_word t word = has_word_sort t.sort && same_word t.text word
 
 -- the token is this sign
 abbrev pub is_sign : Lexeme → Text → Bool
@@ -52,7 +55,7 @@ abbrev pub reserved_of : ℕ → List Text
 reserved_of n = filter (λ r. length r == n) reserved
 
 abbrev pub is_reserved : Text → Bool
-is_reserved word = list_any (λ r. bytes_eq r (folded word)) reserved
+is_reserved word = list_any (same_word word) reserved
 
 -- the token is a name: a word that is not reserved
 abbrev pub is_name : Lexeme → Bool

@@ -1,6 +1,7 @@
 //! The statements of a token list.
 
-ghost use Rattle.std.specs.Prelude.{◌≡◌, ◌<◌, ◌≤◌, [], ◌∷◌, length, map, drop, IfOk, MatchOption};
+ghost use Rattle.std.specs.Prelude.{◌≡◌, ◌<◌, ◌≤◌, ◌+◌, [], ◌∷◌, length, map, drop, IfOk, MatchOption};
+ghost use Rattle.std.specs.List.{prefix_len};
 ghost use Rattle.mq_lexer.specs.Lexemes.{lexeme};
 ghost use Rattle.mq_lexer.specs.Statements as spec;
 
@@ -22,34 +23,48 @@ fn is_semicolon(token: Token<'_>) -> bool
     is_sign(token, ";")
 }
 
-/// The first statement from a place on, and the place behind it; none where only `;` signs are left.
-/// docs/LANGUAGE.md, "Statements", has the rule.
-pub fn next_statement<'t, 'a>(
-    tokens: &'t [Token<'a>],
-    at: usize,
-) -> Option<(Statement<'t, 'a>, usize)>
+// The first place from this one on where no `;` stands.
+fn past_semicolons(tokens: &[Token<'_>], at: usize) -> usize
     requires { at ≤ length tokens.now }
-    ensures { spec.Next (map lexeme tokens.now) at result }
+    ensures value { result ≡ at + prefix_len spec.is_break (drop at tokens.now) }
+    ensures within { (at ≤ result) × (result ≤ length tokens.now) }
 {
     let mut from = at;
     while from < tokens.len() && is_semicolon(tokens[from]) {
         from += 1;
     }
-    let mut end = from;
+    from
+}
+
+// The first place from this one on where a `;` stands, or the end.
+fn next_semicolon(tokens: &[Token<'_>], at: usize) -> usize
+    requires { at ≤ length tokens.now }
+    ensures value { result ≡ at + prefix_len spec.is_no_break (drop at tokens.now) }
+    ensures within { (at ≤ result) × (result ≤ length tokens.now) }
+{
+    let mut end = at;
     while end < tokens.len() && !is_semicolon(tokens[end]) {
         end += 1;
     }
+    end
+}
+
+/// The first statement from a place on, and the place behind it; none where only `;` signs are left.
+/// docs/LANGUAGE.md, "Statements", has the rule.
+pub fn next_statement<'t, 'a>(tokens: &'t [Token<'a>], at: usize) -> Option<(Statement<'t, 'a>, usize)>
+    requires { at ≤ length tokens.now }
+    ensures { spec.Next (map lexeme tokens.now) at result }
+{
+    let from = past_semicolons(tokens, at);
+    let end = next_semicolon(tokens, from);
     if from == end {
         return None;
     }
-    let line = tokens[from].line;
-    Some((
-        Statement {
-            tokens: &tokens[from..end],
-            line,
-        },
-        end,
-    ))
+    let statement = Statement {
+        tokens: &tokens[from..end],
+        line: tokens[from].line,
+    };
+    Some((statement, end))
 }
 
 /// The statements: the lists of tokens between `;` signs, in order, empty ones left out. The tokens behind the

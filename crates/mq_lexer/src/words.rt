@@ -1,6 +1,7 @@
 //! Words by their spelling, the reserved words, names and signs. docs/LANGUAGE.md, "Tokens", lists the reserved words.
 
 ghost use Rattle.std.specs.Prelude.{◌≡◌, map};
+ghost use Rattle.std.specs.List.{list_any};
 ghost use Rattle.mq_lexer.specs.Lexemes.{lexeme};
 ghost use Rattle.mq_lexer.specs.Words as spec;
 
@@ -49,6 +50,7 @@ const TEN: [&str; 2] = ["PRESENTNNV", "SEQUENTIAL"];
 const SIXTEEN: [&str; 1] = ["ITERATION_NUMBER"];
 
 // The reserved words of a length.
+#[tactic(auto, using(crate::proofs::WordLemmas::none_listed), unfolding(crate::specs::Words::reserved))]
 fn reserved_of(len: usize) -> &'static [&'static str]
     ensures { map (λ r. r.now) result.now ≡ spec.reserved_of len }
 {
@@ -67,16 +69,30 @@ fn reserved_of(len: usize) -> &'static [&'static str]
     }
 }
 
+fn same_word(a: &str, b: &str) -> bool
+    ensures { result ≡ spec.same_word a.now b.now }
+{
+    a.eq_ignore_ascii_case(b)
+}
+
+fn is_listed(word: &str, mut list: &[&str]) -> bool
+    ensures { result ≡ list_any (spec.same_word word.now) (map (λ r. r.now) list.entry.now) }
+{
+    while let [first, rest @ ..] = list {
+        if same_word(word, first) {
+            return true;
+        }
+        list = rest;
+    }
+    false
+}
+
 /// Whether a word is reserved, in capital or small letters. A reserved word is never a name.
+#[tactic(auto, using(crate::proofs::WordLemmas::by_length))]
 pub fn is_reserved(word: &str) -> bool
     ensures { result ≡ spec.is_reserved word.now }
 {
-    for reserved in reserved_of(word.len()) {
-        if word.eq_ignore_ascii_case(reserved) {
-            return true;
-        }
-    }
-    false
+    is_listed(word, reserved_of(word.len()))
 }
 
 fn has_word_sort(sort: Sort) -> bool
@@ -95,7 +111,7 @@ fn has_sign_sort(sort: Sort) -> bool
 pub fn is_word(token: Token<'_>, word: &str) -> bool
     ensures { result ≡ spec.is_word (lexeme token.entry) word.now }
 {
-    has_word_sort(token.sort) && token.text.eq_ignore_ascii_case(word)
+    has_word_sort(token.sort) && same_word(token.text, word)
 }
 
 /// Whether the token is this sign.
