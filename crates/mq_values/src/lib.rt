@@ -3,7 +3,9 @@
 //! Each call gives what `specs/` defines: Number, Text, Order, Print, Convert and Aggregate.
 #![tactic(auto)]
 
+mod arithmetic;
 mod boxed;
+mod convert;
 mod digits;
 mod faults;
 mod items;
@@ -17,7 +19,9 @@ mod text;
 mod value;
 mod words;
 
+pub use arithmetic::{add, div, mul, sub};
 pub use boxed::Boxed;
+pub use convert::{cast, concat, length};
 pub use faults::{FaultKind, QueryFault, Refused, ValueFault};
 pub use items::Items;
 pub use memory::{Fail, Memory};
