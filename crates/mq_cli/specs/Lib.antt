@@ -1,3 +1,6 @@
+pub mod Binding
+pub mod Fitting
 pub mod Grammar
 pub mod Marks
 pub mod Reading
+pub mod Script

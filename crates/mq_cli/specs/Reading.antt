@@ -78,3 +78,9 @@ Passes all (Err fail.Memory) meant = Unit {0}
 abbrev pub Front : List Mark → ℕ → Option Token → Type 0
 Front all at None = drop at all ≡ []
 Front all at (Some t) = drop at all ≡ mark_of (lexeme t) ∷ drop (at + 1) all
+
+-- what a call for a whole statement gave, unless memory ran out
+abbrev pub ReadsAll : {X : Type 0} → Result X (Fail NoStatement) → Option X → Type 0
+ReadsAll (Ok x) meant = meant ≡ Some x
+ReadsAll (Err (fail.Cause e)) meant = meant ≡ None
+ReadsAll (Err fail.Memory) meant = Unit {0}

@@ -1,6 +1,7 @@
 //! The tokens of a statement, taken one at a time.
 
 ghost use Rattle.std.specs.Prelude.{◌≡◌, ◌+◌, ◌<◌, ◌≤◌, length, map, drop, IfSome, IfOk};
+ghost use Rattle.std.specs.Bool.{OnTrue};
 ghost use Rattle.std.specs.Str.{str_to_ascii_uppercase};
 ghost use Rattle.mq_lexer.specs.Lexemes.{lexeme};
 ghost use Rattle.mq_cli.specs.Marks.{marks, whole_of, whole_in};
@@ -26,6 +27,7 @@ pub fn front<'a>(tokens: &[Token<'a>], at: usize) -> Option<Token<'a>>
 /// Whether this word stands at a place, in capital or small letters.
 pub fn has_word(tokens: &[Token<'_>], at: usize, word: &str) -> bool
     ensures value { result ≡ has_word word.now (drop at (marks (map lexeme tokens.now))) }
+    ensures within { OnTrue result (at < length tokens.now) }
 {
     match front(tokens, at) {
         Some(token) => is_word(token, word),
@@ -36,6 +38,7 @@ pub fn has_word(tokens: &[Token<'_>], at: usize, word: &str) -> bool
 /// Whether this sign stands at a place.
 pub fn has_sign(tokens: &[Token<'_>], at: usize, sign: &str) -> bool
     ensures value { result ≡ has_sign sign.now (drop at (marks (map lexeme tokens.now))) }
+    ensures within { OnTrue result (at < length tokens.now) }
 {
     match front(tokens, at) {
         Some(token) => is_sign(token, sign),
@@ -74,6 +77,7 @@ pub fn pass_sign(
 }
 
 /// The name at a place, in capital letters.
+#[tactic(auto, using(crate::proofs::MarkLemmas::reserved_folded))]
 pub fn name(
     alloc: Global,
     tokens: &[Token<'_>],
@@ -134,6 +138,7 @@ fn whole_in(token: Token<'_>) -> Option<Whole>
 }
 
 // The number that digits spell.
+#[tactic(auto, using(mq_lexer::proofs::Numbers::too_great))]
 fn whole_of(mut digits: &[u8]) -> Option<Whole>
     ensures { result ≡ whole_of digits.entry.now }
 {
@@ -143,7 +148,10 @@ fn whole_of(mut digits: &[u8]) -> Option<Whole>
             return None;
         }
         let digit = u128::from(*b - b'0');
-        number = number.checked_mul(10)?.checked_add(digit)?;
+        if number > (i128::MAX as u128 - digit) / 10 {
+            return None;
+        }
+        number = number * 10 + digit;
         digits = rest;
     }
     Whole::new(number)
