@@ -1,6 +1,7 @@
 -- What a script prints.
 use Rattle.std.specs.Prelude.{◌≡◌, ℕ, Bool, List, [], ◌∷◌, ◌++◌, Option, Some, None, if◌then◌else◌}
 use Rattle.std.specs.List.{list_any}
+use Rattle.mq_lexer.specs.Lexemes.{Lexeme}
 use Rattle.mq_lexer.specs.Statements.{Statement, statements}
 use Rattle.mq_lexer.specs.Tokens.{tokens}
 use Rattle.mq_ir.specs.Lines.{Line, SyntaxError, text_of, is_flaw}
@@ -17,11 +18,12 @@ abbrev pub bound_step : Tables → ℕ → Option Bound → Tables × List Line
 bound_step tables line None = (tables, SyntaxError line ∷ [])
 bound_step tables line (Some b) = step tables b
 
-abbrev pub meaning_of : Tables → Statement → Option Bound
-meaning_of tables s = read (marks s.tokens) >>= bound_of tables
+-- what the tokens of a statement are bound to, where they are one that fits the tables
+abbrev pub meaning_of : Tables → List Lexeme → Option Bound
+meaning_of tables tokens = read (marks tokens) >>= bound_of tables
 
 unfoldable pub statement_step : Tables → Statement → Tables × List Line
-statement_step tables s = bound_step tables s.line (meaning_of tables s)
+statement_step tables s = bound_step tables s.line (meaning_of tables s.tokens)
 
 -- the lines of statements, one after another, from these tables on
 abbrev pub lines_from : Tables → List Statement → List Line

@@ -8,6 +8,8 @@ use std::alloc::Global;
 pub fn answer(alloc: Global, rows: &[Row], q: &BoundQuery) -> Result<Answer, Memory>
     ensures { IfOk result (λ a. a ≡ answer_over rows.now q.now) }
 {
-    let _ = (alloc, rows, q);
+    let _ = alloc;
+    let _ = rows;
+    let _ = q;
     Err(Memory)
 }

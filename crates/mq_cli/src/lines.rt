@@ -1,6 +1,6 @@
 //! The lines that statements print.
 
-ghost use Rattle.std.specs.Prelude.{◌≡◌, ◌++◌, [], ◌∷◌, ℕ, List, length, map, codes, decimal, OnOk};
+ghost use Rattle.std.specs.Prelude.{◌≡◌, ◌++◌, map, decimal, OnOk};
 ghost use Rattle.mq_ir.specs.Lines.{Done, Counted, RowLine, RowCount, FaultLine, SyntaxError, line_text, text_of, fault_name, joined_by, key_text};
 ghost use Rattle.mq_ir.specs.Statement.{answer_lines};
 
@@ -98,21 +98,10 @@ fn key(values: &[Value], out: &mut Vec<u8>) -> Result<(), Memory>
 fn joined(values: &[Value], separator: u8, out: &mut Vec<u8>) -> Result<(), Memory>
     ensures { OnOk result (out.new.items ≡ out.old.items ++ joined_by separator values.now) }
 {
-    match values {
-        [] => Ok(()),
-        [first, others @ ..] => {
-            print(first, out)?;
-            others_of(others, separator, out)
+    'values: for (at, value) in values.iter().enumerate() {
+        if at > 0 {
+            out.push(separator)?;
         }
-    }
-}
-
-// Each value with this byte before it.
-fn others_of(values: &[Value], separator: u8, out: &mut Vec<u8>) -> Result<(), Memory>
-    ensures { OnOk result (out.new.items ≡ out.old.items ++ behind separator values.now) }
-{
-    'values: for value in values {
-        out.push(separator)?;
         print(value, out)?;
     }
     Ok(())

@@ -3,7 +3,7 @@
 ghost use Rattle.std.specs.Prelude.{◌≡◌, None, IfOk, IfSome, map};
 ghost use Rattle.std.specs.List.{list_any};
 ghost use Rattle.mq_lexer.specs.Lexemes.{lexeme};
-ghost use Rattle.mq_lexer.specs.Statements.{statement};
+ghost use Rattle.mq_lexer.specs.Statements as lexer;
 ghost use Rattle.mq_ir.specs.Lines.{is_flaw, text_of};
 ghost use Rattle.mq_ir.specs.Answer.{answer_of};
 ghost use Rattle.mq_ir.specs.Statement.{step, answer_lines};
@@ -30,7 +30,7 @@ pub fn do_statement(
     statement: &Statement<'_, '_>,
     out: &mut Vec<u8>,
 ) -> Result<bool, Memory>
-    ensures { let meant = spec.statement_step catalog.old (statement statement.now) in IfOk result (λ flaw. spec.Steps meant catalog.new out.old.items out.new.items flaw) }
+    ensures { let meant = spec.statement_step catalog.old (lexer.statement statement.now) in IfOk result (λ flaw. spec.Steps meant catalog.new out.old.items out.new.items flaw) }
 {
     match meaning_of(alloc, catalog, statement.tokens)? {
         Some(bound) => act(alloc, catalog, bound, out),
