@@ -5,6 +5,7 @@ use Rattle.mq_cli.specs.Marks.{Mark}
 use Rattle.mq_cli.specs.Reading.{◌>>=◌, Read, has_sign, list_from, read_list}
 use Rattle.mq_cli.specs.Grammar.{has_sum_sign, read_term, terms_from, read_terms}
 use Rattle.mq_cli.specs.declared.tree.NextTerm.{NextTerm}
+use Rattle.mq_cli.specs.declared.tree.Term.{Term}
 
 module _ {X : Type 0} (read : List Mark → Read X) where
   -- behind an item: what follows a comma, or the end of the list
@@ -49,4 +50,51 @@ module _ {X : Type 0} (read : List Mark → Read X) where
 
   pub list_stops : (all : List Mark) (at to : ℕ) (found : List X) → ListSoFar all at to found → has_sign (codes ",") (drop to all) ≡ false
       → read_list read (drop at all) ≡ Some (found, drop to all)
-  list_stops all at to found so no = sym so.same ∙ ap (λ b. cond b (list_from read so.left found (drop 1 (drop to all))) (Some (found, drop to all))) no
+  list_stops all at to found so none = sym so.same ∙ ap (λ b. cond b (list_from read so.left found (drop 1 (drop to all))) (Some (found, drop to all))) none
+
+abbrev pub next_term : Bool → Term → NextTerm
+next_term minus t = record { minus = minus; term = t }
+
+-- what is read of the terms behind the first, once these were found up to another place
+pub record TermsSoFar (all : List Mark) (at to : ℕ) (found : List NextTerm) : Type 0 where
+  pub left : ℕ
+  pub enough : length (drop to all) < left
+  pub same : terms_from left found (drop to all) ≡ read_terms (drop at all)
+
+pub terms_begin : (all : List Mark) (at : ℕ) → TermsSoFar all at at []
+unfolding read_terms
+terms_begin all at = record { left = suc (length (drop at all)); enough = omega arith; same = refl }
+
+-- where another sign stands
+next_in_sum : (all : List Mark) (to n : ℕ) (found : List NextTerm) → has_sum_sign (drop to all) ≡ true
+    → terms_from (suc n) found (drop to all) ≡ read_term (drop (to + 1) all) >>= (λ t. terms_from n (found ++ next_term (has_sign (codes "-") (drop to all)) t.0 ∷ []) t.1)
+next_in_sum all to n found sign =
+    let minus = has_sign (codes "-") (drop to all) in
+    ap (λ b. cond b (read_term (drop 1 (drop to all)) >>= (λ t. terms_from n (found ++ next_term minus t.0 ∷ []) t.1)) (Some (found, drop to all))) sign
+    ∙ ap (λ ts. read_term ts >>= (λ t. terms_from n (found ++ next_term minus t.0 ∷ []) t.1)) (drop-drop 1 to all ∙ ap (λ k. drop k all) (omega arith))
+
+pub terms_go_on : (all : List Mark) (at to end : ℕ) (found : List NextTerm) (minus : Bool) (t : Term) → TermsSoFar all at to found → has_sum_sign (drop to all) ≡ true → to < length all
+    → minus ≡ has_sign (codes "-") (drop to all) → read_term (drop (to + 1) all) ≡ Some (t, drop end all) → to < end → TermsSoFar all at end (found ++ next_term minus t ∷ [])
+terms_go_on all at to end found minus t so sign within m e less =
+    let some : (n : ℕ) × (so.left ≡ suc n) = (so.left - 1, omega (arith, so.enough, length-drop to all)) in
+    record {
+      left = some.0;
+      enough = omega (arith, so.enough, some.1, length-drop to all, length-drop end all);
+      same = ap (λ q. terms_from some.0 (found ++ next_term q t ∷ []) (drop end all)) m
+          ∙ sym (ap (λ r. r >>= (λ t. terms_from some.0 (found ++ next_term (has_sign (codes "-") (drop to all)) t.0 ∷ []) t.1)) e)
+          ∙ sym (next_in_sum all to some.0 found sign) ∙ ap (λ n. terms_from n found (drop to all)) (sym some.1) ∙ so.same;
+    }
+
+pub terms_fail : (all : List Mark) (at to : ℕ) (found : List NextTerm) → TermsSoFar all at to found → has_sum_sign (drop to all) ≡ true
+    → read_term (drop (to + 1) all) ≡ None → read_terms (drop at all) ≡ None
+terms_fail all at to found so sign e =
+    let some : (n : ℕ) × (so.left ≡ suc n) = (so.left - 1, omega (arith, so.enough)) in
+    sym so.same ∙ ap (λ n. terms_from n found (drop to all)) some.1 ∙ next_in_sum all to some.0 found sign
+    ∙ ap (λ r. r >>= (λ t. terms_from some.0 (found ++ next_term (has_sign (codes "-") (drop to all)) t.0 ∷ []) t.1)) e
+
+pub terms_stop : (all : List Mark) (at to : ℕ) (found : List NextTerm) → TermsSoFar all at to found → has_sum_sign (drop to all) ≡ false
+    → read_terms (drop at all) ≡ Some (found, drop to all)
+terms_stop all at to found so none =
+    let some : (n : ℕ) × (so.left ≡ suc n) = (so.left - 1, omega (arith, so.enough)) in
+    sym so.same ∙ ap (λ n. terms_from n found (drop to all)) some.1
+    ∙ ap (λ b. cond b (read_term (drop 1 (drop to all)) >>= (λ t. terms_from some.0 (found ++ next_term (has_sign (codes "-") (drop to all)) t.0 ∷ []) t.1)) (Some (found, drop to all))) none

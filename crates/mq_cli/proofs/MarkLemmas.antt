@@ -1,5 +1,5 @@
 -- The marks from a place on.
-use Rattle.std.proofs.Common.{◌≡◌, ℕ, zero, suc, ◌+◌, List, [], ◌∷◌, Option, None, Some, drop, map, slice_get, refl, arith, ap, ◌∙◌, sym}
+use Rattle.std.proofs.Common.{◌≡◌, ℕ, zero, suc, ◌+◌, ◌<◌, ◌≤◌, List, [], ◌∷◌, Option, None, Some, drop, map, length, get_or, refl, arith, ap, ◌∙◌, sym}
 use Rattle.std.specs.Str.{str_to_ascii_uppercase, bytes_eq}
 use Rattle.std.specs.List.{list_any}
 use Rattle.std.specs.Char.{to_ascii_uppercase}
@@ -15,11 +15,18 @@ front_later m all at None p = p
 front_later m all at (Some t) p = let e : suc at + 1 ≡ suc (at + 1) = omega arith in rw e p
 
 -- what stands at a place
-pub front_at : (ts : List Token) (at : ℕ) → Front (marks (map lexeme ts)) at (slice_get ts at)
-front_at [] zero = refl
-front_at [] (suc at) = refl
-front_at (t ∷ ts) zero = refl
-front_at (t ∷ ts) (suc at) = front_later _ _ at (slice_get ts at) (front_at ts at)
+pub front_some : (ts : List Token) (at : ℕ) (t : Token) → at < length ts → t ≡ get_or ts at t → Front (marks (map lexeme ts)) at (Some t)
+front_some [] at t less e = absurd (omega arith)
+front_some (x ∷ ts) zero t less e = ap (λ u. mark_of (lexeme u) ∷ marks (map lexeme ts)) (sym e)
+front_some (x ∷ ts) (suc at) t less e = front_later (mark_of (lexeme x)) (marks (map lexeme ts)) at (Some t) (front_some ts at t (omega arith) e)
+
+pub front_none : (ts : List Token) (at : ℕ) → length ts ≤ at → Front (marks (map lexeme ts)) at None
+front_none [] zero less = refl
+front_none [] (suc at) less = refl
+front_none (x ∷ ts) zero less = absurd (omega arith)
+front_none (x ∷ ts) (suc at) less = front_none ts at (omega arith)
+
+pub ruleset fronts = (front_some, front_none)
 
 -- capital letters stay as they are
 pub folded-folded : (text : List ℕ) → folded (folded text) ≡ folded text

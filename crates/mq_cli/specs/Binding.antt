@@ -1,7 +1,6 @@
 -- What a statement means under the tables as they stand, and where it has no meaning.
-use Rattle.std.specs.Prelude.{◌≡◌, ℕ, ℤ, pos, Bool, true, false, List, [], ◌∷◌, map, Option, Some, None, bytes_eq, if◌then◌else◌}
+use Rattle.std.specs.Prelude.{◌≡◌, ℕ, ℤ, pos, Bool, true, false, List, [], ◌∷◌, map, Option, Some, None, bytes_eq, if◌then◌else◌, position, unwrap_or}
 use Rattle.std.proofs.Math.IntN.{neg_ℤ}
-use Rattle.std.specs.List.{position_or_len}
 use Rattle.mq_values.specs.declared.value.Kind.TheVariants.{Int}
 use Rattle.mq_values.specs.declared.value.Value.{Value}
 use Rattle.mq_values.specs.declared.value.Value.TheVariants as value
@@ -75,7 +74,7 @@ rule_of r = record {
 
 -- the place of the first column of this name
 abbrev pub column_number : List Column → List ℕ → ℕ
-column_number columns name = position_or_len (has_name name) columns
+column_number columns name = unwrap_or (position (has_name name) columns) 0
 
 -- the column of the table, which is FROM item 0
 abbrev pub item_of : List Column → List ℕ → Expr

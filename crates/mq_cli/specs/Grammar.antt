@@ -17,11 +17,14 @@ use Rattle.mq_cli.specs.declared.tree.SelectTree.{SelectTree}
 use Rattle.mq_cli.specs.declared.tree.Tree.{Tree}
 use Rattle.mq_cli.specs.declared.tree.Tree.TheVariants as tree
 
+abbrev pub literal : Bool → ℕ → Literal
+literal minus n = record { minus = minus; whole = n }
+
 -- a minus where there is one, and a whole number
 unfoldable pub read_literal : List Mark → Read Literal
 read_literal ts =
-    let minus = has_sign (codes "-") ts in
-    read_whole (if minus then drop 1 ts else ts) >>= (λ n. Some (record { minus = minus; whole = n.0 }, n.1))
+    if has_sign (codes "-") ts then past_sign (codes "-") ts >>= read_whole >>= (λ n. Some (literal true n.0, n.1))
+    else read_whole ts >>= (λ n. Some (literal false n.0, n.1))
 
 -- name [ literal ]
 unfoldable pub read_cell : List Mark → Read CellTree
@@ -131,7 +134,7 @@ read_model ts = do
 -- ORDER BY name, or nothing where no ORDER stands
 unfoldable pub read_order : List Mark → Read (Option (List ℕ))
 read_order ts =
-    if has_word (codes "ORDER") ts then past_word (codes "BY") (drop 1 ts) >>= read_name >>= (λ n. Some (Some n.0, n.1))
+    if has_word (codes "ORDER") ts then past_word (codes "ORDER") ts >>= past_word (codes "BY") >>= read_name >>= (λ n. Some (Some n.0, n.1))
     else Some (None, ts)
 
 -- SELECT name, .. FROM name model [ORDER BY name]

@@ -4,3 +4,5 @@ pub mod Grammar
 pub mod Marks
 pub mod Reading
 pub mod Script
+pub mod Spelling
+pub mod Trees

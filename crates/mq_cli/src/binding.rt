@@ -137,10 +137,10 @@ fn item_of(columns: &[Column], name: &Words) -> Result<Expr, Memory>
 fn column_number(columns: &[Column], name: &Words) -> usize
     ensures { result ≡ spec.column_number columns.now name.now }
 {
-    match columns.iter().position(|column| *name == column.name) {
-        Some(at) => at,
-        None => columns.len(),
-    }
+    columns
+        .iter()
+        .position(|column| *name == column.name)
+        .unwrap_or(0)
 }
 
 fn model_of(alloc: Global, model: &ModelTree) -> Result<ModelPart, Memory>

@@ -54,11 +54,8 @@ impl Catalog {
     pub fn append(&mut self, name: &Words, rows: Items<Row>) -> Result<(), Memory>
         ensures { OnOk result (self.new ≡ with_rows self.old name.now rows) }
     {
-        match self.tables.get_index_of(name) {
-            Some(at) => {
-                let (_, table) = self.tables.pair_mut(at);
-                append(&mut table.rows, rows)
-            }
+        match self.tables.get_mut(name) {
+            Some(table) => append(&mut table.rows, rows),
             None => Ok(()),
         }
     }

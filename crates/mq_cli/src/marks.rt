@@ -17,11 +17,16 @@ use std::alloc::Global;
 pub struct NoStatement;
 
 /// The token at a place, or `None` behind the last.
+#[tactic(auto, using(crate::proofs::MarkLemmas::fronts))]
 pub fn front<'a>(tokens: &[Token<'a>], at: usize) -> Option<Token<'a>>
     ensures front { Front (marks (map lexeme tokens.now)) at result }
     ensures within { IfSome result (λ t. at < length tokens.now) }
 {
-    tokens.get(at).copied()
+    if at < tokens.len() {
+        Some(tokens[at])
+    } else {
+        None
+    }
 }
 
 /// Whether this word stands at a place, in capital or small letters.

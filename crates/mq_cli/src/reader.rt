@@ -1,6 +1,7 @@
 //! Reads the tokens of a statement into its tree.
 
 ghost use Rattle.std.specs.Prelude.{◌≡◌, ◌<◌, ◌≤◌, length, map, drop, IfOk};
+ghost use Rattle.std.specs.Bool.{OnTrue};
 ghost use Rattle.mq_lexer.specs.Lexemes.{lexeme};
 ghost use Rattle.mq_cli.specs.Marks.{marks};
 ghost use Rattle.mq_cli.specs.Reading.{Reads, ReadsAll};
@@ -94,8 +95,12 @@ fn literal(
     ensures further { IfOk result (λ r. (at < r.1) × (r.1 ≤ length tokens.now)) }
 {
     let minus = has_sign(tokens, at, "-");
-    let from = if minus { at + 1 } else { at };
-    let (whole, to) = whole(tokens, from)?;
+    if minus {
+        let to = pass_sign(tokens, at, "-")?;
+        let (whole, to) = whole(tokens, to)?;
+        return Ok((Literal { minus, whole }, to));
+    }
+    let (whole, to) = whole(tokens, at)?;
     Ok((Literal { minus, whole }, to))
 }
 
@@ -134,6 +139,14 @@ fn term(
     Ok((Term::Cell(cell), to))
 }
 
+// Whether a plus or a minus stands at a place.
+fn has_sum_sign(tokens: &[Token<'_>], at: usize) -> bool
+    ensures value { result ≡ spec.has_sum_sign (drop at (marks (map lexeme tokens.now))) }
+    ensures within { OnTrue result (at < length tokens.now) }
+{
+    has_sign(tokens, at, "+") || has_sign(tokens, at, "-")
+}
+
 // The terms behind the first of a sum, each with its sign.
 #[tactic(auto, unfolding(crate::specs::Grammar::read_terms))]
 fn terms(
@@ -147,7 +160,7 @@ fn terms(
 {
     let mut found = Items::new(alloc);
     let mut to = at;
-    'signs: while has_sign(tokens, to, "+") || has_sign(tokens, to, "-") {
+    'signs: while has_sum_sign(tokens, to) {
         let minus = has_sign(tokens, to, "-");
         let (term, end) = term(alloc, tokens, to + 1)?;
         found.push(NextTerm { minus, term })?;
@@ -318,7 +331,8 @@ fn order(
     if !has_word(tokens, at, "ORDER") {
         return Ok((None, at));
     }
-    let to = pass_word(tokens, at + 1, "BY")?;
+    let to = pass_word(tokens, at, "ORDER")?;
+    let to = pass_word(tokens, to, "BY")?;
     let (name, to) = name(alloc, tokens, to)?;
     Ok((Some(name), to))
 }

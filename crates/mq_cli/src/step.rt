@@ -124,8 +124,12 @@ fn answer_of(alloc: Global, catalog: &Catalog, query: &BoundQuery) -> Result<Ans
     }
 }
 
+#[tactic(auto, using(crate::proofs::LineLemmas::no_flaw_line))]
 fn is_fault(answer: &Answer) -> bool
     ensures { result ≡ list_any is_flaw (answer_lines answer.now) }
 {
-    matches!(answer, Answer::Fault(_))
+    match answer {
+        Answer::Rows(_) => false,
+        Answer::Fault(_) => true,
+    }
 }
