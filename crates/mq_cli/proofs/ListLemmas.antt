@@ -15,9 +15,9 @@ use Rattle.mq_cli.specs.declared.tree.NextTerm.{NextTerm}
 use Rattle.mq_cli.specs.declared.tree.Term.{Term}
 
 -- an error of a part is one of the whole, where without the part there is no whole
-pub exit : {X Y : Type 0} {all : List Mark} {part : Read X} {whole : Read Y} (f : Fail NoStatement) → Reads all (Err f) part → (part ≡ None → whole ≡ None) → Reads all (Err f) whole
-exit (fail.Cause e) r k = k r
-exit fail.Memory r k = tt
+pub exit : {X Y : Type 0} (all : List Mark) {part : Read X} {whole : Read Y} (f : Fail NoStatement) → Reads all (Err f) part → (part ≡ None → whole ≡ None) → Reads all (Err f) whole
+exit all (fail.Cause e) r k = k r
+exit all fail.Memory r k = tt
 
 -- a mark stands at each place of a token
 pub longer : (ts : List Token) (to : ℕ) → to < length ts → to < length (marks (map lexeme ts))
