@@ -1,8 +1,10 @@
 -- Lines and values, one after another.
-use Rattle.std.proofs.Common.{◌≡◌, ℕ, ◌+◌, List, [], ◌∷◌, ◌++◌, Bool, false, map, flat_map, length, refl, sym, ap, ◌∙◌, append_assoc, append-nil}
+use Rattle.std.proofs.Common.{◌≡◌, ℕ, zero, suc, ◌+◌, ◌<◌, List, [], ◌∷◌, ◌++◌, Bool, true, false, take, get_or, nat_lt, arith, map, flat_map, length, refl, sym, ap, ◌∙◌, append_assoc, append-nil}
+use Rattle.std.proofs.lemmas.Bool.Decides.{nat_tests}
 use Rattle.std.specs.List.{join_with_byte, list_any}
 use Rattle.mq_values.specs.Print.{printed}
 use Rattle.mq_values.specs.declared.value.Value.{Value}
+use Rattle.mq_cli.specs.Places.{placed_value}
 use Rattle.mq_ir.specs.Lines.{Line, RowLine, RowCount, text_of, line_text, joined_by, is_flaw}
 
 -- the line of a row
@@ -55,3 +57,21 @@ nine_pieces o o1 o2 o3 o4 o5 o6 o7 o8 o9 a b c d e f g h i p1 p2 p3 p4 p5 p6 p7 
     let q7 = p7 ∙ ap (λ (t : List ℕ). t ++ g) q6 in
     let q8 = p8 ∙ ap (λ (t : List ℕ). t ++ h) q7 in
     p9 ∙ ap (λ (t : List ℕ). t ++ i) q8 ∙ regrouped o a b c d e f g h i
+
+take_item : {X : Type 0} (xs : List X) (i : ℕ) (x : X) → i < length xs → x ≡ get_or xs i x → take (i + 1) xs ≡ take i xs ++ x ∷ []
+take_item [] i x less e = absurd (omega arith)
+take_item (y ∷ ys) zero x less e = ap (λ z. z ∷ []) (sym e)
+take_item (y ∷ ys) (suc i) x less e = let one : suc i + 1 ≡ suc (i + 1) = omega arith in rw one (ap (λ l. y ∷ l) (take_item ys i x (omega arith) e))
+
+-- the values up to a place, and then the one there
+pub joined_more : (c : ℕ) (xs : List Value) (i : ℕ) (x : Value) → i < length xs → x ≡ get_or xs i x
+    → joined_by c (take (i + 1) xs) ≡ joined_by c (take i xs) ++ placed_value (nat_lt 0 i) c x
+joined_more c [] i x less e = absurd (omega arith)
+joined_more c (y ∷ ys) zero x less e = ap printed (sym e)
+joined_more c (y ∷ ys) (suc i) x less e =
+    let one : suc i + 1 ≡ suc (i + 1) = omega arith in
+    let behind : nat_lt 0 (suc i) ≡ true = grind (arith, nat_tests) in
+    let more : joined_by c (y ∷ take (i + 1) ys) ≡ joined_by c (y ∷ take i ys) ++ placed_value (nat_lt 0 (suc i)) c x =
+        ap (λ l. joined_by c (y ∷ l)) (take_item ys i x (omega arith) e) ∙ joined_next c y (take i ys) x
+        ∙ ap (λ q. joined_by c (y ∷ take i ys) ++ placed_value q c x) (sym behind) in
+    rw one more

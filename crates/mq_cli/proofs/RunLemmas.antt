@@ -1,11 +1,12 @@
 -- A run, one statement after another.
-use Rattle.std.proofs.Common.{◌≡◌, ℕ, ◌≤◌, List, [], ◌∷◌, ◌++◌, Bool, true, false, ◌||◌, Option, refl, sym, ap, ◌∙◌, subst, append_assoc, append-nil, arith}
+use Rattle.std.proofs.Common.{◌≡◌, ℕ, zero, suc, ◌+◌, ◌<◌, ◌≤◌, length, get_or, drop, map, List, [], ◌∷◌, ◌++◌, Bool, true, false, ◌||◌, Option, refl, sym, ap, ◌∙◌, subst, append_assoc, append-nil, arith}
 use Rattle.std.specs.List.{list_any}
 use Rattle.std.proofs.lemmas.List.Folds.{list_any-append}
 use Rattle.std.specs.Io.KnownBytes.{Appends}
 use Rattle.mq_io.specs.Progress.{AppendsFront}
 use Rattle.mq_io.proofs.ProgressLemmas.{Appends-nil, Appends-trans, AppendsFront-after, AppendsFront-of_part}
-use Rattle.mq_lexer.specs.Statements.{Statement}
+use Rattle.mq_lexer.specs.declared.script.Statement as code
+use Rattle.mq_lexer.specs.Statements.{Statement, statement}
 use Rattle.mq_ir.specs.Lines.{Line, text_of, is_flaw}
 use Rattle.mq_ir.specs.Tables.{Tables}
 use Rattle.mq_cli.specs.Script.{statement_step, lines_from}
@@ -51,3 +52,22 @@ pub run_ends : (before now : Option (List ℕ)) (f0 f1 : ℕ) (tables : Tables) 
 run_ends before now f0 f1 tables flaw all so =
     let e : so.done ≡ lines_from [] all = sym (append-nil so.done) ∙ so.lines in
     (subst (λ l. Appends before now (text_of l)) e so.written, so.flawed ∙ ap (list_any is_flaw) e)
+
+-- the statement at a place, and those behind it
+drop_statement : (xs : List code.Statement) (i : ℕ) (d : code.Statement) → i < length xs → drop i (map statement xs) ≡ statement (get_or xs i d) ∷ drop (i + 1) (map statement xs)
+drop_statement [] i d less = absurd (omega arith)
+drop_statement (x ∷ xs) zero d less = refl
+drop_statement (x ∷ xs) (suc i) d less = let one : suc i + 1 ≡ suc (i + 1) = omega arith in rw one (drop_statement xs i d (omega arith))
+
+module _ (before now next : Option (List ℕ)) (f0 f1 f2 : ℕ) (tables tables' : Tables) (flaw found : Bool) (xs : List code.Statement) (i : ℕ) (d : code.Statement) (less : i < length xs)
+    (so : RunSoFar before now f0 f1 tables flaw (map statement xs) (drop i (map statement xs))) where
+  here : RunSoFar before now f0 f1 tables flaw (map statement xs) (statement (get_or xs i d) ∷ drop (i + 1) (map statement xs))
+  here = subst (RunSoFar before now f0 f1 tables flaw (map statement xs)) (drop_statement xs i d less) so
+
+  pub run_goes_on_at : tables' ≡ (statement_step tables (statement (get_or xs i d))).0 → Appends now next (text_of (statement_step tables (statement (get_or xs i d))).1)
+      → found ≡ list_any is_flaw (statement_step tables (statement (get_or xs i d))).1 → f1 ≤ f2
+      → RunSoFar before next f0 f2 tables' (flaw || found) (map statement xs) (drop (i + 1) (map statement xs))
+  run_goes_on_at = run_goes_on before now next f0 f1 f2 tables tables' flaw found (map statement xs) (drop (i + 1) (map statement xs)) (statement (get_or xs i d)) here
+
+  pub run_cut_at : AppendsFront now next (text_of (statement_step tables (statement (get_or xs i d))).1) → AppendsFront before next (text_of (lines_from [] (map statement xs)))
+  run_cut_at = run_cut before now next f0 f1 tables flaw (map statement xs) (drop (i + 1) (map statement xs)) (statement (get_or xs i d)) here

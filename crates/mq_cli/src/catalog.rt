@@ -54,10 +54,12 @@ impl Catalog {
     pub fn append(&mut self, name: &Words, rows: Items<Row>) -> Result<(), Memory>
         ensures { OnOk result (self.new ≡ with_rows self.old name.now rows) }
     {
-        match self.tables.get_mut(name) {
-            Some(table) => append(&mut table.rows, rows),
-            None => Ok(()),
-        }
+        let table = match self.tables.get_mut(name) {
+            Some(table) => table,
+            None => return Ok(()),
+        };
+        append(&mut table.rows, rows)?;
+        Ok(())
     }
 }
 

@@ -3,6 +3,7 @@
 ghost use Rattle.std.specs.Prelude.{◌≡◌, ◌++◌, [], ◌∷◌, length, map, decimal, OnOk};
 ghost use Rattle.mq_ir.specs.Lines.{Done, Counted, RowLine, RowCount, FaultLine, SyntaxError, line_text, text_of, fault_name, joined_by, key_text};
 ghost use Rattle.mq_ir.specs.Statement.{answer_lines};
+ghost use Rattle.mq_cli.specs.Places.{placed_value};
 
 use itoa::Buffer;
 use mq_ir::{Answer, Row};
@@ -105,12 +106,21 @@ fn joined(values: &[Value], separator: u8, out: &mut Vec<u8>) -> Result<(), Memo
     ensures { OnOk result (out.new.items ≡ out.old.items ++ joined_by separator values.now) }
 {
     'values: for (at, value) in values.iter().enumerate() {
-        if at > 0 {
-            out.push(separator)?;
-        }
-        print(value, out)?;
+        place(value, at > 0, separator, out)?;
     }
     Ok(())
+}
+
+// A value, with the separator before it where it stands behind another one.
+fn place(value: &Value, behind: bool, separator: u8, out: &mut Vec<u8>) -> Result<(), Memory>
+    ensures { OnOk result (out.new.items ≡ out.old.items ++ placed_value behind separator value.now) }
+{
+    if behind {
+        out.push(separator)?;
+        print(value, out)?;
+        return Ok(());
+    }
+    print(value, out)
 }
 
 // A number in decimal.

@@ -1,6 +1,6 @@
 //! A whole run: from the words of the command line and the bytes of a script to its output and its status.
 
-ghost use Rattle.std.specs.Prelude.{◌≡◌, ◌≢◌, ◌↔◌, ◌⊎◌, ◌≤◌, [], Some, length, map, IfOk, IfSome, OnErr, IsErrOf, IsUtf8};
+ghost use Rattle.std.specs.Prelude.{◌≡◌, ◌≢◌, ◌↔◌, ◌⊎◌, ◌≤◌, ◌||◌, [], Some, length, map, IfOk, IfSome, OnErr, IsErrOf, IsUtf8};
 ghost use Rattle.std.specs.List.{list_any};
 ghost use Rattle.std.specs.Io.KnownBytes.{Appends, IsAtEnd};
 ghost use Rattle.mq_io.specs.Causes.{Rose};
@@ -133,9 +133,15 @@ fn run_statements<K: Sink>(
     let mut flaw = false;
     'statements: for statement in statements {
         let found = run_statement(alloc, &mut catalog, statement, &mut lines, out)?;
-        flaw = flaw || found;
+        flaw = either(flaw, found);
     }
     Ok(flaw)
+}
+
+fn either(a: bool, b: bool) -> bool
+    ensures { result ≡ (a || b) }
+{
+    a || b
 }
 
 // Runs a statement and writes its lines.
