@@ -1,5 +1,10 @@
 pub mod Answers
 pub mod Number
+pub mod NumberOrder
+pub mod NumberText
+pub mod Order
+pub mod OrderLaws
+pub mod Print
 pub mod Shared
 pub mod Text
 pub mod Words

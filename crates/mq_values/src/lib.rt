@@ -4,11 +4,14 @@
 #![tactic(auto)]
 
 mod boxed;
+mod digits;
 mod faults;
 mod items;
 mod memory;
 mod number;
 mod operators;
+mod order;
+mod printing;
 mod shared;
 mod text;
 mod value;
@@ -20,6 +23,8 @@ pub use items::Items;
 pub use memory::{Fail, Memory};
 pub use number::Num;
 pub use operators::{Agg, CmpOp, DimTest, Func, Mode, ProdOp, SumOp};
+pub use order::{cmp_sql, cmp_total};
+pub use printing::print;
 pub use shared::Shared;
 pub use text::Text;
 pub use value::{Key, Kind, Value};
