@@ -33,7 +33,7 @@ chained so_far [] = so_far
 chained so_far (term ∷ terms) = chained (so_far >>= (λ a. term.1 >>= combined term.0 a)) terms
 
 -- the value of an expression, where `leaves` gives that of each leaf
-pub ev : (Leaf → Outcome) → Expr → Outcome
+unfoldable pub ev : (Leaf → Outcome) → Expr → Outcome
 ev leaves = para-Expr Outcome (Unit {0}) (SumOp × Outcome) (expr_step leaves) (λ _. tt) sum_step
   where
     expr_step : (Leaf → Outcome) → layer.Expr-F (Expr × Outcome) (Leaf × Unit {0}) (BoundSum × (SumOp × Outcome)) → Outcome
@@ -43,3 +43,7 @@ ev leaves = para-Expr Outcome (Unit {0}) (SumOp × Outcome) (expr_step leaves) (
 
     sum_step : layer.BoundSum-F (Expr × Outcome) (Leaf × Unit {0}) (BoundSum × (SumOp × Outcome)) → SumOp × Outcome
     sum_step t = (t.op, t.e.1)
+
+-- an operator, with the outcome of its right operand
+abbrev pub term_value : (Expr → Outcome) → BoundSum → SumOp × Outcome
+term_value value term = (term.op, value term.e)
