@@ -1,2 +1,3 @@
+pub mod NumberTexts
 pub mod Ranges
 pub mod Tens

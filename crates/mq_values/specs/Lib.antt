@@ -1,7 +1,8 @@
 pub mod Answers
+pub mod Arithmetic
+pub mod Convert
 pub mod Number
 pub mod NumberOrder
-pub mod NumberText
 pub mod Order
 pub mod OrderLaws
 pub mod Print

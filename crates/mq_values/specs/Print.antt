@@ -1,7 +1,7 @@
 -- Printed texts.
 use Rattle.std.specs.Prelude.{ℕ, ◌==◌, if◌then◌else◌, List, [], ◌∷◌, ◌++◌, codes}
 use Rattle.std.specs.List.{flat_map}
-use Rattle.mq_values.specs.NumberText.{text_of_number}
+use Rattle.mq_values.specs.Number.{text_of_number}
 use Rattle.mq_values.specs.declared.value.Value.{Value}
 use Rattle.mq_values.specs.declared.value.Value.TheVariants as value
 

@@ -4,6 +4,7 @@
 #![tactic(auto)]
 
 mod boxed;
+mod convert;
 mod digits;
 mod faults;
 mod items;
@@ -18,6 +19,7 @@ mod value;
 mod words;
 
 pub use boxed::Boxed;
+pub use convert::{concat, length};
 pub use faults::{FaultKind, QueryFault, Refused, ValueFault};
 pub use items::Items;
 pub use memory::{Fail, Memory};

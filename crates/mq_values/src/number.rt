@@ -1,10 +1,10 @@
 //! The exact decimal number, and its orders.
-ghost use Rattle.std.specs.Prelude.{◌≡◌, ◌≤◌, pos, ◌^◌, ◌*ℤ◌};
+ghost use Rattle.std.specs.Prelude.{◌≡◌, ◌≤◌, pos, ◌^◌, ◌*ℤ◌, IsTrue};
 ghost use Rattle.std.proofs.Common.{rules};
 ghost use Rattle.std.specs.Cmp.Rules.{comparing};
 ghost use Rattle.std.specs.Ordering.{as_partial_cmp};
 ghost use Rattle.std.specs.Cmp.{partial_order_from_agreeing_total};
-ghost use Rattle.mq_values.specs.Number.{cmp_number, cmp_worth, fitting};
+ghost use Rattle.mq_values.specs.Number.{cmp_number, cmp_worth, fitting, is_mantissa};
 ghost use Rattle.mq_values.specs.NumberOrder.{equal_together};
 
 use std::cmp::Ordering;
@@ -69,7 +69,8 @@ impl Num {
 
     /// The mantissa.
     pub fn mant(self) -> i128
-        ensures { result ≡ self.mant }
+        ensures value { result ≡ self.mant }
+        ensures range { IsTrue (is_mantissa self.mant) }
     {
         self.mant
     }

@@ -1,7 +1,6 @@
 ghost use Rattle.std.specs.Prelude.{◌≡◌, ◌++◌, length, take, OnOk, OnErr};
 ghost use Rattle.mq_values.specs.Print.{quoted, printed};
 
-use crate::digits::print_number;
 use crate::memory::Memory;
 use crate::value::Value;
 
@@ -13,7 +12,7 @@ pub fn print(value: &Value, out: &mut Vec<u8>) -> Result<(), Memory>
     ensures err { OnErr result (out.new.items ≡ out.old.items) }
 {
     match value {
-        Value::Num(n) => print_number(*n, out),
+        Value::Num(n) => n.print(out),
         Value::Text(t) => print_text(t.as_str(), out),
         Value::Null => Ok(out.extend_from_slice(b"NULL")?),
     }
