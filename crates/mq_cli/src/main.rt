@@ -2,11 +2,11 @@
 #![tactic(auto)]
 
 mod answer;
+#[cfg(test)]
+mod answer_tests;
 mod cells;
 mod evaluate;
 mod partition;
 mod sequential;
-#[cfg(test)]
-mod answer_tests;
 
 fn main() {}

@@ -11,12 +11,13 @@ use Rattle.mq_values.specs.declared.faults.ValueFault.TheVariants as fault
 use Rattle.mq_values.specs.declared.value.Value.{Value}
 use Rattle.mq_values.specs.declared.value.Value.TheVariants.{Null}
 use Rattle.mq_ir.specs.declared.query.BoundQuery.{BoundQuery}
+use Rattle.mq_ir.specs.declared.query.ModelPart.{ModelPart}
 use Rattle.mq_ir.specs.declared.query.Answer.{Answer}
 use Rattle.mq_ir.specs.declared.query.Answer.TheVariants as answer
-use Rattle.mq_ir.specs.Items.{items_of}
+use Rattle.mq_ir.specs.Items.{base_rows, items_of}
 use Rattle.mq_ir.specs.Partitions.{Tuple, Cells, cut_rows, cells_of, repeated}
 use Rattle.mq_ir.specs.Results.{◌>>=◌, each, marked}
-use Rattle.mq_ir.specs.Sequential.{rules_from}
+use Rattle.mq_ir.specs.Sequential.{Placed, rules_from}
 use Rattle.mq_ir.specs.Tables.{Tables, rows_of}
 
 abbrev pub kind_of : ValueFault → FaultKind
@@ -47,24 +48,26 @@ printed_rows q cells =
     map (λ row. drop (length q.order) row)
     (ascending (map (λ cell. columns_at (q.order ++ q.print) (cell.0 ++ cell.1)) cells))
 
--- the cells after the rules, over the item rows of the query
-abbrev pub model_cells : BoundQuery → List Tuple → Result Cells QueryFault
-model_cells q rows =
-    option_map_or (λ key. Err (query_fault kind.NotUnique 0 key))
-    (repeated (map (λ row. take (length q.model.dims) row) rows))
-    (marked (λ p. query_fault (kind_of p.2) p.0 p.1)
-    (rules_from (length q.model.measures) 1 q.model.rules (cells_of [] (cut_rows (length q.model.dims) rows))))
+-- a value fault of a rule as the query's
+abbrev pub rule_fault : Placed → QueryFault
+rule_fault p = query_fault (kind_of p.2) p.0 p.1
 
--- the base rows: for each row of the table, in order, the list of it alone
-abbrev pub base_rows : List Tuple → List (List Tuple)
-base_rows rows = map (λ row. row ∷ []) rows
+-- the cells after the rules, over the dimension tuple and the measures of each row
+abbrev pub model_cells : ModelPart → List (Tuple × Tuple) → Result Cells QueryFault
+model_cells model rows =
+    option_map_or (λ key. Err (query_fault kind.NotUnique 0 key))
+    (repeated (map (λ row. row.0) rows))
+    (marked rule_fault (rules_from (length model.measures) 1 model.rules (cells_of [] rows)))
+
+-- the dimension tuple and the measures of each row of the table; a fault comes outside of the rules
+abbrev pub input_of : List Tuple → BoundQuery → Result (List (Tuple × Tuple)) QueryFault
+input_of rows q =
+    marked (λ fault. query_fault (kind_of fault) 0 []) (each (items_of q.items) (base_rows rows))
+    >>= (λ items. Ok (cut_rows (length q.model.dims) items))
 
 -- the rows of a query over the rows of its table, or its first fault
 abbrev pub rows_answered : List Tuple → BoundQuery → Result (List Tuple) QueryFault
-rows_answered rows q =
-    marked (λ fault. query_fault (kind_of fault) 0 []) (each (items_of q.items) (base_rows rows))
-    >>= model_cells q
-    >>= (λ cells. Ok (printed_rows q cells))
+rows_answered rows q = input_of rows q >>= model_cells q.model >>= (λ cells. Ok (printed_rows q cells))
 
 abbrev pub answer_over : List Tuple → BoundQuery → Answer
 answer_over rows q = elim (rows_answered rows q) [ Ok printed ↦ answer.Rows printed | Err fault ↦ answer.Fault fault ]

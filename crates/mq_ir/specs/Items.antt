@@ -1,5 +1,5 @@
 -- The base rows of a query, and what is evaluated for each of them.
-use Rattle.std.specs.Prelude.{List, [], Result, Ok, slice_index_or}
+use Rattle.std.specs.Prelude.{List, [], ◌∷◌, Result, Ok, map, slice_index_or}
 use Rattle.mq_values.specs.declared.faults.ValueFault.{ValueFault}
 use Rattle.mq_values.specs.declared.value.Value.{Value}
 use Rattle.mq_values.specs.declared.value.Value.TheVariants.{Null}
@@ -12,6 +12,10 @@ use Rattle.mq_ir.specs.Results.{each}
 -- The leaves of an item over a base row, which has a row for each FROM item: a column. A cell has no meaning there.
 abbrev pub row_leaves : List (List Value) → Leaf → Outcome
 row_leaves rows l = elim (out-Leaf l) [ layer.Column item column ↦ Ok (slice_index_or (slice_index_or rows item []) column Null) | layer.Cell measure places ↦ Ok Null ]
+
+-- the base rows: for each row of the table, in order, the list of it alone
+abbrev pub base_rows : List (List Value) → List (List (List Value))
+base_rows rows = map (λ row. row ∷ []) rows
 
 -- the items of a base row, from left to right
 abbrev pub items_of : ItemPart → List (List Value) → Result (List Value) ValueFault

@@ -23,9 +23,12 @@ cell_at cells key = lookup (is_at (cmp_key key)) cells
 abbrev pub with_cell : Cells → Tuple → Tuple → Cells
 with_cell cells key measures = insert_entry cmp_key cells key measures
 
--- the item rows cut into a dimension tuple and measures, where there are n dimensions
+-- an item row, cut behind its n dimensions into a dimension tuple and measures
+abbrev pub cut : ℕ → Tuple → Tuple × Tuple
+cut n row = (take n row, drop n row)
+
 abbrev pub cut_rows : ℕ → List Tuple → List (Tuple × Tuple)
-cut_rows n rows = map (λ row. (take n row, drop n row)) rows
+cut_rows n rows = map (cut n) rows
 
 -- the cells of these rows; where a tuple stands twice its first row counts
 abbrev pub cells_of : Cells → List (Tuple × Tuple) → Cells
