@@ -53,7 +53,9 @@ impl Cells {
     }
 
     /// The cells in ascending order.
-    pub fn iter(&self) -> Iter<'_, Key, Key> {
+    pub fn iter(&self) -> Iter<'_, Key, Key>
+        ensures { result ≡ self.now }
+    {
         self.cells.iter()
     }
 }

@@ -1,9 +1,9 @@
 //! The value of an expression, or the first fault on the way to it.
 ghost use Rattle.std.specs.Prelude.{◌≡◌, [], ◌∷◌, Ok, map, IfOk};
 ghost use Rattle.mq_values.specs.Answers.{Gives};
-ghost use Rattle.mq_ir.specs.Expression.{Outcome, ev, combined, chained, term_value};
+ghost use Rattle.mq_ir.specs.Expression.{Outcome, as_value, ev, combined, chained, term_value};
 ghost use Rattle.mq_ir.specs.Items.{row_leaves};
-ghost use Rattle.mq_ir.specs.Results.{each, ◌>>=◌};
+ghost use Rattle.mq_ir.specs.Results.{each};
 ghost use Rattle.mq_ir.specs.Sequential.{no_leaves, cell_leaves, measure_at as measure_of};
 ghost use Rattle.mq_ir.specs.declared.expression.Leaf.{Leaf};
 
@@ -26,6 +26,7 @@ pub trait Leaves {
 /// The value of `e`, or its first fault, where `leaves` gives the values of its leaves
 /// (docs/MEANING.md, "Expressions").
 #[cycle(evaluation)]
+#[tactic(auto, using(mq_ir::specs::ExpressionLaws::ev_laws))]
 pub fn eval<L: Leaves>(alloc: Global, e: &Expr, leaves: &L) -> Result<Value, Fail<ValueFault>>
     ensures { Gives result (ev (L.gives leaves.now) e.now) }
 {
@@ -76,7 +77,7 @@ fn combine(alloc: Global, op: SumOp, a: &Value, b: &Value) -> Result<Value, Fail
 
 /// A number as a value.
 fn number(worked_out: Result<Num, ValueFault>) -> Result<Value, Fail<ValueFault>>
-    ensures { Gives result (worked_out >>= (λ n. Ok (Value.Num n))) }
+    ensures { Gives result (as_value worked_out) }
 {
     match worked_out {
         Ok(n) => Ok(Value::Num(n)),

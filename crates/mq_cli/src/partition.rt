@@ -1,10 +1,9 @@
 //! The input of a partition: the items of each row, and the cells that they make.
-ghost use Rattle.std.specs.Prelude.{◌≡◌, [], ◌∷◌, Ok, None, map, take, drop, IfOk, OnOk};
+ghost use Rattle.std.specs.Prelude.{◌≡◌, [], map, IfOk};
 ghost use Rattle.mq_values.specs.Answers.{Gives};
-ghost use Rattle.mq_ir.specs.Items.{base_rows, items_of};
-ghost use Rattle.mq_ir.specs.Partitions.{cells_of, cut, cut_rows, lesser as lesser_of, repeated};
-ghost use Rattle.mq_cli.specs.PartTaking.{taken};
-ghost use Rattle.mq_ir.specs.Results.{each, ◌>>=◌};
+ghost use Rattle.mq_ir.specs.Items.{input_rows as rows_meant};
+ghost use Rattle.mq_ir.specs.Partitions.{cells_of, cut, lesser as lesser_of, repeated};
+ghost use Rattle.mq_cli.specs.PartTaking.{input_row as row_meant, taken};
 
 use crate::cells::Cells;
 use crate::evaluate::eval_all;
@@ -27,7 +26,7 @@ pub fn input_rows(
     dims: usize,
     rows: &[Row],
 ) -> Result<Items<(Key, Key)>, Fail<ValueFault>>
-    ensures { Gives result (each (items_of part.now) (base_rows rows.now) >>= (λ items. Ok (cut_rows dims items))) }
+    ensures { Gives result (rows_meant part.now dims rows.now) }
 {
     let mut input = Items::new(alloc);
     for row in rows {
@@ -42,7 +41,7 @@ fn input_row(
     dims: usize,
     row: &Row,
 ) -> Result<(Key, Key), Fail<ValueFault>>
-    ensures { Gives result (items_of part.now (row.now ∷ []) >>= (λ items. Ok (cut dims items))) }
+    ensures { Gives result (row_meant part.now dims row.now) }
 {
     let items = eval_all(alloc, part.items.as_slice(), row)?;
     Ok(cut_at(alloc, dims, items)?)

@@ -1,5 +1,5 @@
 -- What a query answers over tables.
-use Rattle.std.specs.Prelude.{ℕ, List, [], ◌∷◌, ◌++◌, Result, Ok, Err, map, take, drop, slice_index_or, length, if◌then◌else◌}
+use Rattle.std.specs.Prelude.{ℕ, List, [], ◌∷◌, ◌++◌, Result, Ok, Err, map, drop, slice_index_or, length, if◌then◌else◌}
 use Rattle.std.specs.Option.{option_map_or}
 use Rattle.std.specs.Ordering.{is_lt}
 use Rattle.mq_values.specs.Order.{cmp_key}
@@ -14,9 +14,9 @@ use Rattle.mq_ir.specs.declared.query.BoundQuery.{BoundQuery}
 use Rattle.mq_ir.specs.declared.query.ModelPart.{ModelPart}
 use Rattle.mq_ir.specs.declared.query.Answer.{Answer}
 use Rattle.mq_ir.specs.declared.query.Answer.TheVariants as answer
-use Rattle.mq_ir.specs.Items.{base_rows, items_of}
-use Rattle.mq_ir.specs.Partitions.{Tuple, Cells, cut_rows, cells_of, repeated}
-use Rattle.mq_ir.specs.Results.{◌>>=◌, each, marked}
+use Rattle.mq_ir.specs.Items.{input_rows}
+use Rattle.mq_ir.specs.Partitions.{Tuple, Cells, cells_of, repeated}
+use Rattle.mq_ir.specs.Results.{◌>>=◌, marked}
 use Rattle.mq_ir.specs.Sequential.{Placed, rules_from}
 use Rattle.mq_ir.specs.Tables.{Tables, rows_of}
 
@@ -61,9 +61,7 @@ model_cells model rows =
 
 -- the dimension tuple and the measures of each row of the table; a fault comes outside of the rules
 abbrev pub input_of : List Tuple → BoundQuery → Result (List (Tuple × Tuple)) QueryFault
-input_of rows q =
-    marked (λ fault. query_fault (kind_of fault) 0 []) (each (items_of q.items) (base_rows rows))
-    >>= (λ items. Ok (cut_rows (length q.model.dims) items))
+input_of rows q = marked (λ fault. query_fault (kind_of fault) 0 []) (input_rows q.items (length q.model.dims) rows)
 
 -- the rows of a query over the rows of its table, or its first fault
 abbrev pub rows_answered : List Tuple → BoundQuery → Result (List Tuple) QueryFault

@@ -18,9 +18,12 @@ use Rattle.mq_ir.specs.declared.expression.Expr.TheOpen as layer
 abbrev pub Outcome : Type 0
 Outcome = Result Value ValueFault
 
+abbrev pub as_value : Result Number ValueFault → Outcome
+as_value r = r >>= (λ n. Ok (value.Num n))
+
 -- two numbers; with a null, or with what is no number, an operator of numbers gives null
 abbrev pub on_numbers : (Number → Number → Result Number ValueFault) → Value → Value → Outcome
-on_numbers f (value.Num a) (value.Num b) = f a b >>= (λ n. Ok (value.Num n))
+on_numbers f (value.Num a) (value.Num b) = as_value (f a b)
 on_numbers f _ _ = Ok value.Null
 
 abbrev pub combined : SumOp → Value → Value → Outcome

@@ -27,9 +27,6 @@ with_cell cells key measures = insert_entry cmp_key cells key measures
 abbrev pub cut : ℕ → Tuple → Tuple × Tuple
 cut n row = (take n row, drop n row)
 
-abbrev pub cut_rows : ℕ → List Tuple → List (Tuple × Tuple)
-cut_rows n rows = map (cut n) rows
-
 -- the cells of these rows; where a tuple stands twice its first row counts
 abbrev pub cells_of : Cells → List (Tuple × Tuple) → Cells
 cells_of cells [] = cells
