@@ -1,3 +1,5 @@
+pub mod CellLemmas
 pub mod Chains
 pub mod Exits
+pub mod Inputs
 pub mod Walks

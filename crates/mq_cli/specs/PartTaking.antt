@@ -1,5 +1,5 @@
 -- One row of the input of a partition.
-use Rattle.std.specs.Prelude.{ℕ, [], ◌∷◌, Result, Ok, if◌then◌else◌, is_some}
+use Rattle.std.specs.Prelude.{ℕ, List, [], ◌∷◌, None, Result, Ok, if◌then◌else◌, is_some}
 use Rattle.mq_values.specs.declared.faults.ValueFault.{ValueFault}
 use Rattle.mq_ir.specs.declared.query.ItemPart.{ItemPart}
 use Rattle.mq_ir.specs.Items.{items_of}
@@ -16,3 +16,12 @@ taken input row =
 -- the items of a row, cut behind its n dimensions
 abbrev pub input_row : ItemPart → ℕ → Tuple → Result (Tuple × Tuple) ValueFault
 input_row part n row = items_of part (row ∷ []) >>= (λ items. Ok (cut n items))
+
+-- no row yet
+abbrev pub no_input : PartInput
+no_input = record { cells = []; repeated = None }
+
+-- these rows, one after another
+abbrev pub all_taken : PartInput → List (Tuple × Tuple) → PartInput
+all_taken input [] = input
+all_taken input (row ∷ rows) = all_taken (taken input row) rows

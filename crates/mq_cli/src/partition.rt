@@ -97,7 +97,7 @@ fn lesser(least: Option<Key>, key: Key) -> Key
 {
     match least {
         Some(least) => {
-            if key < least {
+            if key.cmp(&least).is_lt() {
                 key
             } else {
                 least
