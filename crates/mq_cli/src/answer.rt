@@ -1,7 +1,8 @@
 //! What a query answers: its rows in printed order, or its first fault.
-ghost use Rattle.std.specs.Prelude.{◌≡◌, ◌++◌, drop, slice_index_or, IfOk, OnOk};
+ghost use Rattle.std.specs.Prelude.{◌≡◌, ◌++◌, drop, map, slice_index_or, IfOk, OnOk};
 ghost use Rattle.mq_values.specs.Answers.{Gives};
-ghost use Rattle.mq_ir.specs.Answer.{answer_over, columns_at, model_cells as cells_meant, printed_rows, rows_answered};
+ghost use Rattle.mq_values.specs.Order.{cmp_key};
+ghost use Rattle.mq_ir.specs.Answer.{answer_over, ascending, columns_at, model_cells as cells_meant, printed_rows, rows_answered, sort_columns};
 
 use crate::cells::Cells;
 use crate::partition::{PartInput, input_rows, part_input};
@@ -62,21 +63,29 @@ fn model_cells(
 fn print_rows(alloc: Global, q: &BoundQuery, cells: &Cells) -> Result<Items<Row>, Memory>
     ensures { IfOk result (λ rows. rows ≡ printed_rows q.now cells.now) }
 {
-    let mut rows = Vec::new(alloc);
-    for (key, measures) in cells.iter() {
-        rows.push(sort_row(alloc, q, key, measures)?)?;
-    }
-    rows.sort()?;
+    let rows = sorted_rows(alloc, q, cells)?;
     let mut printed = Items::new(alloc);
-    for row in &rows {
+    for row in rows.as_slice() {
         printed.push(behind(alloc, q.order.len(), row)?)?;
     }
     Ok(printed)
 }
 
+/// For each cell its ORDER BY columns and then its printed columns, ascending.
+fn sorted_rows(alloc: Global, q: &BoundQuery, cells: &Cells) -> Result<Items<Row>, Memory>
+    ensures { IfOk result (λ rows. rows ≡ ascending cmp_key (map (sort_columns q.now) cells.now)) }
+{
+    let mut rows = Vec::new(alloc);
+    for (key, measures) in cells.iter() {
+        rows.push(sort_row(alloc, q, key, measures)?)?;
+    }
+    rows.sort()?;
+    Ok(Items::from_vec(rows))
+}
+
 /// The ORDER BY columns of a cell, and then its printed columns.
 fn sort_row(alloc: Global, q: &BoundQuery, key: &Key, measures: &Key) -> Result<Row, Memory>
-    ensures { IfOk result (λ row. row ≡ columns_at (q.now.order ++ q.now.print) (key.now ++ measures.now)) }
+    ensures { IfOk result (λ row. row ≡ sort_columns q.now (key.now, measures.now)) }
 {
     let mut values = Items::new(alloc);
     push_columns(&mut values, q.order.as_slice(), key, measures)?;

@@ -2,6 +2,7 @@
 use Rattle.std.specs.Prelude.{ℕ, List, [], ◌∷◌, ◌++◌, Result, Ok, Err, map, drop, slice_index_or, length, if◌then◌else◌}
 use Rattle.std.specs.Option.{option_map_or}
 use Rattle.std.specs.Ordering.{is_lt}
+use Rattle.std.specs.declared.cmp.Ordering.{Ordering}
 use Rattle.mq_values.specs.Order.{cmp_key}
 use Rattle.mq_values.specs.declared.faults.ValueFault.{ValueFault}
 use Rattle.mq_values.specs.declared.faults.FaultKind.{FaultKind}
@@ -28,25 +29,27 @@ kind_of fault.TextTooLong = kind.TextTooLong
 abbrev pub query_fault : FaultKind → ℕ → Tuple → QueryFault
 query_fault k rule cell = record { kind = k; rule = rule; partition = []; cell = cell }
 
--- a tuple put before the first that is greater
-abbrev pub placed : Tuple → List Tuple → List Tuple
-placed x [] = x ∷ []
-placed x (y ∷ ys) = if is_lt (cmp_key x y) then x ∷ y ∷ ys else y ∷ placed x ys
+-- an item put before the first that is greater
+abbrev pub placed : {K : Type 0} → (K → K → Ordering) → K → List K → List K
+placed cmp x [] = x ∷ []
+placed cmp x (y ∷ ys) = if is_lt (cmp x y) then x ∷ y ∷ ys else y ∷ placed cmp x ys
 
--- these tuples, ascending
-abbrev pub ascending : List Tuple → List Tuple
-ascending [] = []
-ascending (x ∷ xs) = placed x (ascending xs)
+-- these items, ascending
+abbrev pub ascending : {K : Type 0} → (K → K → Ordering) → List K → List K
+ascending cmp [] = []
+ascending cmp (x ∷ xs) = placed cmp x (ascending cmp xs)
 
 -- the columns of these numbers
 abbrev pub columns_at : List ℕ → Tuple → List Value
 columns_at numbers row = map (λ n. slice_index_or row n Null) numbers
 
--- the rows as they are printed: ascending by the ORDER BY columns, and then by all printed columns from the left
+-- what a cell is ordered by: the ORDER BY columns, and then all printed columns from the left
+abbrev pub sort_columns : BoundQuery → Tuple × Tuple → Tuple
+sort_columns q cell = columns_at (q.order ++ q.print) (cell.0 ++ cell.1)
+
+-- the rows as they are printed
 abbrev pub printed_rows : BoundQuery → Cells → List Tuple
-printed_rows q cells =
-    map (λ row. drop (length q.order) row)
-    (ascending (map (λ cell. columns_at (q.order ++ q.print) (cell.0 ++ cell.1)) cells))
+printed_rows q cells = map (drop (length q.order)) (ascending cmp_key (map (sort_columns q) cells))
 
 -- a value fault of a rule as the query's
 abbrev pub rule_fault : Placed → QueryFault
