@@ -18,6 +18,30 @@ Fitting_some m z h = by (int_le (neg_ℤ (pos (2 ^ 127))) z) (int_lt z (pos (2 ^
     by true false e f g = cc
     by false t e f g = cc
 
+pub Fitting_true : (m z : ℤ) → Some m ≡ fitting z → is_mantissa z ≡ true
+Fitting_true m z h = by (is_mantissa z) refl h
+  where
+    by : (s : Bool) → is_mantissa z ≡ s → Some m ≡ (if s then Some z else None) → s ≡ true
+    by true e g = refl
+    by false e g = cc
+
+-- what the code finds to fit 128 bits is in range
+pub fits_mantissa : (z : ℤ) → FitsSigned w128 z → is_mantissa z ≡ true
+fits_mantissa z f = by (int_le (neg_ℤ (pos (2 ^ 127))) z) (int_lt z (pos (2 ^ 127))) refl refl
+  where
+    by : (s t : Bool) → int_le (neg_ℤ (pos (2 ^ 127))) z ≡ s → int_lt z (pos (2 ^ 127)) ≡ t → (s && t) ≡ true
+    by true true e g = refl
+    by true false e g = absurd (omega (arith, ints))
+    by false t e g = absurd (omega (arith, ints))
+
+pub unfit_mantissa : (z : ℤ) → (FitsSigned w128 z → ⊥) → is_mantissa z ≡ false
+unfit_mantissa z f = by (int_le (neg_ℤ (pos (2 ^ 127))) z) (int_lt z (pos (2 ^ 127))) refl refl
+  where
+    by : (s t : Bool) → int_le (neg_ℤ (pos (2 ^ 127))) z ≡ s → int_lt z (pos (2 ^ 127)) ≡ t → (s && t) ≡ false
+    by true true e g = absurd (f (omega (arith, ints)))
+    by true false e g = refl
+    by false t e g = refl
+
 pub Fitting_none : (z : ℤ) → None ≡ fitting z → is_mantissa z ≡ false
 Fitting_none z h = by (is_mantissa z) refl h
   where

@@ -1,10 +1,11 @@
 -- The table of the powers of ten.
-use Rattle.std.proofs.Common.{◌≡◌, ℕ, zero, suc, ◌+◌, ◌^◌, ◌<◌, ◌≤◌, Bool, true, ◌&&◌, List, [], ◌∷◌, length, get_or, ℤ, pos, FitsSigned, refl, sym, ap, ◌∙◌, arith, to_z, of_z}
+use Rattle.std.proofs.Common.{◌≡◌, ℕ, zero, suc, ◌+◌, ◌^◌, ◌<◌, ◌≤◌, Bool, true, ◌&&◌, List, [], ◌∷◌, length, get_or, ℤ, pos, ◌<ℤ◌, FitsSigned, refl, sym, ap, ◌∙◌, arith, to_z, of_z}
 use Rattle.std.proofs.lemmas.Int.{to_z-of_z, ints}
 use Rattle.std.proofs.Math.Nat.{pow-le-pow_right}
 use Rattle.std.specs.Int.{w128}
 use Rattle.std.specs.Ordering.{int_eq}
 use Rattle.std.specs.Cmp.{signed_Decides, first_so, second_so}
+use Rattle.mq_values.specs.NumberOrder.{ten_pos}
 use Rattle.mq_values.specs.declared.number.TheConstants.{TENS}
 
 -- the list's numbers are the powers of ten from 10 ^ j on
@@ -30,3 +31,6 @@ ten_fits k h = let p : 10 ^ k ≤ 10 ^ 24 = pow-le-pow_right (omega arith) h in 
 
 pub TENS_read : (k : ℕ) → k ≤ 24 → to_z w128 (of_z w128 (get_or TENS k (pos 0))) ≡ pos (10 ^ k)
 TENS_read k h = ap (λ z. to_z w128 (of_z w128 z)) (TENS_at k h) ∙ to_z-of_z w128 (pos (10 ^ k)) (ten_fits k h)
+
+pub TENS_positive : (k : ℕ) → k ≤ 24 → pos 0 <ℤ to_z w128 (of_z w128 (get_or TENS k (pos 0)))
+TENS_positive k h = rw (TENS_read k h) (let p = ten_pos k in omega (arith, ints))

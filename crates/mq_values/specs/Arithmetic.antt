@@ -47,13 +47,15 @@ product_of a b =
 abbrev pub quotient_scale : ℕ → ℕ → ℕ
 quotient_scale s t = max (max s t) 6
 
--- the dividend, which is brought to the scale at which the mantissas' quotient has scale r, and the rounded quotient must lie in range
+-- the dividend, with so many zeros that its quotient by the divisor's mantissa has that scale
+abbrev pub dividend_of : Number → Number → ℤ
+dividend_of a b = a.mant *ℤ pos (10 ^ (quotient_scale a.scale b.scale + b.scale - a.scale))
+
+-- the dividend must lie in range, and so must the rounded quotient
 abbrev pub quotient_of : Number → Number → Result Number ValueFault
 quotient_of a b =
-    let r = quotient_scale a.scale b.scale in
-    let dividend = a.mant *ℤ pos (10 ^ (r + b.scale - a.scale)) in
     if int_eq b.mant (pos 0) then Err DivideByZero
-    else (if is_mantissa dividend then in_range (rounded dividend b.mant) r else Err Overflow)
+    else (if is_mantissa (dividend_of a b) then in_range (rounded (dividend_of a b) b.mant) (quotient_scale a.scale b.scale) else Err Overflow)
 
 abbrev pub negation_of : Number → Result Number ValueFault
 negation_of n = in_range (neg_ℤ n.mant) n.scale

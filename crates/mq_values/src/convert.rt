@@ -1,15 +1,55 @@
-ghost use Rattle.std.specs.Prelude.{◌≡◌, ◌++◌, IsTrue, IfOk, OnOk, string_bytes};
+ghost use Rattle.std.specs.Prelude.{◌≡◌, ◌++◌, IsTrue, Ok, IfOk, OnOk, string_bytes};
 ghost use Rattle.mq_values.specs.Answers.{Gives};
-ghost use Rattle.mq_values.specs.Convert.{joined, length_of, operand_text};
+ghost use Rattle.mq_values.specs.Convert.{cast_of, number_at, joined, length_of, operand_text};
 ghost use Rattle.mq_values.specs.Number.{text_of_number};
+ghost use Rattle.mq_values.specs.declared.value.Value.TheVariants as value_of;
 ghost use Rattle.mq_values.specs.Text.{is_text};
 
 use crate::faults::ValueFault;
 use crate::memory::{Fail, Memory};
 use crate::number::Num;
 use crate::text::Text;
-use crate::value::Value;
+use crate::value::{Kind, Value};
 use std::alloc::Global;
+
+/// The value converted to a kind: a number to the kind's scale, rounded to the nearest with halves away from
+/// zero; to TEXT as its printed text. A text is no number, and null stays null. `Overflow` comes exactly
+/// where the number leaves the range. No kind has a scale above 12, and a cast to one is null
+/// (docs/LANGUAGE.md, "Conversions").
+pub fn cast(alloc: Global, value: &Value, kind: Kind) -> Result<Value, Fail<ValueFault>>
+    ensures { Gives result (cast_of value.now kind) }
+{
+    match (value, kind) {
+        (Value::Num(n), Kind::Int) => number_at(*n, 0),
+        (Value::Num(n), Kind::Decimal(scale)) => number_at(*n, scale),
+        (Value::Num(n), Kind::Text) => text_of(alloc, *n),
+        (Value::Text(t), Kind::Text) => Ok(Value::Text(t.copy()?)),
+        _ => Ok(Value::Null),
+    }
+}
+
+fn number_at(n: Num, scale: u8) -> Result<Value, Fail<ValueFault>>
+    ensures { Gives result (number_at n scale) }
+{
+    if scale > 12 {
+        return Ok(Value::Null);
+    }
+    match n.rescale(scale) {
+        Ok(n) => Ok(Value::Num(n)),
+        Err(fault) => Err(Fail::Cause(fault)),
+    }
+}
+
+/// A number as the text that it prints.
+fn text_of(alloc: Global, n: Num) -> Result<Value, Fail<ValueFault>>
+    ensures { Gives result (Ok (value_of.Text (text_of_number n))) }
+{
+    let text = number_text(alloc, n)?;
+    match Text::new(alloc, text.as_str())? {
+        Some(text) => Ok(Value::Text(text)),
+        None => unreachable!(),
+    }
+}
 
 /// The two values as one text, `a || b`: a number stands as its printed text and null as the empty text,
 /// and null || null is null. `TextTooLong` comes exactly where the text would pass 256 bytes
