@@ -38,11 +38,11 @@ again cells earlier key h e = record { at = λ q. h.at q ∙ any_again key_total
 
 added : (cells : Cells) (earlier : List Tuple) (key measures : Tuple) → Holds cells earlier → Holds (with_cell cells key measures) (earlier ++ key ∷ [])
 added cells earlier key measures h = record {
-    at = λ q.
+  at = λ q.
       found_after_put key_total cells key q measures
       ∙ ap (λ b. b || is_eq (cmp_key q key)) (h.at q)
       ∙ sym (any_more (λ k. is_eq (cmp_key q k)) earlier key);
-  }
+}
 
 -- the input with what the rows make of it
 abbrev meant : Cells → Option Tuple → List Tuple → List (Tuple × Tuple) → PartInput
@@ -60,9 +60,9 @@ taken_as_meant (row ∷ rows) cells least earlier h =
         (Holds (with_cell cells row.0 row.1) (earlier ++ row.0 ∷ []) → all_taken (record { cells = with_cell cells row.0 row.1; repeated = least }) rows ≡ meant (with_cell cells row.0 row.1) least (earlier ++ row.0 ∷ []) rows) →
         all_taken (if b then record { cells = cells; repeated = lesser least row.0 } else record { cells = with_cell cells row.0 row.1; repeated = least }) rows
         ≡ record {
-            cells = cells_of (if b then cells else with_cell cells row.0 row.1) rows;
-            repeated = least_from least (if d then row.0 ∷ repeats (earlier ++ row.0 ∷ []) (map (λ row. row.0) rows) else repeats (earlier ++ row.0 ∷ []) (map (λ row. row.0) rows));
-          }
+          cells = cells_of (if b then cells else with_cell cells row.0 row.1) rows;
+          repeated = least_from least (if d then row.0 ∷ repeats (earlier ++ row.0 ∷ []) (map (λ row. row.0) rows) else repeats (earlier ++ row.0 ∷ []) (map (λ row. row.0) rows));
+        }
     by true e true f old new = old (lesser least row.0) (again cells earlier row.0 h e)
     by false e false f old new = new (added cells earlier row.0 row.1 h)
     by true e false f old new = cc

@@ -99,11 +99,11 @@ one_list {K} {R} o same (x ∷ xs) (y ∷ ys) r s h = by (R x y) refl (one_list 
     by Equal e f =
         let p = same x y e in
         let rest : (q : K) → hits R q xs ≡ hits R q ys = λ q.
-            let a = more_hits R q x xs in
-            let b = more_hits R q y ys in
-            let c = h q in
-            let d : one (R q x) ≡ one (R q y) = ap (λ k. one (R q k)) p in
-            omega arith
+        let a = more_hits R q x xs in
+        let b = more_hits R q y ys in
+        let c = h q in
+        let d : one (R q x) ≡ one (R q y) = ap (λ k. one (R q k)) p in
+        omega arith
         in
         λ i. p i ∷ f rest i
 

@@ -25,11 +25,11 @@ next_step f xs i x h e = ap (each f) (next_item xs i x h e)
 
 pub walk_next : {A B E : Type 0} (f : A → Result B E) (xs : List A) (i : ℕ) (ys : List B) (x : A) (y : B) → i < length xs → x ≡ get_or xs i x → f x ≡ Ok y → Walked f xs i ys → Walked f xs (i + 1) (ys ++ y ∷ [])
 walk_next f xs i ys x y h e g w = record {
-    is =
+  is =
       w.is
       ∙ ap (λ r. r >>= (λ zs. Ok (ys ++ zs))) (next_step f xs i x h e ∙ ap (λ o. o >>= (λ y. each f (drop (i + 1) xs) >>= (λ ys. Ok (y ∷ ys)))) g)
       ∙ moved (each f (drop (i + 1) xs)) ys y;
-  }
+}
 
 pub walk_end : {A B E : Type 0} (f : A → Result B E) (xs : List A) (i : ℕ) (ys : List B) → length xs ≤ i → Walked f xs i ys → each f xs ≡ Ok ys
 walk_end f xs i ys h w = w.is ∙ ap (λ r. each f r >>= (λ zs. Ok (ys ++ zs))) (drop_all i xs h) ∙ ap Ok (append-nil ys)

@@ -1,11 +1,11 @@
 //! Answers of small queries, by hand calculation.
+ghost use Rattle.std.specs.Prelude.{◌<◌};
+
 use crate::answer::answer;
 use mq_ir::{
     Answer, BoundQuery, BoundSum, Expr, FromPart, ItemPart, Leaf, LeftItem, ModelPart, Row, Rule,
 };
-use mq_values::{
-    Boxed, FaultKind, Items, Key, Kind, Num, Shared, SumOp, Value, Words,
-};
+use mq_values::{Boxed, FaultKind, Items, Key, Kind, Num, Shared, SumOp, Value, Words};
 use std::alloc::Global;
 use std::process::Abort;
 use std::test::Fail;
@@ -17,12 +17,12 @@ enum Term {
     Cell(i128),
 }
 
-/// `cell = first, then each term taken from it or added to it`.
+/// `cell = first`, and then up to three terms more.
 #[derive(Clone, Copy)]
-struct Ruled<'a> {
+struct Ruled {
     cell: i128,
     first: Term,
-    others: &'a [(SumOp, Term)],
+    others: [Option<(SumOp, Term)>; 3],
 }
 
 fn int(n: i128) -> Value {
@@ -42,11 +42,13 @@ fn expr(alloc: Global, term: Term) -> Result<Expr, Fail> {
     })
 }
 
-fn rule(alloc: Global, ruled: &Ruled<'_>) -> Result<Rule, Fail> {
+fn rule(alloc: Global, ruled: &Ruled) -> Result<Rule, Fail> {
     let mut terms = Items::new(alloc);
-    for (op, term) in ruled.others {
-        let e = expr(alloc, *term)?;
-        terms.push(BoundSum { op: *op, e })?;
+    for other in ruled.others {
+        if let Some((op, term)) = other {
+            let e = expr(alloc, term)?;
+            terms.push(BoundSum { op, e })?;
+        }
     }
     let first = expr(alloc, ruled.first)?;
     let right = if terms.is_empty() {
@@ -63,7 +65,7 @@ fn rule(alloc: Global, ruled: &Ruled<'_>) -> Result<Rule, Fail> {
 }
 
 /// The query over dimension 0 and measure 1 of a table of two columns, ordered by this column.
-fn query(alloc: Global, rules: &[Ruled<'_>], order: u32) -> Result<BoundQuery, Fail> {
+fn query(alloc: Global, rules: &[Ruled], order: u32) -> Result<BoundQuery, Fail> {
     let mut items = Items::new(alloc);
     let mut print = Items::new(alloc);
     for column in 0..2 {
@@ -144,77 +146,96 @@ fn text(alloc: Global, answer: &Answer) -> Result<Vec<u8>, Fail> {
 
 const MOST: i128 = i128::MAX;
 
-/// What the query with these rules, ordered by this column, answers over these rows.
-#[derive(Drop)]
-struct Case<'a> {
-    rows: &'a [(i128, i128)],
-    rules: &'a [Ruled<'a>],
+/// The query with these rules, ordered by this column, answers this over these rows.
+fn check(
+    rt: &(impl Abort + AllocGlobal),
+    rows: &[(i128, i128)],
+    rules: &[Ruled],
     order: u32,
-    answer: &'a str,
-}
-
-fn check(rt: &impl Abort, alloc: Global, case: &Case<'_>) -> Result<(), Fail> {
-    let rows = table(alloc, case.rows)?;
-    let query = query(alloc, case.rules, case.order)?;
+    meant: &str,
+) -> Result<(), Fail> {
+    let alloc = rt.alloc();
+    let rows = table(alloc, rows)?;
+    let query = query(alloc, rules, order)?;
     let found = answer(alloc, rows.as_slice(), &query)?;
     let found = text(alloc, &found)?;
-    assert_eq!(rt; found.as_slice(), case.answer.as_bytes());
+    assert_eq!(rt; found.as_slice(), meant.as_bytes());
     Ok(())
+}
+
+fn plain(cell: i128, first: Term) -> Ruled {
+    Ruled {
+        cell,
+        first,
+        others: [None; 3],
+    }
+}
+
+fn plus(mut ruled: Ruled, at: usize, term: Term) -> Ruled
+    requires { at < 3 }
+{
+    ruled.others[at] = Some((SumOp::Add, term));
+    ruled
+}
+
+fn less(mut ruled: Ruled, at: usize, term: Term) -> Ruled
+    requires { at < 3 }
+{
+    ruled.others[at] = Some((SumOp::Sub, term));
+    ruled
 }
 
 #[test]
-fn small_queries_answer_as_worked_out(rt: HostRuntime) -> Result<(), Fail> {
-    let plus_two = [(SumOp::Add, Term::Cell(2))];
-    let plus_one = [(SumOp::Add, Term::Number(1))];
-    let less_one = [(SumOp::Sub, Term::Number(1))];
-    let chain = [
-        (SumOp::Add, Term::Number(10)),
-        (SumOp::Sub, Term::Cell(2)),
-        (SumOp::Add, Term::Cell(1)),
-    ];
-    let back = [(SumOp::Add, Term::Number(1)), (SumOp::Sub, Term::Number(2))];
-    let worked = [
-        set(3, Term::Cell(1), &plus_two),
-        set(4, Term::Cell(3), &less_one),
-    ];
-    let overflow = [set(2, Term::Cell(1), &plus_one)];
-    let second_overflow = [
-        set(5, Term::Cell(1), &less_one),
-        set(6, Term::Cell(1), &plus_one),
-        set(7, Term::Cell(1), &plus_one),
-    ];
-    let folded_left = [set(2, Term::Cell(1), &back)];
-    let alone = [set(1, Term::Number(1), &[])];
-    let absent = [set(2, Term::Cell(9), &[]), set(3, Term::Cell(9), &plus_one)];
-    let chained = [set(1, Term::Number(-4), &chain)];
-    let own = [set(1, Term::Cell(1), &plus_one), set(1, Term::Cell(1), &plus_one)];
-    let created_null = [set(3, Term::Cell(3), &[])];
-    let cases = [
-        over(&[(1, 5), (2, 7)], &worked, 0, "1|5 2|7 3|12 4|11 "),
-        over(&[(1, MOST)], &overflow, 0, "OVERFLOW 1 2"),
-        over(&[(1, MOST)], &second_overflow, 0, "OVERFLOW 2 6"),
-        over(&[(1, MOST)], &folded_left, 0, "OVERFLOW 1 2"),
-        over(&[], &alone, 0, "1|1 "),
-        over(&[], &[], 0, ""),
-        over(&[(1, 5)], &absent, 0, "1|5 2|NULL 3|NULL "),
-        over(&[(1, 5), (2, 7)], &chained, 0, "1|4 2|7 "),
-        over(&[(1, 5)], &own, 0, "1|7 "),
-        over(&[(1, 5)], &created_null, 1, "1|5 3|NULL "),
-        over(&[(2, 7), (1, 9), (3, -5)], &[], 0, "1|9 2|7 3|-5 "),
-        over(&[(2, 7), (1, 9), (3, -5)], &[], 1, "3|-5 2|7 1|9 "),
-        over(&[(2, 4), (1, 4), (3, 3)], &[], 1, "3|3 1|4 2|4 "),
-        over(&[(4, 1), (3, 1), (4, 2), (3, 5)], &worked, 0, "NOT_UNIQUE 0 3"),
-    ];
-    for case in &cases {
-        check(&rt, rt.alloc(), case)?;
-    }
-    Ok(())
+fn rules_act_in_text_order(rt: HostRuntime) -> Result<(), Fail> {
+    let sum = plus(plain(3, Term::Cell(1)), 0, Term::Cell(2));
+    let rest = less(plain(4, Term::Cell(3)), 0, Term::Number(1));
+    check(
+        &rt,
+        &[(1, 5), (2, 7)],
+        &[sum, rest],
+        0,
+        "1|5 2|7 3|12 4|11 ",
+    )?;
+    check(
+        &rt,
+        &[(1, 5), (2, 7)],
+        &[rest, sum],
+        0,
+        "1|5 2|7 3|12 4|NULL ",
+    )?;
+    let next = plus(plain(1, Term::Cell(1)), 0, Term::Number(1));
+    check(&rt, &[(1, 5)], &[next, next], 0, "1|7 ")?;
+    let long = plus(plain(1, Term::Number(-4)), 0, Term::Number(10));
+    let long = plus(less(long, 1, Term::Cell(2)), 2, Term::Cell(1));
+    check(&rt, &[(1, 5), (2, 7)], &[long], 0, "1|4 2|7 ")
 }
 
-fn set<'a>(cell: i128, first: Term, others: &'a [(SumOp, Term)]) -> Ruled<'a> {
-    Ruled { cell, first, others }
+#[test]
+fn the_first_fault_is_the_answer(rt: HostRuntime) -> Result<(), Fail> {
+    let over = plus(plain(2, Term::Cell(1)), 0, Term::Number(1));
+    check(&rt, &[(1, MOST)], &[over], 0, "OVERFLOW 1 2")?;
+    let fits = less(plain(5, Term::Cell(1)), 0, Term::Number(1));
+    let later = plus(plain(7, Term::Cell(1)), 0, Term::Number(1));
+    check(&rt, &[(1, MOST)], &[fits, over, later], 0, "OVERFLOW 2 2")?;
+    let back = less(over, 1, Term::Number(2));
+    check(&rt, &[(1, MOST)], &[back], 0, "OVERFLOW 1 2")?;
+    let rows = [(4, MOST), (3, 1), (4, 2), (3, 5)];
+    check(&rt, &rows, &[over], 0, "NOT_UNIQUE 0 3")
 }
 
-fn over<'a>(rows: &'a [(i128, i128)], rules: &'a [Ruled<'a>], order: u32, answer: &'a str) -> Case<'a> {
-    Case { rows, rules, order, answer }
+#[test]
+fn cells_that_are_not_there_read_as_null(rt: HostRuntime) -> Result<(), Fail> {
+    check(&rt, &[], &[plain(1, Term::Number(1))], 0, "1|1 ")?;
+    check(&rt, &[], &[], 0, "")?;
+    let absent = plain(2, Term::Cell(9));
+    let summed = plus(plain(3, Term::Cell(9)), 0, Term::Number(1));
+    check(&rt, &[(1, 5)], &[absent, summed], 0, "1|5 2|NULL 3|NULL ")?;
+    check(&rt, &[(1, 5)], &[plain(3, Term::Cell(3))], 1, "1|5 3|NULL ")
+}
+
+#[test]
+fn rows_are_printed_in_order(rt: HostRuntime) -> Result<(), Fail> {
+    let rows = [(2, 7), (1, 9), (3, -5), (4, 7)];
+    check(&rt, &rows, &[], 0, "1|9 2|7 3|-5 4|7 ")?;
+    check(&rt, &rows, &[], 1, "3|-5 2|7 4|7 1|9 ")
 }

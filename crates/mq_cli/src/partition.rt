@@ -82,7 +82,10 @@ pub fn part_input(alloc: Global, rows: &[(Key, Key)]) -> Result<PartInput, Memor
 fn take_row(input: PartInput, row: &(Key, Key)) -> Result<PartInput, Memory>
     ensures { IfOk result (λ after. after ≡ taken input row.now) }
 {
-    let PartInput { mut cells, repeated } = input;
+    let PartInput {
+        mut cells,
+        repeated,
+    } = input;
     if cells.get(&row.0).is_none() {
         cells.put(row.0.copy()?, row.1.copy()?)?;
         return Ok(PartInput { cells, repeated });
@@ -96,13 +99,7 @@ fn lesser(least: Option<Key>, key: Key) -> Key
     ensures { lesser_of least key ≡ Some result }
 {
     match least {
-        Some(least) => {
-            if key.cmp(&least).is_lt() {
-                key
-            } else {
-                least
-            }
-        }
+        Some(least) => { if key.cmp(&least).is_lt() { key } else { least } }
         None => key,
     }
 }

@@ -11,7 +11,7 @@ pub returns : goal.returns
 returns c =
     let rows = c.loop-key.rows.items in
     let all : rows ≡ map (sort_columns c.args.q.now) c.args.cells.now =
-      sym (append-nil rows) ∙ ap (λ left. rows ++ map (sort_columns c.args.q.now) left) (sym c.in-None.ensures.steps.0) ∙ c.loop-key.invariant in
+    sym (append-nil rows) ∙ ap (λ left. rows ++ map (sort_columns c.args.q.now) left) (sym c.in-None.ensures.steps.0) ∙ c.loop-key.invariant in
     c.from_vec.ensures
     ∙ sorted_is_ascending key_total exact_keys rows c.sort.new.self.items c.in_ok-sort.ensures.permutation c.in_ok-sort.ensures.sorted
     ∙ ap (ascending cmp_key) all
