@@ -146,11 +146,11 @@ impl Leaves for Cells {
 fn measure_at(cells: &Cells, measure: u32, key: &Key) -> Result<Value, Memory>
     ensures { IfOk result (λ v. v ≡ measure_of cells.now measure key.now) }
 {
-    match cells.get(key) {
-        Some(measures) => match measures.as_slice().get(measure as usize) {
-            Some(v) => v.copy(),
-            None => Ok(Value::Null),
-        },
+    let Some(measures) = cells.get(key) else {
+        return Ok(Value::Null);
+    };
+    match measures.as_slice().get(measure as usize) {
+        Some(v) => v.copy(),
         None => Ok(Value::Null),
     }
 }

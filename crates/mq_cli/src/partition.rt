@@ -28,11 +28,11 @@ pub fn input_rows(
 ) -> Result<Items<(Key, Key)>, Fail<ValueFault>>
     ensures { Gives result (rows_meant part.now dims rows.now) }
 {
-    let mut input = Items::new(alloc);
+    let mut pairs = Items::new(alloc);
     for row in rows {
-        input.push(input_row(alloc, part, dims, row)?)?;
+        pairs.push(input_row(alloc, part, dims, row)?)?;
     }
-    Ok(input)
+    Ok(pairs)
 }
 
 fn input_row(

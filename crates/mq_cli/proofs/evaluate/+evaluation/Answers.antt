@@ -27,6 +27,7 @@ pub chain-returns-in_err-total : goal.chain-returns-in_err-total
 chain-returns-in_err-total g t c =
     let value = ev (g.L.Leaves.gives c.args.leaves.now) in
     let p = err_from_is_err_and c.from_residual-in_err-total.result c.from_residual-in_err-total.ensures.1 in
+    let right : value c.term-item.result.e ≡ Ok c.in_ok-right.right = c.in_ok-right.ensures in
     rw (p.1, p.2)
     (exit (combined c.term-item.result.op c.loop-term.total c.in_ok-right.right) (chained (Ok c.args.first) (map (term_value value) c.args.terms.now)) c.in_err-total.field-0.0 c.in_err-total.ensures
-    (λ fault h. chain_exit value c.args.terms.now c.loop-term.term-index c.term-item.result c.loop-term.total _ fault c.loop-term-test.true c.term-item.is c.loop-term.invariant (ap (λ o. o >>= combined c.term-item.result.op c.loop-term.total) c.in_ok-right.ensures ∙ h)))
+    (λ fault h. chain_exit value c.args.terms.now c.loop-term.term-index c.term-item.result c.loop-term.total _ fault c.loop-term-test.true c.term-item.is c.loop-term.invariant (ap (λ o. o >>= combined c.term-item.result.op c.loop-term.total) right ∙ h)))
