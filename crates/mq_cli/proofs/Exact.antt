@@ -17,6 +17,10 @@ bound (Some a) f b e = (a, refl, e)
 pub then : {A B : Type 0} {o : Option A} {a : A} (f : A → Option B) → o ≡ Some a → (o >>= f) ≡ f a
 then f e = ap (λ r. r >>= f) e
 
+-- a part, and the marks behind it
+abbrev pub got : {X : Type 0} → X → List Mark → Read X
+got x ts = Some (x, ts)
+
 pub some_same : {A : Type 0} {a b : A} → Some a ≡ Some b → a ≡ b
 some_same e = cc
 
@@ -51,7 +55,7 @@ has_sign_sound s (Other ∷ ts) e = absurd cc
 pub name_sound : (ts : List Mark) (n : List ℕ) (u : List Mark) → read_name ts ≡ Some (n, u) → IsName n × (Word n ∷ u ≡ ts)
 name_sound [] n u e = absurd cc
 name_sound (Word w ∷ ts) n u e =
-    elim (is_reserved w) as (λ q. (is_reserved w ≡ q) → cond q None (Some (w, ts)) ≡ Some (n, u) → IsName n × (Word n ∷ u ≡ Word w ∷ ts))
+    elim (is_reserved w) as (λ q. (is_reserved w ≡ q) → cond q None (got w ts) ≡ got n u → IsName n × (Word n ∷ u ≡ Word w ∷ ts))
     [ true ↦ λ p e. absurd cc
     | false ↦ λ p e. subst (λ (r : List ℕ × List Mark). IsName r.0 × (Word r.0 ∷ r.1 ≡ Word w ∷ ts)) (some_same e) (p, refl) ] refl e
 name_sound (Sign s ∷ ts) n u e = absurd cc

@@ -13,7 +13,7 @@ use Rattle.mq_cli.specs.declared.tree.NextTerm.{NextTerm}
 use Rattle.mq_cli.specs.declared.tree.RuleTree.{RuleTree}
 use Rattle.mq_cli.specs.declared.tree.ColumnTree.{ColumnTree}
 use Rattle.mq_cli.specs.declared.tree.RowTree.{RowTree}
-use Rattle.mq_cli.proofs.Exact.{bound, then, some_same, word_sound, sign_sound, has_sign_sound, name_sound, name_full, whole_sound, Exact, NoComma, list_exact}
+use Rattle.mq_cli.proofs.Exact.{bound, then, got, some_same, word_sound, sign_sound, has_sign_sound, name_sound, name_full, whole_sound, Exact, NoComma, list_exact}
 
 -- nothing goes on with it
 abbrev pub Always : List Mark → Type 0
@@ -29,16 +29,16 @@ name_exact = record { sound = λ ts n rest e. name_sound ts n rest e; full = λ 
 -- ---- literals
 
 literal_from : (minus : Bool) (ts : List Mark) (l : Literal) (rest : List Mark)
-    → cond minus (past_sign (codes "-") ts >>= read_whole >>= (λ n. Some (literal true n.0, n.1))) (read_whole ts >>= (λ n. Some (literal false n.0, n.1))) ≡ Some (l, rest)
+    → cond minus (past_sign (codes "-") ts >>= read_whole >>= (λ n. got (literal true n.0) n.1)) (read_whole ts >>= (λ n. got (literal false n.0) n.1)) ≡ got l rest
     → literal_spelled l rest ≡ ts
 literal_from true ts l rest e =
-    let b = bound (past_sign (codes "-") ts >>= read_whole) (λ n. Some (literal true n.0, n.1)) (l, rest) e in
+    let b = bound (past_sign (codes "-") ts >>= read_whole) (λ n. got (literal true n.0) n.1) (l, rest) e in
     let a = bound (past_sign (codes "-") ts) read_whole b.0 b.1 in
     let k : ◌≡◌ {A = Literal × List Mark} (literal true b.0.0, b.0.1) (l, rest) = some_same b.2 in
     ap (λ (p : Literal × List Mark). literal_spelled p.0 p.1) (sym k)
     ∙ ap (λ t. Sign (codes "-") ∷ t) (whole_sound a.0 b.0.0 b.0.1 a.2) ∙ sign_sound (codes "-") ts a.0 a.1
 literal_from false ts l rest e =
-    let b = bound (read_whole ts) (λ n. Some (literal false n.0, n.1)) (l, rest) e in
+    let b = bound (read_whole ts) (λ n. got (literal false n.0) n.1) (l, rest) e in
     let k : ◌≡◌ {A = Literal × List Mark} (literal false b.0.0, b.0.1) (l, rest) = some_same b.2 in
     ap (λ (p : Literal × List Mark). literal_spelled p.0 p.1) (sym k) ∙ whole_sound ts b.0.0 b.0.1 b.1
 
@@ -88,7 +88,7 @@ cell_exact = record { sound = cell_sound; full = cell_full; longer = cell_longer
 -- ---- terms
 
 term_from : (literal : Bool) (ts : List Mark) (t : Term) (rest : List Mark)
-    → cond literal (read_literal ts >>= (λ l. Some (term.Literal l.0, l.1))) (read_cell ts >>= (λ c. Some (term.Cell c.0, c.1))) ≡ Some (t, rest)
+    → cond literal (read_literal ts >>= (λ l. got (term.Literal l.0) l.1)) (read_cell ts >>= (λ c. got (term.Cell c.0) c.1)) ≡ got t rest
     → IsTerm t × (term_spelled t rest ≡ ts)
 term_from true ts t rest e =
     let b = bound (read_literal ts) _ _ e in
@@ -108,9 +108,9 @@ begins false n rest = refl
 term_full : (t : Term) (rest : List Mark) → IsTerm t → Always rest → read_term (term_spelled t rest) ≡ Some (t, rest)
 unfolding read_term
 term_full (term.Literal l) rest is stops =
-    ap (λ q. cond q (read_literal (literal_spelled l rest) >>= (λ l. Some (term.Literal l.0, l.1))) (read_cell (literal_spelled l rest) >>= (λ c. Some (term.Cell c.0, c.1)))) (begins l.minus l.whole rest)
-    ∙ then (λ l. Some (term.Literal l.0, l.1)) (literal_full l.minus l.whole rest)
-term_full (term.Cell c) rest is stops = then (λ c. Some (term.Cell c.0, c.1)) (cell_full c rest is tt)
+    ap (λ q. cond q (read_literal (literal_spelled l rest) >>= (λ l. got (term.Literal l.0) l.1)) (read_cell (literal_spelled l rest) >>= (λ c. got (term.Cell c.0) c.1))) (begins l.minus l.whole rest)
+    ∙ then (λ l. got (term.Literal l.0) l.1) (literal_full l.minus l.whole rest)
+term_full (term.Cell c) rest is stops = then (λ c. got (term.Cell c.0) c.1) (cell_full c rest is tt)
 
 term_longer : (t : Term) (rest : List Mark) → length rest ≤ length (term_spelled t rest)
 term_longer (term.Literal l) rest = literal_longer l.minus l.whole rest
@@ -131,7 +131,7 @@ terms_sound : (n : ℕ) (found : List NextTerm) (ts : List Mark) (r : List NextT
 terms_sound zero found ts r rest e = absurd cc
 terms_sound (suc n) found ts r rest e =
     let minus = has_sign (codes "-") ts in
-    elim (has_sum_sign ts) as (λ q. (has_sum_sign ts ≡ q) → cond q (read_term (drop 1 ts) >>= (λ t. terms_from n (found ++ next minus t.0 ∷ []) t.1)) (Some (found, ts)) ≡ Some (r, rest)
+    elim (has_sum_sign ts) as (λ q. (has_sum_sign ts ≡ q) → cond q (read_term (drop 1 ts) >>= (λ t. terms_from n (found ++ next minus t.0 ∷ []) t.1)) (got found ts) ≡ got r rest
         → (xs : List NextTerm) × (r ≡ found ++ xs) × IsEach IsNext xs × (all_spelled next_spelled xs rest ≡ ts))
     [ true ↦ λ sign e.
         let b = bound (read_term (drop 1 ts)) (λ t. terms_from n (found ++ next minus t.0 ∷ []) t.1) (r, rest) e in

@@ -12,7 +12,7 @@ use Rattle.mq_cli.specs.declared.tree.ModelTree.{ModelTree}
 use Rattle.mq_cli.specs.declared.tree.SelectTree.{SelectTree}
 use Rattle.mq_cli.specs.declared.tree.Tree.{Tree}
 use Rattle.mq_cli.specs.declared.tree.Tree.TheVariants as tree
-use Rattle.mq_cli.proofs.Exact.{bound, then, some_same, word_sound, sign_sound, name_sound, name_full, Exact, NoComma, list_exact}
+use Rattle.mq_cli.proofs.Exact.{bound, then, got, some_same, word_sound, sign_sound, name_sound, name_full, Exact, NoComma, list_exact}
 use Rattle.mq_cli.proofs.ExactParts.{Always, NoSign, name_exact, rule_exact, column_exact, row_exact}
 
 abbrev names : Exact (read_list read_name) (list_spelled name_spelled) (IsList IsName) (λ ts. NoComma ts × Always ts)
@@ -149,7 +149,7 @@ model_full m rest is =
 order_sound : (ts : List Mark) (o : Option (List ℕ)) (rest : List Mark) → read_order ts ≡ Some (o, rest) → IsOrder o × (order_spelled o rest ≡ ts)
 unfolding read_order
 order_sound ts o rest e =
-    elim (has_word (codes "ORDER") ts) as (λ q. cond q (past_word (codes "ORDER") ts >>= past_word (codes "BY") >>= read_name >>= (λ n. Some (Some n.0, n.1))) (Some (None, ts)) ≡ Some (o, rest) → IsOrder o × (order_spelled o rest ≡ ts))
+    elim (has_word (codes "ORDER") ts) as (λ q. cond q (past_word (codes "ORDER") ts >>= past_word (codes "BY") >>= read_name >>= (λ n. got (Some n.0) n.1)) (got None ts) ≡ got o rest → IsOrder o × (order_spelled o rest ≡ ts))
     [ true ↦ λ e.
         let n = bound (past_word (codes "ORDER") ts >>= past_word (codes "BY") >>= read_name) _ _ e in
         let b = bound (past_word (codes "ORDER") ts >>= past_word (codes "BY")) read_name _ n.1 in
@@ -162,7 +162,7 @@ order_sound ts o rest e =
 order_full : (o : Option (List ℕ)) → IsOrder o → read_order (order_spelled o []) ≡ Some (o, [])
 unfolding read_order
 order_full None is = refl
-order_full (Some n) is = then (λ n. Some (Some n.0, n.1)) (name_full n [] is)
+order_full (Some n) is = then (λ n. got (Some n.0) n.1) (name_full n [] is)
 
 select_sound : (ts : List Mark) (t : SelectTree) (rest : List Mark) → read_select ts ≡ Some (t, rest) → IsSelect t × (select_spelled t rest ≡ ts)
 unfolding read_select
@@ -197,7 +197,7 @@ select_full t is =
 -- ---- statements
 
 tree_from : (create insert : Bool) (ts : List Mark) (t : Tree) (rest : List Mark)
-    → cond create (read_create ts >>= (λ t. Some (tree.Create t.0, t.1))) (cond insert (read_insert ts >>= (λ t. Some (tree.Insert t.0, t.1))) (read_select ts >>= (λ t. Some (tree.Select t.0, t.1)))) ≡ Some (t, rest)
+    → cond create (read_create ts >>= (λ t. got (tree.Create t.0) t.1)) (cond insert (read_insert ts >>= (λ t. got (tree.Insert t.0) t.1)) (read_select ts >>= (λ t. got (tree.Select t.0) t.1))) ≡ got t rest
     → IsTree t × (tree_spelled t rest ≡ ts)
 tree_from true insert ts t rest e =
     let b = bound (read_create ts) _ _ e in
@@ -215,9 +215,9 @@ tree_sound ts t rest e = tree_from (has_word (codes "CREATE") ts) (has_word (cod
 
 tree_full : (t : Tree) → IsTree t → read_tree (tree_spelled t []) ≡ Some (t, [])
 unfolding read_tree
-tree_full (tree.Create t) is = then (λ t. Some (tree.Create t.0, t.1)) (create_full t [] is)
-tree_full (tree.Insert t) is = then (λ t. Some (tree.Insert t.0, t.1)) (insert_full t [] is refl)
-tree_full (tree.Select t) is = then (λ t. Some (tree.Select t.0, t.1)) (select_full t is)
+tree_full (tree.Create t) is = then (λ t. got (tree.Create t.0) t.1) (create_full t [] is)
+tree_full (tree.Insert t) is = then (λ t. got (tree.Insert t.0) t.1) (insert_full t [] is refl)
+tree_full (tree.Select t) is = then (λ t. got (tree.Select t.0) t.1) (select_full t is)
 
 all_read : (p : Tree × List Mark) (t : Tree) → whole_tree p ≡ Some t → p ≡ (t, [])
 all_read (s, []) t e = ap (λ s. (s, [])) (some_same e)

@@ -2,6 +2,7 @@ pub mod CatalogLemmas
 pub mod Exact
 pub mod ExactParts
 pub mod ExactStatements
+pub mod ExactReadingLemmas
 pub mod LineLemmas
 pub mod ListLemmas
 pub mod MarkLemmas

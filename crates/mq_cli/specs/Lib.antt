@@ -1,4 +1,5 @@
 pub mod Binding
+pub mod ExactReading
 pub mod Fitting
 pub mod Grammar
 pub mod Marks

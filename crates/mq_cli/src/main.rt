@@ -8,6 +8,7 @@ mod binding;
 mod binds;
 mod catalog;
 mod fitting;
+mod laws;
 mod lines;
 mod lists;
 mod marks;
