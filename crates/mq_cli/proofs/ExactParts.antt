@@ -1,7 +1,7 @@
 -- The reader of each part of a statement is exact.
-use Rattle.std.proofs.Common.{◌≡◌, ℕ, zero, suc, ◌+◌, ◌≤◌, Bool, true, false, cond, ◌||◌, List, [], ◌∷◌, ◌++◌, Option, None, Some, length, drop, codes, refl, sym, ap, ◌∙◌, subst, arith, append_assoc, append-nil}
-use Rattle.mq_cli.specs.Marks.{Mark, Word, Sign, Whole, Other}
-use Rattle.mq_cli.specs.Reading.{◌>>=◌, Read, past_word, past_sign, has_sign, has_whole, read_name, read_whole, read_list}
+use Rattle.std.proofs.Common.{◌≡◌, ℕ, zero, suc, ◌+◌, ◌≤◌, Bool, true, false, cond, ◌||◌, List, [], ◌∷◌, ◌++◌, Some, length, drop, codes, refl, sym, ap, ◌∙◌, subst, arith, append_assoc, append-nil}
+use Rattle.mq_cli.specs.Marks.{Mark, Word, Sign}
+use Rattle.mq_cli.specs.Reading.{◌>>=◌, past_word, past_sign, has_sign, read_name, read_whole, read_list}
 use Rattle.mq_cli.specs.Grammar.{literal, read_literal, read_cell, read_term, begins_literal, has_sum_sign, terms_from, read_terms, read_rule, read_column, read_row}
 use Rattle.mq_cli.specs.Spelling.{word, name_spelled, literal_spelled, cell_spelled, term_spelled, next_spelled, all_spelled, rule_spelled, column_spelled, row_spelled, list_spelled}
 use Rattle.mq_cli.specs.Trees.{IsEach, IsList, IsName, IsLiteral, IsCell, IsTerm, IsNext, IsRule, IsColumn, IsRow}

@@ -1,11 +1,11 @@
 -- The laws of exact reading.
-use Rattle.std.proofs.Common.{◌≡◌, ◌≢◌, ℕ, Bool, true, false, List, [], ◌∷◌, ◌++◌, map, length, Option, None, Some, refl, sym, ap, ◌∙◌}
+use Rattle.std.proofs.Common.{◌≡◌, ◌≢◌, ℕ, false, List, [], ◌∷◌, ◌++◌, map, length, None, Some, refl, sym, ap, ◌∙◌}
 use Rattle.std.specs.List.{list_any}
 use Rattle.mq_values.specs.declared.value.Value.{Value}
 use Rattle.mq_lexer.specs.Lexemes.{Lexeme}
 use Rattle.mq_lexer.specs.Statements.{Statement}
 use Rattle.mq_ir.specs.Answer.{answer_of}
-use Rattle.mq_ir.specs.Lines.{Line, RowLine, RowCount, SyntaxError}
+use Rattle.mq_ir.specs.Lines.{RowLine, RowCount, SyntaxError}
 use Rattle.mq_ir.specs.Statement.{step, answer_lines}
 use Rattle.mq_ir.specs.Tables.{Tables}
 use Rattle.mq_ir.specs.declared.query.Answer.{Answer}

@@ -1,7 +1,7 @@
 -- The reader of statements is exact.
-use Rattle.std.proofs.Common.{◌≡◌, ◌↔◌, ℕ, ◌≤◌, Bool, true, false, cond, List, [], ◌∷◌, Option, None, Some, length, drop, codes, refl, sym, ap, ◌∙◌, subst, arith}
-use Rattle.mq_cli.specs.Marks.{Mark, Word, Sign, Whole, Other}
-use Rattle.mq_cli.specs.Reading.{◌>>=◌, Read, past_word, past_sign, has_word, read_name, read_list}
+use Rattle.std.proofs.Common.{◌≡◌, ◌↔◌, ℕ, Bool, true, false, cond, List, [], ◌∷◌, Option, None, Some, codes, refl, ap, ◌∙◌, subst}
+use Rattle.mq_cli.specs.Marks.{Mark, Word, Sign}
+use Rattle.mq_cli.specs.Reading.{◌>>=◌, past_word, past_sign, has_word, read_name, read_list}
 use Rattle.mq_cli.specs.Grammar.{read_rule, read_column, read_row, read_create, read_insert, read_name_in_brackets, read_rules, read_model, read_order, read_select, read_tree, whole_tree, read}
 use Rattle.mq_cli.specs.Spelling.{word, name_spelled, rule_spelled, column_spelled, row_spelled, list_spelled, create_spelled, insert_spelled, brackets_spelled, rules_spelled, model_spelled, order_spelled, select_spelled, tree_spelled}
 use Rattle.mq_cli.specs.Trees.{IsList, IsName, IsRule, IsColumn, IsRow, IsCreate, IsInsert, IsModel, IsOrder, IsSelect, IsTree}

@@ -1,5 +1,5 @@
 -- The laws of exact reading: what is read is what the grammar spells, and SYNTAX comes for all else.
-use Rattle.std.specs.Prelude.{◌≡◌, ◌≢◌, ◌↔◌, ℕ, Bool, true, false, List, [], ◌∷◌, Option, Some, None}
+use Rattle.std.specs.Prelude.{◌≡◌, ◌≢◌, ◌↔◌, Bool, true, false, List, [], ◌∷◌, Some, None}
 use Rattle.std.specs.List.{list_any}
 use Rattle.mq_lexer.specs.Statements.{Statement}
 use Rattle.mq_ir.specs.Lines.{Line, SyntaxError}
