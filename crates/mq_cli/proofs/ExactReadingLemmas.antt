@@ -1,5 +1,5 @@
 -- The laws of exact reading.
-use Rattle.std.proofs.Common.{◌≡◌, ◌≢◌, ℕ, false, List, [], ◌∷◌, ◌++◌, map, length, None, Some, refl, sym, ap, ◌∙◌}
+use Rattle.std.proofs.Common.{◌≡◌, ◌≢◌, ℕ, Bool, true, false, List, [], ◌∷◌, ◌++◌, map, length, Option, None, Some, is_some, refl, sym, ap, ◌∙◌}
 use Rattle.std.specs.List.{list_any}
 use Rattle.mq_values.specs.declared.value.Value.{Value}
 use Rattle.mq_lexer.specs.Lexemes.{Lexeme}
@@ -13,6 +13,7 @@ use Rattle.mq_ir.specs.declared.query.Answer.TheVariants.{Rows, Fault}
 use Rattle.mq_ir.specs.declared.statement.Bound.{Bound}
 use Rattle.mq_ir.specs.declared.statement.Bound.TheVariants as bound
 use Rattle.mq_cli.specs.Binding.{bound_of}
+use Rattle.mq_cli.specs.Fits.{Fits}
 use Rattle.mq_cli.specs.Grammar.{read}
 use Rattle.mq_cli.specs.Marks.{Mark, marks}
 use Rattle.mq_cli.specs.Reading.{◌>>=◌}
@@ -22,6 +23,7 @@ use Rattle.mq_cli.specs.Trees.{IsTree}
 use Rattle.mq_cli.specs.ExactReading.{ReadsExactly, RefusesExactly, is_syntax}
 use Rattle.mq_cli.specs.declared.tree.Tree.{Tree}
 use Rattle.mq_cli.proofs.ExactStatements.{exact}
+use Rattle.mq_cli.proofs.FitsLemmas.{binds_exactly}
 
 spelled_is_read : (t : Tree) → IsTree t → read (spelled t) ≡ Some t
 spelled_is_read t is = (exact (spelled t) t).1 (is, refl)
@@ -50,22 +52,32 @@ reads_exactly = record {
   one_tree = one_tree;
 }
 
-no_meaning : (tables : Tables) (tokens : List Lexeme) → ((t : Tree) → IsTree t → spelled t ≡ marks tokens → bound_of tables t ≡ None)
+not_bound : (tables : Tables) (t : Tree) → (Fits tables t → ⊥) → bound_of tables t ≡ None
+not_bound tables t none =
+    elim (bound_of tables t) as (λ o. (bound_of tables t ≡ o) → o ≡ None)
+    [ None ↦ λ e. refl | Some b ↦ λ e. absurd (none ((binds_exactly tables t).0 (ap is_some e))) ] refl
+
+is_bound : (o : Option Bound) → is_some o ≡ true → (b : Bound) × (o ≡ Some b)
+is_bound None e = absurd cc
+is_bound (Some b) e = (b, refl)
+
+no_meaning : (tables : Tables) (tokens : List Lexeme) → ((t : Tree) → IsTree t → spelled t ≡ marks tokens → Fits tables t → ⊥)
     → meaning_of tables tokens ≡ None
 no_meaning tables tokens none =
     elim (read (marks tokens)) as (λ r. (read (marks tokens) ≡ r) → (r >>= bound_of tables) ≡ None)
-    [ None ↦ λ e. refl | Some t ↦ λ e. let h = read_is_spelled (marks tokens) t e in none t h.0 h.1 ] refl
+    [ None ↦ λ e. refl | Some t ↦ λ e. let h = read_is_spelled (marks tokens) t e in not_bound tables t (none t h.0 h.1) ] refl
 
-refused : (tables : Tables) (s : Statement) → ((t : Tree) → IsTree t → spelled t ≡ marks s.tokens → bound_of tables t ≡ None)
+refused : (tables : Tables) (s : Statement) → ((t : Tree) → IsTree t → spelled t ≡ marks s.tokens → Fits tables t → ⊥)
     → statement_step tables s ≡ (tables, SyntaxError s.line ∷ [])
 unfolding statement_step
 refused tables s none = ap (bound_step tables s.line) (no_meaning tables s.tokens none)
 
-done : (tables : Tables) (s : Statement) (t : Tree) (b : Bound) → IsTree t → spelled t ≡ marks s.tokens → bound_of tables t ≡ Some b
-    → statement_step tables s ≡ step tables b
+done : (tables : Tables) (s : Statement) (t : Tree) → IsTree t → spelled t ≡ marks s.tokens → Fits tables t
+    → (b : Bound) × (bound_of tables t ≡ Some b) × (statement_step tables s ≡ step tables b)
 unfolding statement_step
-done tables s t b is e fits =
-    ap (bound_step tables s.line) (ap (λ r. r >>= bound_of tables) ((exact (marks s.tokens) t).1 (is, e)) ∙ fits)
+done tables s t is e fits =
+    let b = is_bound (bound_of tables t) ((binds_exactly tables t).1 fits) in
+    (b.0, b.1, ap (bound_step tables s.line) (ap (λ r. r >>= bound_of tables) ((exact (marks s.tokens) t).1 (is, e)) ∙ b.1))
 
 rows_are_no_syntax : (rows : List (List Value)) (n : ℕ) → list_any is_syntax (map RowLine rows ++ RowCount n ∷ []) ≡ false
 rows_are_no_syntax [] n = refl

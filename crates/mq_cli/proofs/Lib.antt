@@ -3,6 +3,7 @@ pub mod Exact
 pub mod ExactParts
 pub mod ExactStatements
 pub mod ExactReadingLemmas
+pub mod FitsLemmas
 pub mod LineLemmas
 pub mod ListLemmas
 pub mod MarkLemmas

@@ -1,5 +1,6 @@
 pub mod Binding
 pub mod ExactReading
+pub mod Fits
 pub mod Fitting
 pub mod Grammar
 pub mod Marks
