@@ -1,5 +1,5 @@
 -- The laws of exact reading.
-use Rattle.std.proofs.Common.{◌≡◌, ◌≢◌, ℕ, Bool, true, false, List, [], ◌∷◌, ◌++◌, map, length, Option, None, Some, is_some, refl, sym, ap, ◌∙◌}
+use Rattle.std.proofs.Common.{◌≡◌, ◌≢◌, ℕ, true, false, List, [], ◌∷◌, ◌++◌, map, length, Option, None, Some, is_some, refl, sym, ap, ◌∙◌}
 use Rattle.std.specs.List.{list_any}
 use Rattle.mq_values.specs.declared.value.Value.{Value}
 use Rattle.mq_lexer.specs.Lexemes.{Lexeme}
@@ -22,7 +22,7 @@ use Rattle.mq_cli.specs.Spelling.{spelled}
 use Rattle.mq_cli.specs.Trees.{IsTree}
 use Rattle.mq_cli.specs.ExactReading.{ReadsExactly, RefusesExactly, is_syntax}
 use Rattle.mq_cli.specs.declared.tree.Tree.{Tree}
-use Rattle.mq_cli.proofs.ExactStatements.{exact}
+use Rattle.mq_cli.proofs.ExactStatementLemmas.{exact}
 use Rattle.mq_cli.proofs.FitsLemmas.{binds_exactly}
 
 spelled_is_read : (t : Tree) → IsTree t → read (spelled t) ≡ Some t

@@ -1,7 +1,7 @@
 pub mod CatalogLemmas
-pub mod Exact
-pub mod ExactParts
-pub mod ExactStatements
+pub mod ExactLemmas
+pub mod ExactPartLemmas
+pub mod ExactStatementLemmas
 pub mod ExactReadingLemmas
 pub mod FitsLemmas
 pub mod LineLemmas

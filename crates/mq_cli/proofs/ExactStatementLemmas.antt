@@ -12,8 +12,8 @@ use Rattle.mq_cli.specs.declared.tree.ModelTree.{ModelTree}
 use Rattle.mq_cli.specs.declared.tree.SelectTree.{SelectTree}
 use Rattle.mq_cli.specs.declared.tree.Tree.{Tree}
 use Rattle.mq_cli.specs.declared.tree.Tree.TheVariants as tree
-use Rattle.mq_cli.proofs.Exact.{bound, then, got, some_same, word_sound, sign_sound, name_sound, name_full, Exact, NoComma, list_exact}
-use Rattle.mq_cli.proofs.ExactParts.{Always, NoSign, name_exact, rule_exact, column_exact, row_exact}
+use Rattle.mq_cli.proofs.ExactLemmas.{bound, then, got, some_same, word_sound, sign_sound, name_sound, name_full, Exact, NoComma, list_exact}
+use Rattle.mq_cli.proofs.ExactPartLemmas.{Always, NoSign, name_exact, rule_exact, column_exact, row_exact}
 
 abbrev names : Exact (read_list read_name) (list_spelled name_spelled) (IsList IsName) (λ ts. NoComma ts × Always ts)
 names = list_exact name_exact (λ ts. tt)
@@ -40,7 +40,7 @@ create_sound ts t rest e =
     let d = bound (past_sign (codes ")") l.0.1) _ _ l.2 in
     let sn = name_sound b.0 n.0.0 n.0.1 n.1 in
     let sl = columns.sound c.0 l.0.0 l.0.1 l.1 in
-    subst (λ (p : CreateTree × List Mark). IsCreate p.0 × (create_spelled p.0 p.1 ≡ ts)) (some_same d.2)
+    subst (λ (p : CreateTree × List Mark). IsCreate p.0 × (create_spelled p.0 p.1 ≡ ts)) {x = (record { name = n.0.0; columns = l.0.0 }, d.0)} (some_same d.2)
       ((sn.0, sl.0),
         ap (λ u. word (codes "CREATE") (word (codes "TABLE") (Word n.0.0 ∷ Sign (codes "(") ∷ list_spelled column_spelled l.0.0 u))) (sign_sound (codes ")") l.0.1 d.0 d.1)
         ∙ ap (λ u. word (codes "CREATE") (word (codes "TABLE") (Word n.0.0 ∷ Sign (codes "(") ∷ u))) sl.1
@@ -67,7 +67,7 @@ insert_sound ts t rest e =
     let l = bound (read_list read_row c.0) _ _ c.2 in
     let sn = name_sound b.0 n.0.0 n.0.1 n.1 in
     let sl = rows.sound c.0 l.0.0 l.0.1 l.1 in
-    subst (λ (p : InsertTree × List Mark). IsInsert p.0 × (insert_spelled p.0 p.1 ≡ ts)) (some_same l.2)
+    subst (λ (p : InsertTree × List Mark). IsInsert p.0 × (insert_spelled p.0 p.1 ≡ ts)) {x = (record { table = n.0.0; rows = l.0.0 }, l.0.1)} (some_same l.2)
       ((sn.0, sl.0),
         ap (λ u. word (codes "INSERT") (word (codes "INTO") (Word n.0.0 ∷ word (codes "VALUES") u))) sl.1
         ∙ ap (λ u. word (codes "INSERT") (word (codes "INTO") (Word n.0.0 ∷ u))) (word_sound (codes "VALUES") n.0.1 c.0 c.1)
@@ -106,7 +106,7 @@ rules_sound ts rs rest e =
     let l = bound (read_list read_rule b.0) _ _ b.2 in
     let c = bound (past_sign (codes ")") l.0.1) _ _ l.2 in
     let s = rules.sound b.0 l.0.0 l.0.1 l.1 in
-    subst (λ (p : List RuleTree × List Mark). IsList IsRule p.0 × (rules_spelled p.0 p.1 ≡ ts)) (some_same c.2)
+    subst (λ (p : List RuleTree × List Mark). IsList IsRule p.0 × (rules_spelled p.0 p.1 ≡ ts)) {x = (l.0.0, c.0)} (some_same c.2)
       (s.0, ap (λ u. word (codes "RULES") (Sign (codes "(") ∷ list_spelled rule_spelled l.0.0 u)) (sign_sound (codes ")") l.0.1 c.0 c.1)
         ∙ ap (λ u. word (codes "RULES") (Sign (codes "(") ∷ u)) s.1
         ∙ ap (word (codes "RULES")) (sign_sound (codes "(") a.0 b.0 b.1) ∙ word_sound (codes "RULES") ts a.0 a.1)
@@ -128,7 +128,7 @@ model_sound ts m rest e =
     let sd = brackets_sound c.0 d.0.0 d.0.1 d.1 in
     let sg = brackets_sound f.0 g.0.0 g.0.1 g.1 in
     let sr = rules_sound g.0.1 r.0.0 r.0.1 r.1 in
-    subst (λ (p : ModelTree × List Mark). IsModel p.0 × (model_spelled p.0 p.1 ≡ ts)) (some_same r.2)
+    subst (λ (p : ModelTree × List Mark). IsModel p.0 × (model_spelled p.0 p.1 ≡ ts)) {x = (record { dimension = d.0.0; measure = g.0.0; rules = r.0.0 }, r.0.1)} (some_same r.2)
       ((sd.0, sg.0, sr.0),
         ap (λ u. word (codes "MODEL") (word (codes "DIMENSION") (word (codes "BY") (brackets_spelled d.0.0 (word (codes "MEASURES") (brackets_spelled g.0.0 u)))))) sr.1
         ∙ ap (λ u. word (codes "MODEL") (word (codes "DIMENSION") (word (codes "BY") (brackets_spelled d.0.0 (word (codes "MEASURES") u))))) sg.1
@@ -177,7 +177,7 @@ select_sound ts t rest e =
     let sn = name_sound b.0 n.0.0 n.0.1 n.1 in
     let sm = model_sound n.0.1 m.0.0 m.0.1 m.1 in
     let so = order_sound m.0.1 o.0.0 o.0.1 o.1 in
-    subst (λ (p : SelectTree × List Mark). IsSelect p.0 × (select_spelled p.0 p.1 ≡ ts)) (some_same o.2)
+    subst (λ (p : SelectTree × List Mark). IsSelect p.0 × (select_spelled p.0 p.1 ≡ ts)) {x = (record { printed = l.0.0; table = n.0.0; model = m.0.0; order = o.0.0 }, o.0.1)} (some_same o.2)
       ((sl.0, sn.0, sm.0, so.0),
         ap (λ u. word (codes "SELECT") (list_spelled name_spelled l.0.0 (word (codes "FROM") (Word n.0.0 ∷ model_spelled m.0.0 u)))) so.1
         ∙ ap (λ u. word (codes "SELECT") (list_spelled name_spelled l.0.0 (word (codes "FROM") (Word n.0.0 ∷ u)))) sm.1

@@ -13,7 +13,7 @@ use Rattle.mq_cli.specs.declared.tree.NextTerm.{NextTerm}
 use Rattle.mq_cli.specs.declared.tree.RuleTree.{RuleTree}
 use Rattle.mq_cli.specs.declared.tree.ColumnTree.{ColumnTree}
 use Rattle.mq_cli.specs.declared.tree.RowTree.{RowTree}
-use Rattle.mq_cli.proofs.Exact.{bound, then, got, some_same, word_sound, sign_sound, has_sign_sound, name_sound, name_full, whole_sound, Exact, NoComma, list_exact}
+use Rattle.mq_cli.proofs.ExactLemmas.{bound, then, got, some_same, word_sound, sign_sound, has_sign_sound, name_sound, name_full, whole_sound, Exact, NoComma, list_exact}
 
 -- nothing goes on with it
 abbrev pub Always : List Mark → Type 0
