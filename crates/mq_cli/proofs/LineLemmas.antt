@@ -39,3 +39,19 @@ joined_first c x = refl
 pub joined_next : (c : ℕ) (a : Value) (xs : List Value) (x : Value) → joined_by c ((a ∷ xs) ++ x ∷ []) ≡ joined_by c (a ∷ xs) ++ (c ∷ printed x)
 joined_next c a [] x = refl
 joined_next c a (b ∷ xs) x = ap (λ t. printed a ++ (c ∷ t)) (joined_next c b xs x) ∙ sym (append_assoc (printed a) (c ∷ joined_by c (b ∷ xs)) (c ∷ printed x))
+
+regrouped : (o a b c d e f g h i : List ℕ) → ((((((((o ++ a) ++ b) ++ c) ++ d) ++ e) ++ f) ++ g) ++ h) ++ i ≡ o ++ ((a ++ (b ++ (c ++ (d ++ (e ++ (f ++ (g ++ h))))))) ++ i)
+regrouped o a b c d e f g h i = simp append_assoc
+
+-- nine pieces, one after another
+pub nine_pieces : (o o1 o2 o3 o4 o5 o6 o7 o8 o9 a b c d e f g h i : List ℕ) → o1 ≡ o ++ a → o2 ≡ o1 ++ b → o3 ≡ o2 ++ c → o4 ≡ o3 ++ d → o5 ≡ o4 ++ e → o6 ≡ o5 ++ f → o7 ≡ o6 ++ g → o8 ≡ o7 ++ h → o9 ≡ o8 ++ i
+    → o9 ≡ o ++ ((a ++ (b ++ (c ++ (d ++ (e ++ (f ++ (g ++ h))))))) ++ i)
+nine_pieces o o1 o2 o3 o4 o5 o6 o7 o8 o9 a b c d e f g h i p1 p2 p3 p4 p5 p6 p7 p8 p9 =
+    let q2 = p2 ∙ ap (λ (t : List ℕ). t ++ b) p1 in
+    let q3 = p3 ∙ ap (λ (t : List ℕ). t ++ c) q2 in
+    let q4 = p4 ∙ ap (λ (t : List ℕ). t ++ d) q3 in
+    let q5 = p5 ∙ ap (λ (t : List ℕ). t ++ e) q4 in
+    let q6 = p6 ∙ ap (λ (t : List ℕ). t ++ f) q5 in
+    let q7 = p7 ∙ ap (λ (t : List ℕ). t ++ g) q6 in
+    let q8 = p8 ∙ ap (λ (t : List ℕ). t ++ h) q7 in
+    p9 ∙ ap (λ (t : List ℕ). t ++ i) q8 ∙ regrouped o a b c d e f g h i

@@ -1,11 +1,29 @@
 -- Reading lists and sums, one part after another.
-use Rattle.std.proofs.Common.{◌≡◌, ℕ, zero, suc, ◌+◌, ◌-◌, ◌<◌, ◌≤◌, Bool, true, false, cond, List, [], ◌∷◌, ◌++◌, Option, None, Some, length, drop, codes, refl, arith, ap, ◌∙◌, sym, subst, length-drop}
+use Rattle.std.proofs.Common.{◌≡◌, ℕ, zero, suc, ◌+◌, ◌-◌, ◌<◌, ◌≤◌, Bool, true, false, cond, List, [], ◌∷◌, ◌++◌, Option, None, Some, length, drop, map, codes, refl, arith, ap, ◌∙◌, sym, subst, length-drop}
 use Rattle.std.proofs.lemmas.List.{drop-drop}
-use Rattle.mq_cli.specs.Marks.{Mark}
-use Rattle.mq_cli.specs.Reading.{◌>>=◌, Read, has_sign, list_from, read_list}
-use Rattle.mq_cli.specs.Grammar.{has_sum_sign, read_term, terms_from, read_terms}
+use Rattle.mq_cli.specs.Marks.{Mark, marks}
+use Rattle.std.specs.Prelude.{Err}
+use Rattle.mq_values.specs.declared.memory.Fail.{Fail}
+use Rattle.mq_values.specs.declared.memory.Fail.TheVariants as fail
+use Rattle.mq_lexer.specs.declared.sorts.Token.{Token}
+use Rattle.mq_lexer.specs.Lexemes.{lexeme}
+use Rattle.mq_cli.specs.declared.marks.NoStatement.{NoStatement}
+use Rattle.mq_cli.specs.declared.tree.Tree.{Tree}
+use Rattle.mq_cli.specs.Reading.{◌>>=◌, Read, Reads, has_sign, list_from, read_list}
+use Rattle.mq_cli.specs.Grammar.{has_sum_sign, read_term, terms_from, read_terms, whole_tree}
 use Rattle.mq_cli.specs.declared.tree.NextTerm.{NextTerm}
 use Rattle.mq_cli.specs.declared.tree.Term.{Term}
+
+-- an error of a part is one of the whole, where without the part there is no whole
+pub exit : {X Y : Type 0} (all : List Mark) {part : Read X} {whole : Read Y} (f : Fail NoStatement) → Reads all (Err f) part → (part ≡ None → whole ≡ None) → Reads all (Err f) whole
+exit all (fail.Cause e) r k = k r
+exit all fail.Memory r k = tt
+
+-- a mark stands at each place of a token
+pub longer : (ts : List Token) (to : ℕ) → to < length ts → to < length (marks (map lexeme ts))
+longer [] to less = absurd (omega arith)
+longer (x ∷ ts) zero less = omega arith
+longer (x ∷ ts) (suc to) less = omega (arith, longer ts to (omega arith))
 
 module _ {X : Type 0} (read : List Mark → Read X) where
   -- behind an item: what follows a comma, or the end of the list
@@ -98,3 +116,9 @@ terms_stop all at to found so none =
     let some : (n : ℕ) × (so.left ≡ suc n) = (so.left - 1, omega (arith, so.enough)) in
     sym so.same ∙ ap (λ n. terms_from n found (drop to all)) some.1
     ∙ ap (λ b. cond b (read_term (drop 1 (drop to all)) >>= (λ t. terms_from some.0 (found ++ next_term (has_sign (codes "-") (drop to all)) t.0 ∷ []) t.1)) (Some (found, drop to all))) none
+
+-- tokens behind a statement make it none
+pub whole_none : (t : Tree) (ts : List Token) (to : ℕ) → to < length ts → whole_tree (t, drop to (marks (map lexeme ts))) ≡ None
+whole_none t [] to less = absurd (omega arith)
+whole_none t (x ∷ ts) zero less = refl
+whole_none t (x ∷ ts) (suc to) less = whole_none t ts to (omega arith)

@@ -15,10 +15,10 @@ front_later m all at None p = p
 front_later m all at (Some t) p = let e : suc at + 1 ≡ suc (at + 1) = omega arith in rw e p
 
 -- what stands at a place
-pub front_some : (ts : List Token) (at : ℕ) (t : Token) → at < length ts → t ≡ get_or ts at t → Front (marks (map lexeme ts)) at (Some t)
-front_some [] at t less e = absurd (omega arith)
-front_some (x ∷ ts) zero t less e = ap (λ u. mark_of (lexeme u) ∷ marks (map lexeme ts)) (sym e)
-front_some (x ∷ ts) (suc at) t less e = front_later (mark_of (lexeme x)) (marks (map lexeme ts)) at (Some t) (front_some ts at t (omega arith) e)
+pub front_some : (ts : List Token) (at : ℕ) (t : Token) → at < length ts → Front (marks (map lexeme ts)) at (Some (get_or ts at t))
+front_some [] at t less = absurd (omega arith)
+front_some (x ∷ ts) zero t less = refl
+front_some (x ∷ ts) (suc at) t less = front_later (mark_of (lexeme x)) (marks (map lexeme ts)) at (Some (get_or ts at t)) (front_some ts at t (omega arith))
 
 pub front_none : (ts : List Token) (at : ℕ) → length ts ≤ at → Front (marks (map lexeme ts)) at None
 front_none [] zero less = refl

@@ -1,7 +1,8 @@
 //! Binds the names of a statement to the tables as they stand.
 
-ghost use Rattle.std.specs.Prelude.{◌≡◌, [], ◌∷◌, IfOk, IfSome, map};
+ghost use Rattle.std.specs.Prelude.{◌≡◌, [], ◌∷◌, IfOk, IfSome, map, position};
 ghost use Rattle.mq_cli.specs.Binding as spec;
+ghost use Rattle.mq_cli.specs.Fitting.{has_name};
 ghost use Rattle.mq_ir.specs.Tables.{table_at};
 
 use crate::binds::{Binds, each};
@@ -30,6 +31,7 @@ pub fn bind(alloc: Global, catalog: &Catalog, tree: &Tree) -> Result<Option<Boun
     }
 }
 
+#[tactic(auto, unfolding(crate::specs::Binding::table_def))]
 fn bind_create(
     alloc: Global,
     catalog: &Catalog,
@@ -137,10 +139,13 @@ fn item_of(columns: &[Column], name: &Words) -> Result<Expr, Memory>
 fn column_number(columns: &[Column], name: &Words) -> usize
     ensures { result ≡ spec.column_number columns.now name.now }
 {
-    columns
-        .iter()
-        .position(|column| *name == column.name)
-        .unwrap_or(0)
+    place_of(columns, name).unwrap_or(0)
+}
+
+fn place_of(columns: &[Column], name: &Words) -> Option<usize>
+    ensures { result ≡ position (has_name name.now) columns.now }
+{
+    columns.iter().position(|column| *name == column.name)
 }
 
 fn model_of(alloc: Global, model: &ModelTree) -> Result<ModelPart, Memory>

@@ -1,6 +1,6 @@
 //! The lines that statements print.
 
-ghost use Rattle.std.specs.Prelude.{◌≡◌, ◌++◌, map, decimal, OnOk};
+ghost use Rattle.std.specs.Prelude.{◌≡◌, ◌++◌, [], ◌∷◌, length, map, decimal, OnOk};
 ghost use Rattle.mq_ir.specs.Lines.{Done, Counted, RowLine, RowCount, FaultLine, SyntaxError, line_text, text_of, fault_name, joined_by, key_text};
 ghost use Rattle.mq_ir.specs.Statement.{answer_lines};
 
@@ -38,12 +38,18 @@ pub fn answer(answer: &Answer, out: &mut Vec<u8>) -> Result<(), Memory>
     ensures { OnOk result (out.new.items ≡ out.old.items ++ text_of (answer_lines answer.now)) }
 {
     match answer {
-        Answer::Rows(rows) => {
-            lines_of(rows.as_slice(), out)?;
-            row_count(rows.len(), out)
-        }
+        Answer::Rows(rows) => rows_answered(rows.as_slice(), out),
         Answer::Fault(fault) => fault_line(fault, out),
     }
+}
+
+// A line for each row, and then their number.
+fn rows_answered(rows: &[Row], out: &mut Vec<u8>) -> Result<(), Memory>
+    ensures { OnOk result (out.new.items ≡ out.old.items ++ text_of (map RowLine rows.now ++ RowCount (length rows.now) ∷ [])) }
+{
+    lines_of(rows, out)?;
+    row_count(rows.len(), out)?;
+    Ok(())
 }
 
 // A line for each row.

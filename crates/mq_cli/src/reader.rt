@@ -386,7 +386,7 @@ fn tree(
 
 /// The statement that all of the tokens are. `NoStatement` comes exactly where they are none
 /// (docs/LANGUAGE.md, "Statements").
-#[tactic(auto, unfolding(crate::specs::Grammar::read))]
+#[tactic(auto, unfolding(crate::specs::Grammar::read), using(crate::proofs::ListLemmas::whole_none))]
 pub fn read(alloc: Global, tokens: &[Token<'_>]) -> Result<Tree, Fail<NoStatement>>
     ensures { ReadsAll result (spec.read (marks (map lexeme tokens.now))) }
 {
