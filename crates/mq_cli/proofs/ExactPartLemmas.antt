@@ -68,10 +68,12 @@ cell_sound ts c rest e =
     let l = bound (read_literal a.0) _ _ a.2 in
     let b = bound (past_sign (codes "]") l.0.1) _ _ l.2 in
     let s = name_sound ts n.0.0 n.0.1 n.1 in
-    subst (λ (p : CellTree × List Mark). IsCell p.0 × (cell_spelled p.0 p.1 ≡ ts)) (some_same b.2)
-      (s.0, ap (λ t. Word n.0.0 ∷ Sign (codes "[") ∷ literal_spelled l.0.0 t) (sign_sound (codes "]") l.0.1 b.0 b.1)
-        ∙ ap (λ t. Word n.0.0 ∷ Sign (codes "[") ∷ t) (literal_sound a.0 l.0.0 l.0.1 l.1).1
-        ∙ ap (λ t. Word n.0.0 ∷ t) (sign_sound (codes "[") n.0.1 a.0 a.1) ∙ s.1)
+    subst (λ (p : CellTree × List Mark). IsCell p.0 × (cell_spelled p.0 p.1 ≡ ts)) (some_same b.2) (
+      s.0,
+      ap (λ t. Word n.0.0 ∷ Sign (codes "[") ∷ literal_spelled l.0.0 t) (sign_sound (codes "]") l.0.1 b.0 b.1)
+          ∙ ap (λ t. Word n.0.0 ∷ Sign (codes "[") ∷ t) (literal_sound a.0 l.0.0 l.0.1 l.1).1
+          ∙ ap (λ t. Word n.0.0 ∷ t) (sign_sound (codes "[") n.0.1 a.0 a.1) ∙ s.1,
+    )
 
 cell_full : (c : CellTree) (rest : List Mark) → IsCell c → Always rest → read_cell (cell_spelled c rest) ≡ Some (c, rest)
 unfolding read_cell
@@ -132,16 +134,20 @@ terms_sound zero found ts r rest e = absurd cc
 terms_sound (suc n) found ts r rest e =
     let minus = has_sign (codes "-") ts in
     elim (has_sum_sign ts) as (λ q. (has_sum_sign ts ≡ q) → cond q (read_term (drop 1 ts) >>= (λ t. terms_from n (found ++ next minus t.0 ∷ []) t.1)) (got found ts) ≡ got r rest
-        → (xs : List NextTerm) × (r ≡ found ++ xs) × IsEach IsNext xs × (all_spelled next_spelled xs rest ≡ ts))
-    [ true ↦ λ sign e.
-        let b = bound (read_term (drop 1 ts)) (λ t. terms_from n (found ++ next minus t.0 ∷ []) t.1) (r, rest) e in
-        let s = term_sound (drop 1 ts) b.0.0 b.0.1 b.1 in
-        let h = terms_sound n (found ++ next minus b.0.0 ∷ []) b.0.1 r rest b.2 in
-        (next minus b.0.0 ∷ h.0, h.1 ∙ append_assoc found (next minus b.0.0 ∷ []) h.0, (s.0, h.2),
-          ap (λ t. Sign (cond minus (codes "-") (codes "+")) ∷ t) (ap (term_spelled b.0.0) h.3 ∙ s.1) ∙ sign_of minus ts refl sign)
-    | false ↦ λ none e.
-        let k : ◌≡◌ {A = List NextTerm × List Mark} (found, ts) (r, rest) = some_same e in
-        ([], ap (λ p. p.0) (sym k) ∙ sym (append-nil found), tt, ap (λ (p : List NextTerm × List Mark). p.1) (sym k)) ] refl e
+    → (xs : List NextTerm) × (r ≡ found ++ xs) × IsEach IsNext xs × (all_spelled next_spelled xs rest ≡ ts)) [
+      | true ↦ λ sign e.
+          let b = bound (read_term (drop 1 ts)) (λ t. terms_from n (found ++ next minus t.0 ∷ []) t.1) (r, rest) e in
+          let s = term_sound (drop 1 ts) b.0.0 b.0.1 b.1 in
+          let h = terms_sound n (found ++ next minus b.0.0 ∷ []) b.0.1 r rest b.2 in (
+            next minus b.0.0 ∷ h.0,
+            h.1 ∙ append_assoc found (next minus b.0.0 ∷ []) h.0,
+            (s.0, h.2),
+            ap (λ t. Sign (cond minus (codes "-") (codes "+")) ∷ t) (ap (term_spelled b.0.0) h.3 ∙ s.1) ∙ sign_of minus ts refl sign,
+          )
+      | false ↦ λ none e.
+          let k : ◌≡◌ {A = List NextTerm × List Mark} (found, ts) (r, rest) = some_same e in
+          ([], ap (λ p. p.0) (sym k) ∙ sym (append-nil found), tt, ap (λ (p : List NextTerm × List Mark). p.1) (sym k))
+    ] refl e
 
 has_its_sign : (minus : Bool) (ts : List Mark) → has_sum_sign (Sign (cond minus (codes "-") (codes "+")) ∷ ts) ≡ true
 has_its_sign true ts = refl
@@ -192,11 +198,12 @@ rule_sound ts r rest e =
     let sc = cell_sound ts c.0.0 c.0.1 c.1 in
     let st = term_sound a.0 t.0.0 t.0.1 t.1 in
     let su = read_terms_sound t.0.1 u.0.0 u.0.1 u.1 in
-    subst (λ (p : RuleTree × List Mark). IsRule p.0 × (rule_spelled p.0 p.1 ≡ ts)) (some_same u.2)
-      ((sc.0, st.0, su.0),
-        ap (λ l. cell_spelled c.0.0 (Sign (codes "=") ∷ term_spelled t.0.0 l)) su.1
-        ∙ ap (λ l. cell_spelled c.0.0 (Sign (codes "=") ∷ l)) st.1
-        ∙ ap (cell_spelled c.0.0) (sign_sound (codes "=") c.0.1 a.0 a.1) ∙ sc.1)
+    subst (λ (p : RuleTree × List Mark). IsRule p.0 × (rule_spelled p.0 p.1 ≡ ts)) (some_same u.2) (
+      (sc.0, st.0, su.0),
+      ap (λ l. cell_spelled c.0.0 (Sign (codes "=") ∷ term_spelled t.0.0 l)) su.1
+          ∙ ap (λ l. cell_spelled c.0.0 (Sign (codes "=") ∷ l)) st.1
+          ∙ ap (cell_spelled c.0.0) (sign_sound (codes "=") c.0.1 a.0 a.1) ∙ sc.1,
+    )
 
 rule_full : (r : RuleTree) (rest : List Mark) → IsRule r → NoSign rest → read_rule (rule_spelled r rest) ≡ Some (r, rest)
 unfolding read_rule
@@ -223,7 +230,7 @@ column_sound ts c rest e =
     let a = bound (past_word (codes "INT") n.0.1) _ _ n.2 in
     let s = name_sound ts n.0.0 n.0.1 n.1 in
     subst (λ (p : ColumnTree × List Mark). IsColumn p.0 × (column_spelled p.0 p.1 ≡ ts)) (some_same a.2)
-      (s.0, ap (λ t. Word n.0.0 ∷ t) (word_sound (codes "INT") n.0.1 a.0 a.1) ∙ s.1)
+    (s.0, ap (λ t. Word n.0.0 ∷ t) (word_sound (codes "INT") n.0.1 a.0 a.1) ∙ s.1)
 
 column_full : (c : ColumnTree) (rest : List Mark) → IsColumn c → Always rest → read_column (column_spelled c rest) ≡ Some (c, rest)
 unfolding read_column
@@ -242,9 +249,11 @@ row_sound ts r rest e =
     let l = bound (read_list read_literal a.0) _ _ a.2 in
     let b = bound (past_sign (codes ")") l.0.1) _ _ l.2 in
     let s = literals.sound a.0 l.0.0 l.0.1 l.1 in
-    subst (λ (p : RowTree × List Mark). IsRow p.0 × (row_spelled p.0 p.1 ≡ ts)) (some_same b.2)
-      (s.0, ap (λ t. Sign (codes "(") ∷ list_spelled literal_spelled l.0.0 t) (sign_sound (codes ")") l.0.1 b.0 b.1)
-        ∙ ap (λ t. Sign (codes "(") ∷ t) s.1 ∙ sign_sound (codes "(") ts a.0 a.1)
+    subst (λ (p : RowTree × List Mark). IsRow p.0 × (row_spelled p.0 p.1 ≡ ts)) (some_same b.2) (
+      s.0,
+      ap (λ t. Sign (codes "(") ∷ list_spelled literal_spelled l.0.0 t) (sign_sound (codes ")") l.0.1 b.0 b.1)
+          ∙ ap (λ t. Sign (codes "(") ∷ t) s.1 ∙ sign_sound (codes "(") ts a.0 a.1,
+    )
 
 row_full : (r : RowTree) (rest : List Mark) → IsRow r → Always rest → read_row (row_spelled r rest) ≡ Some (r, rest)
 unfolding read_row

@@ -31,9 +31,10 @@ module _ {X : Type 0} (p : X → Bool) (P : X → Type 0) (each : (x : X) → De
   all_decides xs = Decides-by_and p P (list_all p) each refl (λ _ _. refl) xs
 
   any_decides : (xs : List X) → Decides (list_any p xs) (Any P xs)
-  any_decides xs =
-      (λ e. let a = Any-from_list_any p xs e in (a.0, a.1, a.2, a.3, (each a.1).0 a.4),
-       λ h. list_any-from_Any p xs (h.0, h.1, h.2, h.3, (each h.1).1 h.4))
+  any_decides xs = (
+    λ e. let a = Any-from_list_any p xs e in (a.0, a.1, a.2, a.3, (each a.1).0 a.4),
+    λ h. list_any-from_Any p xs (h.0, h.1, h.2, h.3, (each h.1).1 h.4),
+  )
 
 -- ---- CREATE TABLE
 
@@ -77,6 +78,7 @@ one_more names c cs h = (all, pairs)
     all : All (Lacks names) (c ∷ cs)
     all zero d less = h.0
     all (suc k) d less = (lacks_more names c.name (get_or cs k d) (h.1.0 k d (omega arith))).0
+
     pairs : Different (c ∷ cs)
     pairs zero zero d less within = absurd (omega arith)
     pairs zero (suc j) d less within = (lacks_more names c.name (get_or cs j d) (h.1.0 j d (omega arith))).1
@@ -85,10 +87,13 @@ one_more names c cs h = (all, pairs)
 
 one_less : (names : List (List ℕ)) (c : ColumnTree) (cs : List ColumnTree) → All (Lacks names) (c ∷ cs) × Different (c ∷ cs)
     → (Lacks names c) × (All (Lacks (names ++ c.name ∷ [])) cs × Different cs)
-one_less names c cs h =
-    (h.0 0 c (omega arith),
-      (λ k d less. lacks_both names c.name (get_or cs k d) (h.0 (suc k) d (omega arith)) (h.1 0 (suc k) d (omega arith) (omega arith)),
-       λ i j d less within. h.1 (suc i) (suc j) d (omega arith) (omega arith)))
+one_less names c cs h = (
+  h.0 0 c (omega arith),
+  (
+    λ k d less. lacks_both names c.name (get_or cs k d) (h.0 (suc k) d (omega arith)) (h.1 0 (suc k) d (omega arith) (omega arith)),
+    λ i j d less within. h.1 (suc i) (suc j) d (omega arith) (omega arith),
+  ),
+)
 
 is_false : (b : Bool) → Decides (not b) (b ≡ false)
 is_false true = (λ e. absurd cc, λ e. absurd cc)
@@ -100,7 +105,7 @@ none_repeats_decides names (c ∷ cs) =
     let first = list_any (bytes_eq c.name) names in
     let others = none_repeats (names ++ c.name ∷ []) cs in
     Decides-like (not first && others) (one_more names c cs) (one_less names c cs)
-      (Decides-and (not first) others (is_false first) (none_repeats_decides (names ++ c.name ∷ []) cs))
+    (Decides-and (not first) others (is_false first) (none_repeats_decides (names ++ c.name ∷ []) cs))
 
 is_absent : (o : Option Table) → Decides (not (is_some o)) (o ≡ None)
 is_absent None = (λ e. refl, λ e. refl)
@@ -109,9 +114,10 @@ is_absent (Some t) = (λ e. absurd cc, λ e. absurd cc)
 create_decides : (tables : Tables) (t : CreateTree) → Decides (create_fits tables t) (CreateFits tables t)
 unfolding create_fits
 create_decides tables t =
-    let d = Decides-and (not (is_some (table_at tables t.name))) (none_repeats [] t.columns) (is_absent (table_at tables t.name)) (none_repeats_decides [] t.columns) in
-    (λ e. let h = d.0 e in record { is_new = h.0; distinct = h.1.1 },
-     λ f. d.1 (f.is_new, (λ k c less. refl, f.distinct)))
+    let d = Decides-and (not (is_some (table_at tables t.name))) (none_repeats [] t.columns) (is_absent (table_at tables t.name)) (none_repeats_decides [] t.columns) in (
+      λ e. let h = d.0 e in record { is_new = h.0; distinct = h.1.1 },
+      λ f. d.1 (f.is_new, (λ k c less. refl, f.distinct)),
+    )
 
 -- ---- INSERT INTO
 
@@ -133,7 +139,7 @@ unfolding rule_fits
 rule_decides measure r =
     let others = all_decides (next_fits measure) (λ (t : NextTerm). TermFits measure t.term) (λ t. term_decides measure t.term) r.others in
     let d = Decides-and (bytes_eq measure r.target.measure) (term_fits measure r.first && list_all (next_fits measure) r.others) (bytes_eq-Decides measure r.target.measure)
-        (Decides-and (term_fits measure r.first) (list_all (next_fits measure) r.others) (term_decides measure r.first) others) in
+    (Decides-and (term_fits measure r.first) (list_all (next_fits measure) r.others) (term_decides measure r.first) others) in
     (λ e. let h = d.0 e in record { target = h.0; first = h.1.0; others = h.1.1 }, λ f. d.1 (f.target, (f.first, f.others)))
 
 column_decides : (table : Table) (name : List ℕ) → Decides (has_column table.schema.columns name) (IsColumnOf table name)
@@ -146,10 +152,11 @@ model_decides table m =
     let same = bytes_eq m.dimension m.measure in
     let rules = all_decides (rule_fits m.measure) (RuleFits m.measure) (rule_decides m.measure) m.rules in
     let d = Decides-and (has_column columns m.dimension && has_column columns m.measure) (not same && list_all (rule_fits m.measure) m.rules)
-        (Decides-and (has_column columns m.dimension) (has_column columns m.measure) (column_decides table m.dimension) (column_decides table m.measure))
-        (Decides-and (not same) (list_all (rule_fits m.measure) m.rules) (Decides-not same (bytes_eq-Decides m.dimension m.measure)) rules) in
-    (λ e. let h = d.0 e in record { dimension = h.0.0; measure = h.0.1; different = h.1.0; rules = h.1.1 },
-     λ f. d.1 ((f.dimension, f.measure), (f.different, f.rules)))
+    (Decides-and (has_column columns m.dimension) (has_column columns m.measure) (column_decides table m.dimension) (column_decides table m.measure))
+    (Decides-and (not same) (list_all (rule_fits m.measure) m.rules) (Decides-not same (bytes_eq-Decides m.dimension m.measure)) rules) in (
+      λ e. let h = d.0 e in record { dimension = h.0.0; measure = h.0.1; different = h.1.0; rules = h.1.1 },
+      λ f. d.1 ((f.dimension, f.measure), (f.different, f.rules)),
+    )
 
 in_model_decides : (m : ModelTree) (name : List ℕ) → Decides (is_in_model m name) (IsOfModel m name)
 in_model_decides m name =
@@ -166,7 +173,7 @@ select_decides table t =
     let printed = list_all (is_in_model t.model) t.printed in
     let order = order_fits t.model t.order in
     let d = Decides-and model (printed && order) (model_decides table t.model)
-        (Decides-and printed order (all_decides (is_in_model t.model) (IsOfModel t.model) (in_model_decides t.model) t.printed) (order_decides t.model t.order)) in
+    (Decides-and printed order (all_decides (is_in_model t.model) (IsOfModel t.model) (in_model_decides t.model) t.printed) (order_decides t.model t.order)) in
     (λ e. let h = d.0 e in record { model = h.0; printed = h.1.0; order = h.1.1 }, λ f. d.1 (f.model, (f.printed, f.order)))
 
 -- ---- statements

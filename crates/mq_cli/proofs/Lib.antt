@@ -1,8 +1,8 @@
 pub mod CatalogLemmas
 pub mod ExactLemmas
 pub mod ExactPartLemmas
-pub mod ExactStatementLemmas
 pub mod ExactReadingLemmas
+pub mod ExactStatementLemmas
 pub mod FitsLemmas
 pub mod LineLemmas
 pub mod ListLemmas
