@@ -1,7 +1,11 @@
 pub mod Binding
+pub mod ExactReading
+pub mod FaultPlaces
+pub mod Fits
 pub mod Fitting
 pub mod Grammar
 pub mod Marks
+pub mod PartTaking
 pub mod Reading
 pub mod Script
 pub mod Spelling

@@ -1,6 +1,7 @@
--- The marks that each part of a statement is spelled by, before those that follow it, and which trees are spelled at all.
-use Rattle.std.specs.Prelude.{◌≡◌, ℕ, Bool, false, List, [], ◌∷◌, codes, if◌then◌else◌, Option, Some, None, All}
-use Rattle.mq_lexer.specs.Words.{folded, is_reserved}
+-- The grammar, apart from any reader: the marks of each part of a statement, before those that follow it. `Trees` says which
+-- trees it has.
+use Rattle.std.specs.Prelude.{ℕ, List, [], ◌∷◌, codes, if◌then◌else◌, Option, Some, None}
+use Rattle.mq_lexer.specs.Words.{folded}
 use Rattle.mq_cli.specs.Marks.{Mark, Word, Sign, Whole}
 use Rattle.mq_cli.specs.declared.tree.Literal.{Literal}
 use Rattle.mq_cli.specs.declared.tree.CellTree.{CellTree}
@@ -103,3 +104,7 @@ abbrev pub tree_spelled : Tree → List Mark → List Mark
 tree_spelled (tree.Create t) ts = create_spelled t ts
 tree_spelled (tree.Insert t) ts = insert_spelled t ts
 tree_spelled (tree.Select t) ts = select_spelled t ts
+
+-- the marks of a statement
+abbrev pub spelled : Tree → List Mark
+spelled t = tree_spelled t []

@@ -1,5 +1,5 @@
 -- The trees of the grammar: each name is a name, and where one or more have to stand, one stands.
-use Rattle.std.specs.Prelude.{◌≡◌, ℕ, false, List, [], ◌∷◌, Option, Some, None, All}
+use Rattle.std.specs.Prelude.{◌≡◌, ℕ, false, List, [], ◌∷◌, Option, Some, None}
 use Rattle.mq_lexer.specs.Words.{is_reserved}
 use Rattle.mq_cli.specs.declared.tree.Literal.{Literal}
 use Rattle.mq_cli.specs.declared.tree.CellTree.{CellTree}

@@ -7,12 +7,17 @@ mod answer;
 mod binding;
 mod binds;
 mod catalog;
+mod cells;
+mod evaluate;
 mod fitting;
+mod laws;
 mod lines;
 mod lists;
 mod marks;
+mod partition;
 mod reader;
 mod run;
+mod sequential;
 mod step;
 mod tree;
 
@@ -20,6 +25,8 @@ use mq_io::{MapShelf, OpenGate, ReaderSource, WriterSink};
 use std::process::ExitCode;
 use std::{env, io};
 
+#[cfg(test)]
+mod answer_tests;
 #[cfg(test)]
 mod tests;
 

@@ -6,7 +6,8 @@ ghost use Rattle.mq_io.specs.Calls.{no_calls, is_due, after_call};
 
 use std::marker::Model;
 
-// The calls that are to fail, by their numbers from 1, how many were made, and how many of them failed.
+// The numbers of the calls that are to fail, counted from 1, how many calls were made, and how many
+// of them failed.
 #[derive(Drop)]
 pub struct CallCount {
     failing: Vec<u64>,

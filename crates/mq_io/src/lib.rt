@@ -1,6 +1,6 @@
-//! The outside: from a source come a script's bytes, from a shelf whole files by name, and a sink takes the answer.
-//! Each counts its faults. Out come whole bytes, whole writes, or the cause why not.
-//! What they mean stands in specs/Causes (a count rose), specs/Progress (what was given and taken) and specs/Files.
+//! In go a source of bytes, a shelf of files and a sink for the answer, each counting its faults.
+//! Out come whole sources, files and writes, or the cause why not.
+//! They meet the definitions of specs/Causes, specs/Progress and specs/Files.
 #![tactic(auto)]
 
 mod calls;

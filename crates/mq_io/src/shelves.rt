@@ -29,10 +29,11 @@ pub trait Shelf {
     /// How often it failed.
     ghost faults: { Self → ℕ };
 
-    /// The bytes of the file of that name, if it has at most `limit` bytes. No call changes the files.
-    /// `Failed` comes where the shelf failed, `Memory` where memory ran out.
+    /// The bytes of the file of that name, if it has at most `limit` of them. No call changes the
+    /// files. `Failed` comes where the shelf failed, `Memory` where memory ran out.
     fn fetch(&mut self, name: &str, limit: u32) -> Result<Fetched, IoFault>
-        ensures answer { IfSome (files self.old) (λ file. IfOk result (IsAnswer limit (file name.now))) }
+        ensures answer { IfSome (files self.old)
+            (λ file. IfOk result (IsAnswer limit (file name.now))) }
         ensures files { files self.new ≡ files self.old }
         ensures later { faults self.old ≤ faults self.new }
         ensures failed { IsErrOf result IoFault.Failed → Rose (faults self.old) (faults self.new) };
@@ -58,7 +59,10 @@ impl MapShelf {
     /// A shelf of these files, each a name and its bytes; no two have one name. `failing` holds the
     /// numbers of the calls that are to fail, counted from 1.
     pub fn new(files: Vec<(String, Vec<u8>)>, failing: Vec<u64>) -> Self
-        ensures { result ≡ record { files = file_list files.items; calls = no_calls failing.items } }
+        ensures { result ≡ record {
+          files = file_list files.items;
+          calls = no_calls failing.items;
+        } }
     {
         MapShelf {
             files,
@@ -76,7 +80,8 @@ impl Shelf for MapShelf {
         ensures answer { IfOk result (IsAnswer limit (file_of self.old.files name.now)) }
         ensures files { self.new.files ≡ self.old.files }
         ensures later { self.old.calls.failed ≤ self.new.calls.failed }
-        ensures failed { IsErrOf result IoFault.Failed → Rose self.old.calls.failed self.new.calls.failed }
+        ensures failed { IsErrOf result IoFault.Failed
+            → Rose self.old.calls.failed self.new.calls.failed }
 
         // Which calls fail.
         ensures due { IsErrOf result IoFault.Failed ↔ IsTrue (is_due self.old.calls) }
@@ -95,7 +100,8 @@ impl Shelf for MapShelf {
 
 // The bytes of the first file of that name.
 fn find_file<'a>(files: &'a [(String, Vec<u8>)], name: &str) -> Option<&'a Vec<u8>>
-    ensures { option_map (λ bytes. bytes.now.items) result ≡ file_of (file_list files.now) name.now }
+    ensures { option_map (λ bytes. bytes.now.items) result
+        ≡ file_of (file_list files.now) name.now }
 {
     for (file_name, bytes) in files {
         if file_name.as_str() == name {

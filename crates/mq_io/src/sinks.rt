@@ -19,8 +19,9 @@ pub trait Sink {
     /// How often it failed.
     ghost faults: { Self → ℕ };
 
-    /// Takes a front of the piece, and answers how long it is: at least one byte, unless the piece is empty.
-    /// After an error nothing was taken. `Failed` comes where the sink failed, `Memory` where memory ran out.
+    /// Takes a front of the piece, and answers how long it is: at least one byte, unless the piece
+    /// is empty. After an error nothing was taken. `Failed` comes where the sink failed, `Memory`
+    /// where memory ran out.
     fn write(&mut self, piece: &[u8]) -> Result<usize, IoFault>
         ensures bound { WritesAtMost result piece.now }
         ensures bytes { WriteAppends (taken self.old) (taken self.new) result piece.now }
@@ -49,8 +50,8 @@ impl Model for VecSink {
 }
 
 impl VecSink {
-    /// An empty sink. `failing` holds the numbers of the calls that are to fail, counted from 1; each
-    /// call takes at most `piece` bytes.
+    /// An empty sink. `failing` holds the numbers of the calls that are to fail, counted from 1;
+    /// each call takes at most `piece` bytes.
     pub fn new(alloc: Global, failing: Vec<u64>, piece: u32) -> Self
         requires { 0 < piece }
         ensures { result ≡ record { taken = []; piece = piece; calls = no_calls failing.items } }
@@ -80,7 +81,8 @@ impl Sink for VecSink {
         ensures bytes { WriteAppends (Some self.old.taken) (Some self.new.taken) result piece.now }
         ensures progress { 0 < length piece.now → IfOk result (λ n. 0 < n) }
         ensures later { self.old.calls.failed ≤ self.new.calls.failed }
-        ensures failed { IsErrOf result IoFault.Failed → Rose self.old.calls.failed self.new.calls.failed }
+        ensures failed { IsErrOf result IoFault.Failed
+            → Rose self.old.calls.failed self.new.calls.failed }
 
         // Which calls fail, and how much the others take.
         ensures due { IsErrOf result IoFault.Failed ↔ IsTrue (is_due self.old.calls) }
@@ -97,8 +99,8 @@ impl Sink for VecSink {
     }
 }
 
-/// A sink over one of std's writers. It tells what that tells, and counts each of its errors as a fault,
-/// and each write that takes nothing of a piece that is not empty.
+/// A sink over one of std's writers. It tells what that tells. It counts as a fault each of its
+/// errors, and each write that takes nothing of a piece that is not empty.
 #[derive(Drop)]
 pub struct WriterSink<W> {
     writer: W,

@@ -18,7 +18,7 @@ pub trait Source {
     /// How often it failed.
     ghost faults: { Self → ℕ };
 
-    /// Puts the next bytes at the front of the buffer, and answers how many there are. Into a buffer
+    /// Puts the next bytes at the front of the buffer, and answers how many they are. Into a buffer
     /// that is not empty, none come only at the end. After `Failed` nothing was given.
     fn read(&mut self, buf: &mut [u8]) -> Result<usize, Failed>
         ensures bound { ReadsAtMost result buf.new }
@@ -27,7 +27,8 @@ pub trait Source {
         ensures failed { OnErr result (Rose (faults self.old) (faults self.new)) };
 }
 
-/// A source over bytes in memory, which gives at most a piece a call and fails at the calls that it is told.
+/// A source over bytes in memory, which gives at most a piece a call, and fails at the calls that it
+/// is told.
 #[derive(Drop)]
 pub struct BytesSource {
     bytes: Vec<u8>,
@@ -42,17 +43,25 @@ impl Model for BytesSource {
 
     ghost Value = { Feed };
 
-    ghost view = { λ s. record { left = drop s.at s.bytes.items; piece = s.piece; calls = s.calls } };
+    ghost view = { λ s. record {
+      left = drop s.at s.bytes.items;
+      piece = s.piece;
+      calls = s.calls;
+    } };
 
     ghost invariant = { λ s. (s.at ≤ vec_len s.bytes) × (0 < s.piece) };
 }
 
 impl BytesSource {
-    /// A source of these bytes. `failing` holds the numbers of the calls that are to fail, counted from 1;
-    /// each call gives at most `piece` bytes.
+    /// A source of these bytes. `failing` holds the numbers of the calls that are to fail, counted
+    /// from 1; each call gives at most `piece` bytes.
     pub fn new(bytes: Vec<u8>, failing: Vec<u64>, piece: u32) -> Self
         requires { 0 < piece }
-        ensures { result ≡ record { left = bytes.items; piece = piece; calls = no_calls failing.items } }
+        ensures { result ≡ record {
+          left = bytes.items;
+          piece = piece;
+          calls = no_calls failing.items;
+        } }
     {
         BytesSource {
             bytes,
@@ -76,7 +85,8 @@ impl Source for BytesSource {
 
         // Which calls fail, and how much the others give.
         ensures due { is_err result ≡ is_due self.old.calls }
-        ensures count { IfOk result (λ n. n ≡ min (length buf.old) (min self.old.piece (length self.old.left))) }
+        ensures count { IfOk result
+            (λ n. n ≡ min (length buf.old) (min self.old.piece (length self.old.left))) }
         ensures counted { self.new.calls ≡ after_call self.old.calls }
         ensures piece { self.new.piece ≡ self.old.piece }
     {
@@ -90,7 +100,8 @@ impl Source for BytesSource {
     }
 }
 
-// Copies a piece of the bytes to the front of the buffer, as long as both have room for, and answers its length.
+// Copies the front of the bytes to the front of the buffer, as much as a piece and the buffer have
+// room for, and answers how much.
 fn copy_front(bytes: &[u8], piece: u32, buf: &mut [u8]) -> usize
     ensures count { result ≡ min (length buf.old) (min piece (length bytes.now)) }
     ensures copied { buf.new ≡ take result bytes.now ++ drop result buf.old }
@@ -100,7 +111,8 @@ fn copy_front(bytes: &[u8], piece: u32, buf: &mut [u8]) -> usize
     count
 }
 
-/// A source over one of std's readers. It tells what that tells, and counts each of its errors as a fault.
+/// A source over one of std's readers. It tells what that tells, and counts each of its errors as a
+/// fault.
 #[derive(Drop)]
 pub struct ReaderSource<R> {
     reader: R,

@@ -1,7 +1,8 @@
 -- What a query answers over tables.
-use Rattle.std.specs.Prelude.{ℕ, List, [], ◌∷◌, ◌++◌, Result, Ok, Err, map, take, drop, slice_index_or, length, if◌then◌else◌}
+use Rattle.std.specs.Prelude.{ℕ, List, [], ◌∷◌, ◌++◌, Result, Ok, Err, map, drop, slice_index_or, length, if◌then◌else◌}
 use Rattle.std.specs.Option.{option_map_or}
 use Rattle.std.specs.Ordering.{is_lt}
+use Rattle.std.specs.declared.cmp.Ordering.{Ordering}
 use Rattle.mq_values.specs.Order.{cmp_key}
 use Rattle.mq_values.specs.declared.faults.ValueFault.{ValueFault}
 use Rattle.mq_values.specs.declared.faults.FaultKind.{FaultKind}
@@ -11,12 +12,13 @@ use Rattle.mq_values.specs.declared.faults.ValueFault.TheVariants as fault
 use Rattle.mq_values.specs.declared.value.Value.{Value}
 use Rattle.mq_values.specs.declared.value.Value.TheVariants.{Null}
 use Rattle.mq_ir.specs.declared.query.BoundQuery.{BoundQuery}
+use Rattle.mq_ir.specs.declared.query.ModelPart.{ModelPart}
 use Rattle.mq_ir.specs.declared.query.Answer.{Answer}
 use Rattle.mq_ir.specs.declared.query.Answer.TheVariants as answer
-use Rattle.mq_ir.specs.Items.{items_of}
-use Rattle.mq_ir.specs.Partitions.{Tuple, Cells, cut_rows, cells_of, repeated}
-use Rattle.mq_ir.specs.Results.{◌>>=◌, each, marked}
-use Rattle.mq_ir.specs.Sequential.{rules_from}
+use Rattle.mq_ir.specs.Items.{input_rows}
+use Rattle.mq_ir.specs.Partitions.{Tuple, Cells, cells_of, repeated}
+use Rattle.mq_ir.specs.Results.{◌>>=◌, marked}
+use Rattle.mq_ir.specs.Sequential.{Placed, rules_from}
 use Rattle.mq_ir.specs.Tables.{Tables, rows_of}
 
 abbrev pub kind_of : ValueFault → FaultKind
@@ -27,44 +29,46 @@ kind_of fault.TextTooLong = kind.TextTooLong
 abbrev pub query_fault : FaultKind → ℕ → Tuple → QueryFault
 query_fault k rule cell = record { kind = k; rule = rule; partition = []; cell = cell }
 
--- a tuple put before the first that is greater
-abbrev pub placed : Tuple → List Tuple → List Tuple
-placed x [] = x ∷ []
-placed x (y ∷ ys) = if is_lt (cmp_key x y) then x ∷ y ∷ ys else y ∷ placed x ys
+-- an item put before the first that is greater
+abbrev pub placed : {K : Type 0} → (K → K → Ordering) → K → List K → List K
+placed cmp x [] = x ∷ []
+placed cmp x (y ∷ ys) = if is_lt (cmp x y) then x ∷ y ∷ ys else y ∷ placed cmp x ys
 
--- these tuples, ascending
-abbrev pub ascending : List Tuple → List Tuple
-ascending [] = []
-ascending (x ∷ xs) = placed x (ascending xs)
+-- these items, ascending
+abbrev pub ascending : {K : Type 0} → (K → K → Ordering) → List K → List K
+ascending cmp [] = []
+ascending cmp (x ∷ xs) = placed cmp x (ascending cmp xs)
 
 -- the columns of these numbers
 abbrev pub columns_at : List ℕ → Tuple → List Value
 columns_at numbers row = map (λ n. slice_index_or row n Null) numbers
 
--- the rows as they are printed: ascending by the ORDER BY columns, and then by all printed columns from the left
+-- what a cell is ordered by: the ORDER BY columns, and then all printed columns from the left
+abbrev pub sort_columns : BoundQuery → Tuple × Tuple → Tuple
+sort_columns q cell = columns_at (q.order ++ q.print) (cell.0 ++ cell.1)
+
+-- the rows as they are printed
 abbrev pub printed_rows : BoundQuery → Cells → List Tuple
-printed_rows q cells =
-    map (λ row. drop (length q.order) row)
-    (ascending (map (λ cell. columns_at (q.order ++ q.print) (cell.0 ++ cell.1)) cells))
+printed_rows q cells = map (drop (length q.order)) (ascending cmp_key (map (sort_columns q) cells))
 
--- the cells after the rules, over the item rows of the query
-abbrev pub model_cells : BoundQuery → List Tuple → Result Cells QueryFault
-model_cells q rows =
+-- a value fault of a rule as the query's
+abbrev pub rule_fault : Placed → QueryFault
+rule_fault p = query_fault (kind_of p.2) p.0 p.1
+
+-- the cells after the rules, over the dimension tuple and the measures of each row
+abbrev pub model_cells : ModelPart → List (Tuple × Tuple) → Result Cells QueryFault
+model_cells model rows =
     option_map_or (λ key. Err (query_fault kind.NotUnique 0 key))
-    (repeated (map (λ row. take (length q.model.dims) row) rows))
-    (marked (λ p. query_fault (kind_of p.2) p.0 p.1)
-    (rules_from (length q.model.measures) 1 q.model.rules (cells_of [] (cut_rows (length q.model.dims) rows))))
+    (repeated (map (λ row. row.0) rows))
+    (marked rule_fault (rules_from (length model.measures) 1 model.rules (cells_of [] rows)))
 
--- the base rows: for each row of the table, in order, the list of it alone
-abbrev pub base_rows : List Tuple → List (List Tuple)
-base_rows rows = map (λ row. row ∷ []) rows
+-- the dimension tuple and the measures of each row of the table; a fault comes outside of the rules
+abbrev pub input_of : List Tuple → BoundQuery → Result (List (Tuple × Tuple)) QueryFault
+input_of rows q = marked (λ fault. query_fault (kind_of fault) 0 []) (input_rows q.items (length q.model.dims) rows)
 
 -- the rows of a query over the rows of its table, or its first fault
 abbrev pub rows_answered : List Tuple → BoundQuery → Result (List Tuple) QueryFault
-rows_answered rows q =
-    marked (λ fault. query_fault (kind_of fault) 0 []) (each (items_of q.items) (base_rows rows))
-    >>= model_cells q
-    >>= (λ cells. Ok (printed_rows q cells))
+rows_answered rows q = input_of rows q >>= model_cells q.model >>= (λ cells. Ok (printed_rows q cells))
 
 abbrev pub answer_over : List Tuple → BoundQuery → Answer
 answer_over rows q = elim (rows_answered rows q) [ Ok printed ↦ answer.Rows printed | Err fault ↦ answer.Fault fault ]

@@ -1,5 +1,6 @@
 pub mod Answer
 pub mod Expression
+pub mod ExpressionLaws
 pub mod Items
 pub mod Lines
 pub mod Partitions

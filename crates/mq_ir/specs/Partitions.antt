@@ -1,5 +1,5 @@
 -- The cells with which the rules of a partition begin.
-use Rattle.std.specs.Prelude.{ℕ, List, [], ◌∷◌, ◌++◌, Option, Some, None, take, drop, map, if◌then◌else◌, is_some}
+use Rattle.std.specs.Prelude.{ℕ, List, [], ◌∷◌, ◌++◌, Option, Some, None, take, drop, if◌then◌else◌, is_some}
 use Rattle.std.specs.List.{list_any}
 use Rattle.std.specs.Map.{lookup}
 use Rattle.std.specs.Ordering.{is_eq, is_lt}
@@ -23,9 +23,9 @@ cell_at cells key = lookup (is_at (cmp_key key)) cells
 abbrev pub with_cell : Cells → Tuple → Tuple → Cells
 with_cell cells key measures = insert_entry cmp_key cells key measures
 
--- the item rows cut into a dimension tuple and measures, where there are n dimensions
-abbrev pub cut_rows : ℕ → List Tuple → List (Tuple × Tuple)
-cut_rows n rows = map (λ row. (take n row, drop n row)) rows
+-- an item row, cut behind its n dimensions into a dimension tuple and measures
+abbrev pub cut : ℕ → Tuple → Tuple × Tuple
+cut n row = (take n row, drop n row)
 
 -- the cells of these rows; where a tuple stands twice its first row counts
 abbrev pub cells_of : Cells → List (Tuple × Tuple) → Cells

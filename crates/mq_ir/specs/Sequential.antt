@@ -1,5 +1,5 @@
 -- What the rules of a model do to the cells of a partition, in text order.
-use Rattle.std.specs.Prelude.{ℕ, ◌+◌, List, [], ◌∷◌, Result, Ok, slice_index_or, slice_set, replicate, if◌then◌else◌, is_some}
+use Rattle.std.specs.Prelude.{ℕ, ◌+◌, ◌-◌, ◌^◌, min, List, [], ◌∷◌, Result, Ok, slice_index_or, slice_set, replicate, if◌then◌else◌, is_some}
 use Rattle.std.specs.Option.{option_map_or}
 use Rattle.mq_values.specs.declared.faults.ValueFault.{ValueFault}
 use Rattle.mq_values.specs.declared.value.Value.{Value}
@@ -49,7 +49,11 @@ rule_step n number rule cells =
     marked (λ fault. (number, key, fault)) (ev (cell_leaves (created n cells key)) rule.right) >>= (λ v.
     Ok (assigned (created n cells key) key rule.measure v)))
 
+-- rules are numbered from 1; the count stands still at the last number of 32 bits
+abbrev pub next_number : ℕ → ℕ
+next_number n = min (n + 1) (2 ^ 32 - 1)
+
 -- the rules from this number on, one after another, up to the first fault
 abbrev pub rules_from : ℕ → ℕ → List Rule → Cells → Result Cells Placed
 rules_from n number [] cells = Ok cells
-rules_from n number (rule ∷ rules) cells = rule_step n number rule cells >>= rules_from n (number + 1) rules
+rules_from n number (rule ∷ rules) cells = rule_step n number rule cells >>= rules_from n (next_number number) rules

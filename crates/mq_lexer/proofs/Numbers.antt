@@ -1,9 +1,9 @@
 -- The number that digits make.
-use Rattle.std.proofs.Common.{◌≡◌, ℕ, ◌*◌, ◌<◌, ◌≤◌, true, false, [], ◌∷◌, arith}
+use Rattle.std.proofs.Common.{◌≡◌, ℕ, ◌<◌, ◌≤◌, false, [], ◌∷◌, arith}
 use Rattle.std.specs.Prelude.{nat_le}
-use Rattle.std.specs.Char.{is_ascii_digit}
 use Rattle.std.specs.List.{fold}
-use Rattle.mq_lexer.specs.Tokens.{Text, with_digit}
+use Rattle.mq_lexer.specs.Fronts.{Text}
+use Rattle.mq_lexer.specs.Numbers.{with_digit}
 
 with_digit_grows : (n b : ℕ) → n ≤ with_digit n b
 with_digit_grows n b = grind arith

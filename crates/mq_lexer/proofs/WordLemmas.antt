@@ -1,11 +1,11 @@
 -- Words by their spelling.
-use Rattle.std.proofs.Common.{◌≡◌, ◌≢◌, true≢false, ℕ, ◌<◌, Bool, true, false, ◌||◌, cond, eqb, List, [], ◌∷◌, length, map, filter, IsTrue, ◌↔◌, refl, ap, sym, ◌∙◌, arith}
+use Rattle.std.proofs.Common.{◌≡◌, ◌≢◌, true≢false, ℕ, Bool, true, false, ◌||◌, cond, eqb, List, [], ◌∷◌, length, map, filter, IsTrue, ◌↔◌, refl, ap, sym, ◌∙◌, arith}
 use Rattle.std.proofs.lemmas.Bool.Decides.{nat_tests, Decides-eqb, same_from_decides}
 use Rattle.std.proofs.lemmas.Slice.Eq.{bytes_eq-Decides}
 use Rattle.std.proofs.lemmas.List.{length-map}
 use Rattle.std.specs.Char.{to_ascii_lowercase, to_ascii_uppercase}
 use Rattle.std.specs.List.{list_any, list_all}
-use Rattle.mq_lexer.specs.Tokens.{Text}
+use Rattle.mq_lexer.specs.Fronts.{Text}
 use Rattle.mq_lexer.proofs.Cuts.{and-left, and-right}
 use Rattle.mq_lexer.specs.Words.{folded, same_word, reserved, reserved_of, is_reserved}
 
@@ -47,12 +47,13 @@ differs m n q here not_there =
 -- words of different lengths are different
 other_word : (a b : Text) → eqb (length b) (length a) ≡ false → same_word a b ≡ false
 other_word a b e =
-    elim (same_word a b) as (λ t. (same_word a b ≡ t) → t ≡ false)
-    [ true ↦ λ s.
-        let same : folded a ≡ folded b = (bytes_eq-Decides (folded a) (folded b)).0 s in
-        let lengths : length b ≡ length a = sym (sym (length-map a to_ascii_uppercase) ∙ ap length same ∙ length-map b to_ascii_uppercase) in
-        absurd (true≢false (sym ((Decides-eqb (length b) (length a)).1 lengths) ∙ e))
-    | false ↦ λ _. refl ] refl
+    elim (same_word a b) as (λ t. (same_word a b ≡ t) → t ≡ false) [
+      | true ↦ λ s.
+          let same : folded a ≡ folded b = (bytes_eq-Decides (folded a) (folded b)).0 s in
+          let lengths : length b ≡ length a = sym (sym (length-map a to_ascii_uppercase) ∙ ap length same ∙ length-map b to_ascii_uppercase) in
+          absurd (true≢false (sym ((Decides-eqb (length b) (length a)).1 lengths) ∙ e))
+      | false ↦ λ _. refl
+    ] refl
 
 -- none of the list has a length that none of its words has
 none_of : (xs : List Text) (q : ℕ → Bool) (n : ℕ) → q n ≡ false → list_all (λ x. q (length x)) xs ≡ true → filter (λ x. eqb (length x) n) xs ≡ []
@@ -72,9 +73,10 @@ none_listed n a b c d e f g h i j = none_of reserved has_words n (grind (arith, 
 among : (word : Text) (xs : List Text) → list_any (same_word word) (filter (λ x. eqb (length x) (length word)) xs) ≡ list_any (same_word word) xs
 among word [] = refl
 among word (x ∷ xs) =
-    elim (eqb (length x) (length word)) as (λ q. (eqb (length x) (length word) ≡ q) → list_any (same_word word) (cond q (x ∷ filter (λ x. eqb (length x) (length word)) xs) (filter (λ x. eqb (length x) (length word)) xs)) ≡ (same_word word x || list_any (same_word word) xs))
-    [ true ↦ λ e. ap (λ t. same_word word x || t) (among word xs)
-    | false ↦ λ e. rw (other_word word x e) (among word xs) ] refl
+    elim (eqb (length x) (length word)) as (λ q. (eqb (length x) (length word) ≡ q) → list_any (same_word word) (cond q (x ∷ filter (λ x. eqb (length x) (length word)) xs) (filter (λ x. eqb (length x) (length word)) xs)) ≡ (same_word word x || list_any (same_word word) xs)) [
+      | true ↦ λ e. ap (λ t. same_word word x || t) (among word xs)
+      | false ↦ λ e. rw (other_word word x e) (among word xs)
+    ] refl
 
 pub by_length : (word : Text) → list_any (same_word word) (reserved_of (length word)) ≡ is_reserved word
 by_length word = among word reserved

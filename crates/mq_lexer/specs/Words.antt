@@ -5,7 +5,7 @@ use Rattle.std.specs.Str.{bytes_eq, str_to_ascii_uppercase}
 use Rattle.mq_lexer.specs.declared.sorts.Sort.{Sort}
 use Rattle.mq_lexer.specs.declared.sorts.Sort.TheVariants as sort
 use Rattle.mq_lexer.specs.Lexemes.{Lexeme}
-use Rattle.mq_lexer.specs.Tokens.{Text}
+use Rattle.mq_lexer.specs.Fronts.{Text}
 
 -- ASCII letters as capital letters
 abbrev pub folded : Text → Text

@@ -1,7 +1,9 @@
 //! What stands at the front of a text.
 
 ghost use Rattle.std.specs.Prelude.{◌≡◌, ◌≢◌, ◌<◌, ◌≤◌, ◌+◌, ◌-◌, ◌^◌, length, slice_index, IfSome, true, false};
-ghost use Rattle.mq_lexer.specs.Tokens as spec;
+ghost use Rattle.mq_lexer.specs.Numbers as numbers;
+ghost use Rattle.mq_lexer.specs.Pieces as spec;
+ghost use Rattle.mq_lexer.specs.Quotes as quotes;
 
 use crate::sorts::{Front, Sort};
 
@@ -48,7 +50,7 @@ fn word_len(z: &[u8]) -> usize
     n
 }
 
-#[tactic(auto, unfolding(crate::specs::Tokens::word))]
+#[tactic(auto, unfolding(crate::specs::Pieces::word))]
 fn word(z: &[u8]) -> Front
     ensures { result ≡ spec.word z.now }
 {
@@ -67,7 +69,7 @@ fn word(z: &[u8]) -> Front
 // How many digits stand from a place on.
 fn digits_len(z: &[u8], at: usize) -> usize
     requires { at ≤ length z.now }
-    ensures value { result ≡ spec.digits_len z.now at }
+    ensures value { result ≡ numbers.digits_len z.now at }
     ensures within { at + result ≤ length z.now }
 {
     let mut end = at;
@@ -78,10 +80,10 @@ fn digits_len(z: &[u8], at: usize) -> usize
 }
 
 // The length of a point and the digits behind it, from a place on; 0 where they do not stand there.
-#[tactic(auto, unfolding(crate::specs::Tokens::fraction_len))]
+#[tactic(auto, unfolding(crate::specs::Numbers::fraction_len))]
 fn fraction_len(z: &[u8], at: usize) -> usize
     requires { at ≤ length z.now }
-    ensures value { result ≡ spec.fraction_len z.now at }
+    ensures value { result ≡ numbers.fraction_len z.now at }
     ensures within { at + result ≤ length z.now }
 {
     if byte_at(z, at) != b'.' {
@@ -94,7 +96,7 @@ fn fraction_len(z: &[u8], at: usize) -> usize
 // Whether the digits, without the point, make no greater number than the limit.
 #[tactic(auto, using(crate::proofs::Numbers::too_great))]
 fn is_small(mut number: &[u8]) -> bool
-    ensures { result ≡ spec.is_small number.entry.now }
+    ensures { result ≡ numbers.is_small number.entry.now }
 {
     let mut value: u128 = 0;
     while let [b, rest @ ..] = number {
@@ -110,9 +112,9 @@ fn is_small(mut number: &[u8]) -> bool
     true
 }
 
-#[tactic(auto, unfolding(crate::specs::Tokens::number))]
+#[tactic(auto, unfolding(crate::specs::Numbers::number))]
 fn number(z: &[u8]) -> Front
-    ensures { result ≡ spec.number z.now }
+    ensures { result ≡ numbers.number z.now }
 {
     let whole = digits_len(z, 0);
     let fraction = fraction_len(z, whole);
@@ -127,7 +129,7 @@ fn number(z: &[u8]) -> Front
 
 // The length of the longest front that ends with the closing quote of a text.
 fn closing(z: &[u8]) -> Option<usize>
-    ensures value { result ≡ spec.closing false z.now }
+    ensures value { result ≡ quotes.closing false z.now }
     ensures within { IfSome result (λ n. (1 ≤ n) × (n ≤ length z.now)) }
 {
     let mut found = None;
@@ -145,7 +147,7 @@ fn closing(z: &[u8]) -> Option<usize>
 
 // Whether this stands between the quotes of a text: few enough bytes, and no control character.
 fn is_content(mut inner: &[u8]) -> bool
-    ensures { result ≡ spec.is_content inner.entry.now }
+    ensures { result ≡ quotes.is_content inner.entry.now }
 {
     let mut count = 0;
     let mut behind_quote = false;
@@ -164,10 +166,10 @@ fn is_content(mut inner: &[u8]) -> bool
     true
 }
 
-#[tactic(auto, unfolding(crate::specs::Tokens::quoted))]
+#[tactic(auto, unfolding(crate::specs::Quotes::quoted))]
 fn quoted(z: &[u8]) -> Front
     requires { 0 < length z.now }
-    ensures { result ≡ spec.quoted z.now }
+    ensures { result ≡ quotes.quoted z.now }
 {
     match closing(&z[1..]) {
         None => Front {
@@ -186,7 +188,7 @@ fn quoted(z: &[u8]) -> Front
 }
 
 // The length of a comment that ends before the next LF.
-#[tactic(auto, unfolding(crate::specs::Tokens::line_comment))]
+#[tactic(auto, unfolding(crate::specs::Pieces::line_comment))]
 fn line_comment(z: &[u8]) -> Front
     ensures { result ≡ spec.line_comment z.now }
 {
@@ -214,7 +216,7 @@ fn comment_end(mut z: &[u8]) -> Option<usize>
     None
 }
 
-#[tactic(auto, unfolding(crate::specs::Tokens::block_comment))]
+#[tactic(auto, unfolding(crate::specs::Pieces::block_comment))]
 fn block_comment(z: &[u8]) -> Front
     requires { 1 < length z.now }
     ensures { result ≡ spec.block_comment z.now }
@@ -232,7 +234,7 @@ fn block_comment(z: &[u8]) -> Front
 }
 
 // The length of the sign that begins with these bytes; 0 where none does.
-#[tactic(auto, unfolding(crate::specs::Tokens::sign_len))]
+#[tactic(auto, unfolding(crate::specs::Pieces::sign_len))]
 fn sign_len(b: u8, next: u8) -> usize
     ensures { result ≡ spec.sign_len b next }
 {
@@ -247,7 +249,7 @@ fn sign_len(b: u8, next: u8) -> usize
 }
 
 // The length of the character at the front.
-#[tactic(auto, unfolding(crate::specs::Tokens::char_len))]
+#[tactic(auto, unfolding(crate::specs::Pieces::char_len))]
 fn char_len(z: &[u8]) -> usize
     requires { 0 < length z.now }
     ensures { result ≡ spec.char_len z.now }
@@ -262,7 +264,7 @@ fn char_len(z: &[u8]) -> usize
     n
 }
 
-#[tactic(auto, unfolding(crate::specs::Tokens::sign_or_bad))]
+#[tactic(auto, unfolding(crate::specs::Pieces::sign_or_bad))]
 fn sign_or_bad(z: &[u8]) -> Front
     requires { 0 < length z.now }
     ensures { result ≡ spec.sign_or_bad z.now }
@@ -280,7 +282,7 @@ fn sign_or_bad(z: &[u8]) -> Front
 }
 
 /// What stands at the front.
-#[tactic(auto, unfolding(crate::specs::Tokens::front))]
+#[tactic(auto, unfolding(crate::specs::Pieces::front))]
 pub(crate) fn front(z: &[u8]) -> Front
     requires { 0 < length z.now }
     ensures { result ≡ spec.front z.now }

@@ -25,7 +25,12 @@ fn line_behind(line: u32, text: &[u8]) -> u32
 }
 
 // Adds what a piece of the text is: a token, or nothing where it separates tokens.
-fn add<'a>(found: &mut Vec<Token<'a>>, sort: Option<Sort>, text: &'a str, line: u32) -> Result<(), Memory>
+fn add<'a>(
+    found: &mut Vec<Token<'a>>,
+    sort: Option<Sort>,
+    text: &'a str,
+    line: u32,
+) -> Result<(), Memory>
     ensures { OnOk result (map lexeme found.new.items ≡ map lexeme found.old.items ++ option_to_list (spec.token_at sort text.now line)) }
 {
     if let Some(sort) = sort {

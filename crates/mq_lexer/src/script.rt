@@ -51,7 +51,10 @@ fn next_semicolon(tokens: &[Token<'_>], at: usize) -> usize
 
 /// The first statement from a place on, and the place behind it; none where only `;` signs are left.
 /// docs/LANGUAGE.md, "Statements", has the rule.
-pub fn next_statement<'t, 'a>(tokens: &'t [Token<'a>], at: usize) -> Option<(Statement<'t, 'a>, usize)>
+pub fn next_statement<'t, 'a>(
+    tokens: &'t [Token<'a>],
+    at: usize,
+) -> Option<(Statement<'t, 'a>, usize)>
     requires { at ≤ length tokens.now }
     ensures { spec.Next (map lexeme tokens.now) at result }
 {

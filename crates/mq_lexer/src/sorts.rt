@@ -21,7 +21,7 @@ pub struct Token<'a> {
 
 /// What stands at the front of a text: a token of this sort, or what separates tokens where there is none,
 /// and its length in bytes.
-#[derive(Clone, Copy, Debug)]
+#[derive(Clone, Copy)]
 pub(crate) struct Front {
     pub(crate) sort: Option<Sort>,
     pub(crate) len: usize,

@@ -1,6 +1,8 @@
 //! Every row of the table of tokens, and each limit at its edge and past it.
 
-use crate::{Sort, Token, tokens};
+use crate::{
+    Sort, Token, is_name, is_reserved, is_sign, is_word, next_statement, statements, tokens,
+};
 use std::test::Fail;
 
 /// What is wanted of a token: its sort, its text and its line.
@@ -238,5 +240,96 @@ fn each_limit_at_its_edge(rt: HostRuntime) -> Result<(), Fail> {
             "{front:?} {piece:?} {count} {end:?}"
         );
     }
+    Ok(())
+}
+
+/// What is wanted of a statement: its line, and the texts of its tokens.
+type Part = (u32, &'static [&'static str]);
+
+const SCRIPTS: [(&str, &[Part]); 8] = [
+    ("", &[]),
+    (" ;; ;", &[]),
+    ("a;b", &[(1, &["a"]), (1, &["b"])]),
+    ("a;b;", &[(1, &["a"]), (1, &["b"])]),
+    (
+        ";\na\nb;\n;c';'d",
+        &[(2, &["a", "b"]), (4, &["c", "';'", "d"])],
+    ),
+    ("a;'b;", &[(1, &["a"]), (1, &["'b;"])]),
+    ("a/*;*/b -- ;\nc", &[(1, &["a", "b", "c"])]),
+    ("a;\n/* b;", &[(1, &["a"]), (2, &["/* b;"])]),
+];
+
+fn is_part(found: &[Token<'_>], line: u32, part: Part) -> bool {
+    line == part.0
+        && found.len() == part.1.len()
+        && found
+            .iter()
+            .zip(part.1)
+            .all(|(token, text)| token.text == *text)
+}
+
+#[test]
+fn statements_stand_between_semicolons(rt: HostRuntime) -> Result<(), Fail> {
+    for (text, parts) in SCRIPTS {
+        let all = tokens(rt.alloc(), text)?;
+        let found = statements(rt.alloc(), all.as_slice())?;
+        assert_eq!(rt; found.len(), parts.len(), "{text:?}");
+        let mut at = 0;
+        for (statement, part) in found.iter().zip(parts) {
+            assert!(rt;
+                is_part(statement.tokens, statement.line, *part),
+                "{text:?}"
+            );
+            assert!(rt; at <= all.len());
+            let Some((next, end)) = next_statement(all.as_slice(), at) else {
+                panic!(rt; "{text:?}");
+            };
+            assert!(rt; is_part(next.tokens, next.line, *part), "{text:?}");
+            at = end;
+        }
+        assert!(rt; at <= all.len());
+        assert!(rt; next_statement(all.as_slice(), at).is_none(), "{text:?}");
+    }
+    Ok(())
+}
+
+const RESERVED: [&str; 2] = [
+    "ABS ALL AND ANY AS ASC AUTOMATIC AVG BEGIN BETWEEN BY CASE CAST CELL COMMIT COMPARE COUNT CREATE \
+    CROSS CV DATE DECIMAL DECREMENT DELETE DESC DIMENSION DROP ELSE END EXPLAIN FLOOR FOR FROM GROUP \
+    IGNORE IN INCREMENT INNER INSERT INT INTO IS ITERATE ITERATION_NUMBER JOIN KEEP KEY LENGTH LOAD MAIN \
+    MAX MEASURES MIN MODEL NAV NOT NULL NVL ON OR ORDER PARTITION PRESENT PRESENTNNV PRESENTV PREVIOUS \
+    PRIMARY REFERENCE RETURN ROLLBACK ROUND ROWS RULES SCENARIO SELECT SEQUENTIAL SET SHOW SUM TABLE \
+    TEXT THEN TO UNDER UNIQUE UNTIL UPDATE UPDATED UPSERT VALUES VIEW WHEN WHERE",
+    "abs all and any as asc automatic avg begin between by case cast cell commit compare count create \
+    cross cv date decimal decrement delete desc dimension drop else end explain floor for from group \
+    ignore in increment inner insert int into is iterate iteration_number join keep key length load main \
+    max measures min model nav not null nvl on or order partition present presentnnv presentv previous \
+    primary reference return rollback round rows rules scenario select sequential set show sum table \
+    text then to under unique until update updated upsert values view when where",
+];
+
+#[test]
+fn words_and_signs(rt: HostRuntime) -> Result<(), Fail> {
+    for text in RESERVED {
+        let all = tokens(rt.alloc(), text)?;
+        assert_eq!(rt; all.len(), 93);
+        for word in all {
+            assert!(rt; is_reserved(word.text) && !is_name(word), "{:?}", word.text);
+        }
+    }
+    for text in ["REGION", "selected", "SELEC", "x", "iteration_numbers", "a"] {
+        let all = tokens(rt.alloc(), text)?;
+        assert_eq!(rt; all.len(), 1);
+        assert!(rt; !is_reserved(text) && is_name(all[0]), "{text:?}");
+    }
+    let all = tokens(rt.alloc(), "Select 'SELECT' <= select_")?;
+    assert_eq!(rt; all.len(), 4);
+    assert!(rt;
+        is_word(all[0], "SELECT") && is_word(all[0], "select") && !is_word(all[0], "SELECT_")
+    );
+    assert!(rt; !is_word(all[1], "SELECT") && !is_name(all[1]) && !is_sign(all[1], "'SELECT'"));
+    assert!(rt; is_sign(all[2], "<=") && !is_sign(all[2], "<") && !is_word(all[2], "<="));
+    assert!(rt; is_name(all[3]) && !is_word(all[3], "SELECT") && is_word(all[3], "SELECT_"));
     Ok(())
 }

@@ -1,4 +1,9 @@
+pub mod NumberApart
 pub mod NumberTexts
+pub mod PrintsApart
 pub mod Ranges
+pub mod Rounding
 pub mod Steps
+pub mod Tallies
 pub mod Tens
+pub mod Written

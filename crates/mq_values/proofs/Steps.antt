@@ -1,5 +1,5 @@
 -- The last steps of the arithmetic, from what the code's calls gave to the definitions.
-use Rattle.std.proofs.Common.{◌≡◌, ◌≢◌, ℕ, zero, suc, ◌+◌, ◌-◌, ◌*◌, ◌/◌, ◌^◌, ◌<◌, ◌≤◌, max, min, ℤ, pos, negsuc, neg_ℤ, ◌+ℤ◌, ◌-ℤ◌, ◌*ℤ◌, Bool, true, false, refl, sym, ap, subst, ◌∙◌, arith, FitsSigned, Some, Ok, Err, to_z, of_z, int_eq}
+use Rattle.std.proofs.Common.{◌≡◌, ◌≢◌, ℕ, suc, ◌+◌, ◌-◌, ◌*◌, ◌^◌, ◌<◌, ◌≤◌, max, min, ℤ, pos, negsuc, neg_ℤ, ◌-ℤ◌, ◌*ℤ◌, Bool, true, false, refl, sym, ap, subst, ◌∙◌, arith, FitsSigned, Some, Ok, Err, to_z, of_z, int_eq}
 use Rattle.std.specs.Int.{w128}
 use Rattle.std.specs.Cmp.{signed_Decides}
 use Rattle.std.proofs.lemmas.Int.{ints, to_z-of_z}
@@ -35,7 +35,7 @@ pub half_up-le : (n d : ℕ) → 0 < d → half_up n d ≤ n
 half_up-le n d p =
     let more : n ≤ n * d = le-mul_of_pos_right n p in
     let below : 2 * n + d < suc n * (2 * d) = omega arith in
-    let less : half_up n d < suc n = (div-lt_iff_lt-mul (omega arith)).1 below in
+    let less : half_up n d < suc n = (div-lt_iff_lt-mul {k = 2 * d} {x = 2 * n + d} {y = suc n} (omega arith)).1 below in
     omega arith
 
 negated : (q n : ℕ) → q ≤ suc n → FitsSigned w128 (negsuc n) → FitsSigned w128 (neg_ℤ (pos q))
@@ -51,19 +51,20 @@ product_is a b t = rw (t) refl
 in_range_is : (z : ℤ) (s : ℕ) → is_mantissa z ≡ true → in_range z s ≡ Ok (record { mant = z; scale = s })
 in_range_is z s t = rw (t) refl
 
-pub product_step : (a b : Number) (m n x t : ℤ) (s : ℕ) → s ≡ a.scale + b.scale → 12 < s → m ≡ a.mant → n ≡ b.mant → FitsSigned w128 m → FitsSigned w128 n → t ≡ pos (10 ^ (s - 12)) → FitsSigned w128 t → FitsSigned w128 (to_z w128 (of_z w128 m) *ℤ to_z w128 (of_z w128 n)) → x ≡ to_z w128 (of_z w128 m) *ℤ to_z w128 (of_z w128 n) → in_range (rounded (to_z w128 (of_z w128 x)) (to_z w128 (of_z w128 t))) 12 ≡ product_of a b
-product_step a b m n x t s es l em en f g et ft fx ex =
+pub product_step : (a b : Number) (m n x t : ℤ) (s : ℕ) → s ≡ a.scale + b.scale → 12 < s → m ≡ a.mant → n ≡ b.mant → FitsSigned w128 m → FitsSigned w128 n → t ≡ pos (10 ^ (s - 12)) → FitsSigned w128 t → Some x ≡ fitting (to_z w128 (of_z w128 m) *ℤ to_z w128 (of_z w128 n)) → in_range (rounded (to_z w128 (of_z w128 x)) (to_z w128 (of_z w128 t))) 12 ≡ product_of a b
+product_step a b m n x t s es l em en f g et ft h =
     let left : to_z w128 (of_z w128 m) ≡ a.mant = to_z-of_z w128 m f ∙ em in
     let right : to_z w128 (of_z w128 n) ≡ b.mant = to_z-of_z w128 n g ∙ en in
-    let product : to_z w128 (of_z w128 m) *ℤ to_z w128 (of_z w128 n) ≡ a.mant *ℤ b.mant = λ i. left i *ℤ right i in
-    let fits : FitsSigned w128 (a.mant *ℤ b.mant) = subst (FitsSigned w128) product fx in
-    let exact : to_z w128 (of_z w128 x) ≡ a.mant *ℤ b.mant = to_z-of_z w128 x (subst (FitsSigned w128) (sym ex) fx) ∙ ex ∙ product in
+    let k = Fitting_some x (to_z w128 (of_z w128 m) *ℤ to_z w128 (of_z w128 n)) h in
+    let is : x ≡ a.mant *ℤ b.mant = k.0 ∙ (λ i. left i *ℤ right i) in
+    let fits : FitsSigned w128 (a.mant *ℤ b.mant) = subst (FitsSigned w128) is k.1 in
+    let exact : to_z w128 (of_z w128 x) ≡ a.mant *ℤ b.mant = to_z-of_z w128 x k.1 ∙ is in
     let unit : to_z w128 (of_z w128 t) ≡ pos (10 ^ (a.scale + b.scale - 12)) = to_z-of_z w128 t ft ∙ et ∙ (λ i. pos (10 ^ (es i - 12))) in
     let scale : 12 ≡ min (a.scale + b.scale) 12 = omega arith in
-    let result = rounded (a.mant *ℤ b.mant) (pos (10 ^ (a.scale + b.scale - 12))) in
-    let same : Ok (record { mant = result; scale = 12 }) ≡ Ok (record { mant = result; scale = min (a.scale + b.scale) 12 }) = λ i. Ok (record { mant = result; scale = scale i }) in
+    let nearest = rounded (a.mant *ℤ b.mant) (pos (10 ^ (a.scale + b.scale - 12))) in
+    let same : Ok (record { mant = nearest; scale = 12 }) ≡ Ok (record { mant = nearest; scale = min (a.scale + b.scale) 12 }) = λ i. Ok (record { mant = nearest; scale = scale i }) in
     (λ i. in_range (rounded (exact i) (unit i)) 12)
-    ∙ in_range_is result 12 (rounded_mantissa (a.mant *ℤ b.mant) (10 ^ (a.scale + b.scale - 12)) (ten_pos (a.scale + b.scale - 12)) fits)
+    ∙ in_range_is nearest 12 (rounded_mantissa (a.mant *ℤ b.mant) (10 ^ (a.scale + b.scale - 12)) (ten_pos (a.scale + b.scale - 12)) fits)
     ∙ same ∙ sym (product_is a b (fits_mantissa (a.mant *ℤ b.mant) fits))
 
 difference_is : (a b : Number) → is_mantissa (mant_at (max a.scale b.scale) a) ≡ true → is_mantissa (mant_at (max a.scale b.scale) b) ≡ true → difference_of a b ≡ in_range (mant_at (max a.scale b.scale) a -ℤ mant_at (max a.scale b.scale) b) (max a.scale b.scale)

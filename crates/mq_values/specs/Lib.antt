@@ -1,12 +1,17 @@
+pub mod Aggregate
 pub mod Answers
 pub mod Arithmetic
 pub mod Convert
+pub mod Laws
 pub mod Number
+pub mod NumberLaws
 pub mod NumberOrder
 pub mod Order
 pub mod OrderLaws
+pub mod OrderTells
 pub mod Print
 pub mod Shared
+pub mod Tally
 pub mod Text
 pub mod Words
 pub mod formers

@@ -1,5 +1,5 @@
 -- Why the order of numbers is an order, and agrees with equality.
-use Rattle.std.proofs.Common.{◌≡◌, ◌≢◌, ℕ, zero, suc, ◌+◌, ◌-◌, ◌*◌, ◌^◌, ◌<◌, ◌≤◌, ℤ, pos, negsuc, neg_ℤ, ◌*ℤ◌, ◌<ℤ◌, ◌≤ℤ◌, Bool, true, false, ◌&&◌, eqb, is_eq, refl, sym, ap, ◌∙◌, arith, ⊎_elim, Less, Greater, FitsSigned, int_le, int_lt, eq-eqb}
+use Rattle.std.proofs.Common.{◌≡◌, ◌≢◌, ℕ, zero, suc, ◌+◌, ◌-◌, ◌*◌, ◌^◌, ◌<◌, ◌≤◌, ℤ, pos, negsuc, neg_ℤ, ◌*ℤ◌, ◌<ℤ◌, ◌≤ℤ◌, Bool, true, false, ◌&&◌, eqb, is_eq, refl, sym, ap, ◌∙◌, arith, ⊎_elim, Less, Greater, FitsSigned, int_le, int_lt, eq-eqb, Ordering, Equal}
 use Rattle.std.specs.Int.{w128}
 use Rattle.std.proofs.Math.Bool.{and-false}
 use Rattle.std.proofs.lemmas.Int.{ints}
@@ -16,7 +16,7 @@ use Rattle.mq_values.specs.Number.{Number, is_mantissa, cmp_number}
 pub ten_pos : (k : ℕ) → 0 < 10 ^ k
 ten_pos k = one-le-pow k 10 (omega arith)
 
-neg_times : (n k : ℕ) → neg_ℤ (pos n) *ℤ pos k ≡ neg_ℤ (pos (n * k))
+pub neg_times : (n k : ℕ) → neg_ℤ (pos n) *ℤ pos k ≡ neg_ℤ (pos (n * k))
 neg_times zero k = ap (λ n. pos n) (zero-mul k) ∙ ap (λ n. neg_ℤ (pos n)) (sym (zero-mul k))
 neg_times (suc n) k = refl
 
@@ -74,6 +74,16 @@ cmp_out_above z n out neg fits = sym (int_cmp_is z n Greater (above_mantissa z n
 
 pub cmp_of_one_scale : (m n : ℤ) (s t : ℕ) → s ≡ t → int_cmp (m *ℤ pos (10 ^ (12 - s))) (n *ℤ pos (10 ^ (12 - t))) ≡ int_cmp m n
 cmp_of_one_scale m n s t e = rw (← e) (int_cmp-times m n (10 ^ (12 - s)) (ten_pos (12 - s)))
+
+then_tied : (o : Ordering) → ordering_then o Equal ≡ o
+then_tied Less = refl
+then_tied Equal = refl
+then_tied Greater = refl
+
+pub cmp_number_of_one_scale : (m n : ℤ) (s t : ℕ) → s ≡ t → ordering_then (int_cmp (m *ℤ pos (10 ^ (12 - s))) (n *ℤ pos (10 ^ (12 - t)))) (nat_cmp s t) ≡ int_cmp m n
+cmp_number_of_one_scale m n s t e =
+    let tied : nat_cmp s t ≡ Equal = ap (nat_cmp s) (sym e) ∙ tied_itself nat_cmp_total s in
+    (λ i. ordering_then (cmp_of_one_scale m n s t e i) (tied i)) ∙ then_tied (int_cmp m n)
 
 -- numbers of one scale that are worth the same have one mantissa
 pub equal_together : (x y : Number) → (int_eq x.mant y.mant && eqb x.scale y.scale) ≡ is_eq (cmp_number x y)

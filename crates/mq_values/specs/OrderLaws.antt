@@ -1,5 +1,5 @@
--- Why the order of values is an order, and tells values apart.
-use Rattle.std.proofs.Common.{◌≡◌, ℕ, List, [], ◌∷◌, Option, Some, None, Ordering, Less, Equal, Greater, refl, subst}
+-- Why the order of values is an order.
+use Rattle.std.proofs.Common.{◌≡◌, ℕ, List, Option, Some, None, Ordering, Less, Equal, Greater, refl, subst}
 use Rattle.std.specs.Ordering.{on, then_cmp, nat_cmp, ordering_then, eq_by_cmp}
 use Rattle.std.specs.Option.{option_cmp}
 use Rattle.std.specs.Cmp.{IsTotalOrder, on_total, then_total, nat_cmp_total, int_cmp_total}

@@ -3,7 +3,7 @@ ghost use Rattle.std.specs.Prelude.{◌≡◌, ◌≢◌, ◌≤◌, ◌<◌, �
 ghost use Rattle.mq_values.specs.Arithmetic.{difference_of, floor_of, half_up, in_range, magnitude_of, negation_of, product_of, quotient_of, rescaled, rounded, sum_of};
 
 use crate::faults::ValueFault;
-use crate::number::{Num, ten_to};
+use crate::number::{Num, ten_to, times};
 
 /// The sum `a + b`, of the larger scale. `Overflow` comes exactly where one of the two mantissas, brought
 /// to that scale, or their sum is out of range (docs/LANGUAGE.md, "Arithmetic").
@@ -47,7 +47,7 @@ pub fn mul(a: Num, b: Num) -> Result<Num, ValueFault>
     ensures { result ≡ product_of a b }
 {
     let scale = a.scale() + b.scale();
-    match a.mant().checked_mul(b.mant()) {
+    match times(a.mant(), b.mant()) {
         Some(exact) if scale <= 12 => Ok(Num::new(exact, scale)),
         Some(exact) => quotient(exact, ten_to(scale - 12), 12),
         None => Err(ValueFault::Overflow),
@@ -72,7 +72,7 @@ pub fn div(a: Num, b: Num) -> Result<Num, ValueFault>
 
 impl Num {
     /// The number brought to another scale: a cast, and ROUND. `Overflow` comes exactly where the result is
-    /// out of range (docs/LANGUAGE.md, "Conversions").
+    /// out of range (docs/LANGUAGE.md, "Arithmetic").
     pub fn rescale(self, scale: u8) -> Result<Num, ValueFault>
         requires { scale ≤ 12 }
         ensures { result ≡ rescaled self scale }
@@ -86,7 +86,8 @@ impl Num {
         }
     }
 
-    /// The number with the other sign. `Overflow` comes exactly where that is out of range.
+    /// The number with the other sign. `Overflow` comes exactly where that is out of range
+    /// (docs/LANGUAGE.md, "Arithmetic").
     pub fn neg(self) -> Result<Num, ValueFault>
         ensures { result ≡ negation_of self }
     {
@@ -96,7 +97,8 @@ impl Num {
         }
     }
 
-    /// The number without its sign. `Overflow` comes exactly where that is out of range.
+    /// The number without its sign. `Overflow` comes exactly where that is out of range
+    /// (docs/LANGUAGE.md, "Arithmetic").
     pub fn abs(self) -> Result<Num, ValueFault>
         ensures { result ≡ magnitude_of self }
     {
@@ -106,7 +108,7 @@ impl Num {
         }
     }
 
-    /// The greatest whole number that is not above this one.
+    /// The greatest whole number that is not above this one (docs/LANGUAGE.md, "Arithmetic").
     pub fn floor(self) -> Num
         ensures { result ≡ floor_of self }
     {

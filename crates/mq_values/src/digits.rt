@@ -1,12 +1,12 @@
 //! The printed text of a number.
-ghost use Rattle.std.specs.Prelude.{◌≡◌, ◌+◌, ◌^◌, ◌<◌, ◌≤◌, ◌++◌, ◌/◌, ◌%◌, length, take, drop, decimal, OnOk, OnErr, unsigned_abs};
-ghost use Rattle.mq_values.specs.Number.{fixed_digits, fraction_text, text_of_number};
+ghost use Rattle.std.specs.Prelude.{◌≡◌, ◌+◌, ◌^◌, ◌<◌, ◌≤◌, ◌++◌, ◌/◌, ◌%◌, [], ◌∷◌, length, take, drop, decimal, OnOk, OnErr, unsigned_abs};
+ghost use Rattle.mq_values.specs.Number.{fixed_digits, fraction_text, sign_text, text_of_number};
 
 use crate::memory::Memory;
 use crate::number::{Num, ten_to};
 
-/// Room for a sign, 39 digits and a point.
-const ROOM: usize = 48;
+/// Room for a sign, 39 digits, a point and 12 digits.
+const ROOM: usize = 56;
 
 impl Num {
     /// Appends the number's text: a whole number in decimal, any other with as many digits behind the
@@ -15,6 +15,75 @@ impl Num {
         ensures ok { OnOk result (out.new.items ≡ out.old.items ++ text_of_number self) }
         ensures err { OnErr result (out.new.items ≡ out.old.items) }
     {
-        Err(Memory)
+        let mut buffer = [0; ROOM];
+        let start = write_number(self, &mut buffer);
+        out.extend_from_slice(&buffer[start..])?;
+        Ok(())
     }
+}
+
+/// Writes the number's text at the end of the buffer, and returns where it begins.
+fn write_number(n: Num, buffer: &mut [u8; ROOM]) -> usize
+    ensures within { result ≤ 56 }
+    ensures text { drop result buffer.new ≡ text_of_number n }
+{
+    let size = n.mant().unsigned_abs();
+    let unit = ten_to(n.scale()) as u128;
+    let point = write_fraction((size % unit) as u64, n.scale(), buffer);
+    let start = write_whole(size / unit, buffer, point);
+    if n.mant() >= 0 {
+        return start;
+    }
+    buffer[start - 1] = b'-';
+    start - 1
+}
+
+/// Writes the point and the digits behind it at the end of the buffer, and returns where they begin.
+fn write_fraction(part: u64, scale: u8, buffer: &mut [u8; ROOM]) -> usize
+    requires { scale ≤ 12 }
+    ensures within { 43 ≤ result }
+    ensures end { result ≤ 56 }
+    ensures text { drop result buffer.new ≡ fraction_text scale part }
+{
+    if scale == 0 {
+        return ROOM;
+    }
+    let start = write_fixed(part, scale, buffer);
+    buffer[start - 1] = b'.';
+    start - 1
+}
+
+/// Writes that many digits at the end of the buffer, and returns where they begin.
+fn write_fixed(part: u64, count: u8, buffer: &mut [u8; ROOM]) -> usize
+    requires { count ≤ 12 }
+    ensures start { result + count ≡ 56 }
+    ensures text { drop result buffer.new ≡ fixed_digits count part }
+{
+    let start = ROOM - count as usize;
+    let mut left = part;
+    let mut at = ROOM;
+    while start < at {
+        at -= 1;
+        buffer[at] = b'0' + (left % 10) as u8;
+        left /= 10;
+    }
+    start
+}
+
+/// Writes the digits of `whole` so that they end at `end`, and returns where they begin.
+fn write_whole(whole: u128, buffer: &mut [u8; ROOM], end: usize) -> usize
+    requires whole { whole ≤ 2 ^ 127 }
+    requires room { 40 ≤ end × end ≤ 56 }
+    ensures room { 0 < result }
+    ensures within { result ≤ end }
+    ensures text { drop result buffer.new ≡ decimal whole ++ drop end buffer.old }
+{
+    let mut left = whole;
+    let mut at = end;
+    while left > u64::MAX as u128 {
+        at -= 1;
+        buffer[at] = b'0' + (left % 10) as u8;
+        left /= 10;
+    }
+    itoa::write_digits(left as u64, buffer, at)
 }

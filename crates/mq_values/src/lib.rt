@@ -9,12 +9,19 @@ mod convert;
 mod digits;
 mod faults;
 mod items;
+mod laws;
 mod memory;
 mod number;
+mod number_laws;
+#[cfg(test)]
+mod number_tests;
 mod operators;
 mod order;
 mod printing;
 mod shared;
+mod tally;
+#[cfg(test)]
+mod tests;
 mod text;
 mod value;
 mod words;
@@ -24,12 +31,20 @@ pub use boxed::Boxed;
 pub use convert::{cast, concat, length};
 pub use faults::{FaultKind, QueryFault, Refused, ValueFault};
 pub use items::Items;
+pub use laws::{
+    keys_are_ordered, order_agrees_with_comparison, values_are_ordered, values_print_apart,
+};
 pub use memory::{Fail, Memory};
 pub use number::Num;
+pub use number_laws::{
+    casts_back_nearby, floors_below, orders_by_worth, prints_apart, rounds_to_nearest,
+    subtracts_by_negation,
+};
 pub use operators::{Agg, CmpOp, DimTest, Func, Mode, ProdOp, SumOp};
 pub use order::{cmp_sql, cmp_total};
 pub use printing::print;
 pub use shared::Shared;
+pub use tally::Tally;
 pub use text::Text;
 pub use value::{Key, Kind, Value};
 pub use words::Words;

@@ -10,6 +10,7 @@ ghost use Rattle.mq_values.specs.NumberOrder.{equal_together};
 use std::cmp::Ordering;
 use std::marker::Model;
 
+/// The powers of ten.
 static TENS: [i128; 25] = [
     1,
     10,
@@ -38,7 +39,8 @@ static TENS: [i128; 25] = [
     1_000_000_000_000_000_000_000_000,
 ];
 
-/// An exact decimal number: a mantissa and a scale from 0 to 12, worth mantissa / 10^scale.
+/// An exact decimal number: a mantissa and a scale from 0 to 12, worth mantissa / 10^scale
+/// (docs/LANGUAGE.md, "Numbers"). Equality, order and hash tell `1.0` from `1.00`.
 #[derive(Clone, Copy, Debug, PartialEq, Eq, Hash)]
 pub struct Num {
     mant: i128,
@@ -83,7 +85,7 @@ impl Num {
         self.scale
     }
 
-    /// Compares by worth alone, whatever the scales.
+    /// Compares by worth alone, whatever the scales: `1.0` and `1.00` are equal (docs/LANGUAGE.md, "Order").
     pub fn cmp_value(self, other: Num) -> Ordering
         ensures { result ≡ cmp_worth self other }
     {
@@ -103,7 +105,20 @@ impl Num {
         requires { zeros ≤ 24 }
         ensures { result ≡ fitting (self.mant *ℤ pos (10 ^ zeros)) }
     {
-        self.mant.checked_mul(ten_to(zeros))
+        if zeros == 0 {
+            return Some(self.mant);
+        }
+        times(self.mant, ten_to(zeros))
+    }
+}
+
+/// The product, where it is in range. Most mantissas are short, and their products are always in range.
+pub(crate) fn times(a: i128, b: i128) -> Option<i128>
+    ensures { result ≡ fitting (a *ℤ b) }
+{
+    match (i64::try_from(a), i64::try_from(b)) {
+        (Ok(short), Ok(other)) => Some(short as i128 * other as i128),
+        _ => a.checked_mul(b),
     }
 }
 
@@ -127,6 +142,7 @@ fn scaled_cmp(a: Num, b: Num) -> Ordering
     }
 }
 
+/// The total order: by worth, and then by scale (docs/LANGUAGE.md, "Order").
 impl Ord for Num {
     ghost cmp = { cmp_number };
 
@@ -137,6 +153,9 @@ impl Ord for Num {
     ghost matches_eq = { equal_together };
 
     fn cmp(&self, other: &Num) -> Ordering {
+        if self.scale == other.scale {
+            return self.mant.cmp(&other.mant);
+        }
         self.cmp_value(*other).then(self.scale.cmp(&other.scale))
     }
 }

@@ -1,4 +1,4 @@
-ghost use Rattle.std.specs.Prelude.{◌≡◌, IfOk};
+ghost use Rattle.std.specs.Prelude.{◌≡◌, ◌↔◌, IsTrue, IfOk};
 ghost use Rattle.std.specs.Ordering.{as_partial_cmp};
 ghost use Rattle.std.specs.Cmp.{partial_order_from_agreeing_total};
 ghost use Rattle.mq_values.specs.Order.{cmp_value};
@@ -32,6 +32,12 @@ pub enum Value {
 pub type Key = Shared<Value>;
 
 impl Value {
+    pub fn is_null(&self) -> bool
+        ensures { IsTrue result ↔ (self.now ≡ Value.Null) }
+    {
+        matches!(self, Value::Null)
+    }
+
     /// The same value once more. A text is shared, not copied.
     pub fn copy(&self) -> Result<Value, Memory>
         ensures { IfOk result (λ v. v ≡ self.now) }

@@ -1,6 +1,6 @@
 use Rattle.std.proofs.Common.{◌≡◌, ◌+◌, ◌-◌, ◌≤◌, length, drop}
 use Rattle.std.specs.List.{prefix_len}
-use Rattle.mq_lexer.specs.Tokens.{is_continuation}
+use Rattle.mq_lexer.specs.Pieces.{is_continuation}
 use Rattle.mq_lexer.proofs.pieces.char_len.Given as goal
 
 abbrev pub invariant-loop-n : goal.invariant-loop-n

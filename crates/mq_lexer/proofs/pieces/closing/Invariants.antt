@@ -1,6 +1,6 @@
 use Rattle.std.proofs.Common.{◌≡◌, drop, false}
 use Rattle.std.specs.Option.{option_or}
-use Rattle.mq_lexer.specs.Tokens.{closing}
+use Rattle.mq_lexer.specs.Quotes.{closing}
 use Rattle.mq_lexer.proofs.Places.{from_place}
 use Rattle.mq_lexer.proofs.pieces.closing.Given as goal
 

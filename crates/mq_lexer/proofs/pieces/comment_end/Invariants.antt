@@ -1,5 +1,5 @@
 use Rattle.std.proofs.Common.{◌≡◌, ◌+◌, length}
-use Rattle.mq_lexer.specs.Tokens.{comment_end}
+use Rattle.mq_lexer.specs.Pieces.{comment_end}
 use Rattle.mq_lexer.proofs.Places.{from_place}
 use Rattle.mq_lexer.proofs.pieces.comment_end.Given as goal
 

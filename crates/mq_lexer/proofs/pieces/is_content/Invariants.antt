@@ -1,7 +1,7 @@
-use Rattle.std.proofs.Common.{◌≡◌, ◌+◌, ◌≤◌, length, ◌&&◌, false}
+use Rattle.std.proofs.Common.{◌≡◌, ◌+◌, ◌≤◌, length, ◌&&◌}
 use Rattle.std.specs.Prelude.{nat_le}
 use Rattle.std.specs.List.{list_all}
-use Rattle.mq_lexer.specs.Tokens.{content, is_content, is_plain}
+use Rattle.mq_lexer.specs.Quotes.{content, is_content, is_plain}
 use Rattle.mq_lexer.proofs.pieces.is_content.Given as goal
 
 abbrev pub invariant-loop-inner : goal.invariant-loop-inner

@@ -1,6 +1,6 @@
 use Rattle.std.proofs.Common.{◌≡◌, ◌≤◌, length}
 use Rattle.std.specs.List.{fold}
-use Rattle.mq_lexer.specs.Tokens.{with_digit}
+use Rattle.mq_lexer.specs.Numbers.{with_digit}
 use Rattle.mq_lexer.proofs.pieces.is_small.Given as goal
 
 abbrev pub invariant-loop-number : goal.invariant-loop-number

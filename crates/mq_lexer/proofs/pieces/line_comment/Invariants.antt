@@ -1,6 +1,6 @@
 use Rattle.std.proofs.Common.{◌≡◌, ◌+◌, ◌-◌, ◌≤◌, length, drop}
 use Rattle.std.specs.List.{prefix_len}
-use Rattle.mq_lexer.specs.Tokens.{is_not_lf}
+use Rattle.mq_lexer.specs.Pieces.{is_not_lf}
 use Rattle.mq_lexer.proofs.pieces.line_comment.Given as goal
 
 abbrev pub invariant-loop-len : goal.invariant-loop-len

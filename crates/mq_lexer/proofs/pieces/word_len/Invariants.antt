@@ -1,6 +1,6 @@
 use Rattle.std.proofs.Common.{◌≡◌, ◌+◌, ◌-◌, ◌≤◌, length, drop}
 use Rattle.std.specs.List.{prefix_len}
-use Rattle.mq_lexer.specs.Tokens.{is_word_byte}
+use Rattle.mq_lexer.specs.Pieces.{is_word_byte}
 use Rattle.mq_lexer.proofs.pieces.word_len.Given as goal
 
 abbrev pub invariant-loop-n : goal.invariant-loop-n

@@ -1,10 +1,10 @@
-use Rattle.std.proofs.Common.{◌≡◌, ◌<◌, ◌≤◌, length, arith, sym, ap, ◌∙◌, subst}
+use Rattle.std.proofs.Common.{◌≡◌, ◌<◌, length, arith, sym, ap, ◌∙◌, subst}
 use Rattle.std.proofs.lemmas.Bool.Decides.{nat_tests}
-use Rattle.std.specs.Str.{IsCharBoundary}
 use Rattle.std.specs.List.{fold}
-use Rattle.mq_lexer.specs.Tokens.{front, line_after}
+use Rattle.mq_lexer.specs.Pieces.{front}
+use Rattle.mq_lexer.specs.Tokens.{line_after}
 use Rattle.mq_lexer.proofs.Cuts.{Cut, front-cut}
-use Rattle.mq_lexer.proofs.Scans.{scans_first, scans_next, scans_last}
+use Rattle.mq_lexer.proofs.Scans.{scans_first, scans_next}
 use Rattle.mq_lexer.proofs.scanner.tokens.Goals as goal
 use Rattle.mq_lexer.proofs.scanner.tokens.Goals.{After-front-piece}
 

@@ -1,4 +1,4 @@
-use Rattle.std.proofs.Common.{◌<◌, ◌≤◌, arith, length, map}
+use Rattle.std.proofs.Common.{◌<◌, ◌≤◌, arith, length}
 use Rattle.std.proofs.lemmas.List.{length-map}
 use Rattle.mq_lexer.specs.Lexemes.{lexeme}
 use Rattle.mq_lexer.proofs.StatementLemmas.{next_none, next_some}

@@ -1,4 +1,4 @@
-use Rattle.std.proofs.Common.{◌≡◌, ◌∙◌, ap, arith, Ok}
+use Rattle.std.proofs.Common.{◌∙◌, ap, arith, Ok}
 use Rattle.mq_values.proofs.Steps.{Brought, difference_some, difference_none}
 use Rattle.mq_values.proofs.arithmetic.sub.Goals as goal
 

@@ -1,5 +1,5 @@
 -- What it takes of a reader to be exact: it reads what is spelled, and nothing else.
-use Rattle.std.proofs.Common.{◌≡◌, ℕ, zero, suc, ◌+◌, ◌≤◌, Bool, true, false, cond, List, [], ◌∷◌, ◌++◌, Option, None, Some, length, drop, codes, refl, sym, ap, ◌∙◌, subst, arith, append_assoc}
+use Rattle.std.proofs.Common.{◌≡◌, ℕ, zero, suc, ◌+◌, ◌≤◌, true, false, cond, List, [], ◌∷◌, ◌++◌, Option, None, Some, length, drop, codes, refl, sym, ap, ◌∙◌, subst, arith, append_assoc}
 use Rattle.std.specs.Str.{bytes_eq}
 use Rattle.std.proofs.lemmas.Slice.Eq.{bytes_eq-Decides}
 use Rattle.mq_lexer.specs.Words.{folded, is_reserved}
@@ -16,6 +16,10 @@ bound (Some a) f b e = (a, refl, e)
 -- a step of a reading, where it gives something
 pub then : {A B : Type 0} {o : Option A} {a : A} (f : A → Option B) → o ≡ Some a → (o >>= f) ≡ f a
 then f e = ap (λ r. r >>= f) e
+
+-- a part, and the marks behind it
+abbrev pub got : {X : Type 0} → X → List Mark → Read X
+got x ts = Some (x, ts)
 
 pub some_same : {A : Type 0} {a b : A} → Some a ≡ Some b → a ≡ b
 some_same e = cc
@@ -51,9 +55,10 @@ has_sign_sound s (Other ∷ ts) e = absurd cc
 pub name_sound : (ts : List Mark) (n : List ℕ) (u : List Mark) → read_name ts ≡ Some (n, u) → IsName n × (Word n ∷ u ≡ ts)
 name_sound [] n u e = absurd cc
 name_sound (Word w ∷ ts) n u e =
-    elim (is_reserved w) as (λ q. (is_reserved w ≡ q) → cond q None (Some (w, ts)) ≡ Some (n, u) → IsName n × (Word n ∷ u ≡ Word w ∷ ts))
-    [ true ↦ λ p e. absurd cc
-    | false ↦ λ p e. subst (λ (r : List ℕ × List Mark). IsName r.0 × (Word r.0 ∷ r.1 ≡ Word w ∷ ts)) (some_same e) (p, refl) ] refl e
+    elim (is_reserved w) as (λ q. (is_reserved w ≡ q) → cond q None (got w ts) ≡ got n u → IsName n × (Word n ∷ u ≡ Word w ∷ ts)) [
+      | true ↦ λ p e. absurd cc
+      | false ↦ λ p e. subst (λ (r : List ℕ × List Mark). IsName r.0 × (Word r.0 ∷ r.1 ≡ Word w ∷ ts)) (some_same e) (p, refl)
+    ] refl e
 name_sound (Sign s ∷ ts) n u e = absurd cc
 name_sound (Whole m ∷ ts) n u e = absurd cc
 name_sound (Other ∷ ts) n u e = absurd cc
@@ -80,7 +85,6 @@ NoComma ts = has_sign (codes ",") ts ≡ false
 
 module _ {X : Type 0} {read : List Mark → Read X} {spelled : X → List Mark → List Mark} {Is : X → Type 0} {Stops : List Mark → Type 0}
     (exact : Exact read spelled Is Stops) (at_comma : (ts : List Mark) → Stops (Sign (codes ",") ∷ ts)) where
-
   each_of_list : (xs : List X) → IsList Is xs → IsEach Is xs
   each_of_list [] is = absurd is
   each_of_list (x ∷ xs) is = is
@@ -102,14 +106,18 @@ module _ {X : Type 0} {read : List Mark → Read X} {spelled : X → List Mark �
       let u = b.0.1 in
       let s = exact.sound ts x u b.1 in
       elim (has_sign (codes ",") u) as (λ q. (has_sign (codes ",") u ≡ q) → cond q (list_from read n (found ++ x ∷ []) (drop 1 u)) (Some (found ++ x ∷ [], u)) ≡ Some (r, rest)
-          → (xs : List X) × (r ≡ found ++ xs) × IsList Is xs × (list_spelled spelled xs rest ≡ ts))
-      [ true ↦ λ comma e.
-          let h = list_sound n (found ++ x ∷ []) (drop 1 u) r rest e in
-          (x ∷ h.0, h.1 ∙ append_assoc found (x ∷ []) h.0, (s.0, each_of_list h.0 h.2),
-            ap (spelled x) (more_of_list h.0 rest h.2 ∙ ap (λ t. Sign (codes ",") ∷ t) h.3 ∙ has_sign_sound (codes ",") u comma) ∙ s.1)
-      | false ↦ λ none e.
-          let k : ◌≡◌ {A = List X × List Mark} (found ++ x ∷ [], u) (r, rest) = some_same e in
-          (x ∷ [], ap (λ p. p.0) (sym k), (s.0, tt), ap (λ (p : List X × List Mark). spelled x p.1) (sym k) ∙ s.1) ] refl b.2
+      → (xs : List X) × (r ≡ found ++ xs) × IsList Is xs × (list_spelled spelled xs rest ≡ ts)) [
+        | true ↦ λ comma e.
+            let h = list_sound n (found ++ x ∷ []) (drop 1 u) r rest e in (
+              x ∷ h.0,
+              h.1 ∙ append_assoc found (x ∷ []) h.0,
+              (s.0, each_of_list h.0 h.2),
+              ap (spelled x) (more_of_list h.0 rest h.2 ∙ ap (λ t. Sign (codes ",") ∷ t) h.3 ∙ has_sign_sound (codes ",") u comma) ∙ s.1,
+            )
+        | false ↦ λ none e.
+            let k : ◌≡◌ {A = List X × List Mark} (found ++ x ∷ [], u) (r, rest) = some_same e in
+            (x ∷ [], ap (λ p. p.0) (sym k), (s.0, tt), ap (λ (p : List X × List Mark). spelled x p.1) (sym k) ∙ s.1)
+      ] refl b.2
 
   list_full : (xs : List X) (x : X) (n : ℕ) (found : List X) (rest : List Mark) → Is x → IsEach Is xs → length xs ≤ n → NoComma rest → Stops rest
       → list_from read (suc n) found (spelled x (more_spelled spelled xs rest)) ≡ Some (found ++ x ∷ xs, rest)

@@ -1,7 +1,7 @@
 -- The reader of each part of a statement is exact.
-use Rattle.std.proofs.Common.{◌≡◌, ℕ, zero, suc, ◌+◌, ◌≤◌, Bool, true, false, cond, ◌||◌, List, [], ◌∷◌, ◌++◌, Option, None, Some, length, drop, codes, refl, sym, ap, ◌∙◌, subst, arith, append_assoc, append-nil}
-use Rattle.mq_cli.specs.Marks.{Mark, Word, Sign, Whole, Other}
-use Rattle.mq_cli.specs.Reading.{◌>>=◌, Read, past_word, past_sign, has_sign, has_whole, read_name, read_whole, read_list}
+use Rattle.std.proofs.Common.{◌≡◌, ℕ, zero, suc, ◌+◌, ◌≤◌, Bool, true, false, cond, ◌||◌, List, [], ◌∷◌, ◌++◌, Some, length, drop, codes, refl, sym, ap, ◌∙◌, subst, arith, append_assoc, append-nil}
+use Rattle.mq_cli.specs.Marks.{Mark, Word, Sign}
+use Rattle.mq_cli.specs.Reading.{◌>>=◌, past_word, past_sign, has_sign, read_name, read_whole, read_list}
 use Rattle.mq_cli.specs.Grammar.{literal, read_literal, read_cell, read_term, begins_literal, has_sum_sign, terms_from, read_terms, read_rule, read_column, read_row}
 use Rattle.mq_cli.specs.Spelling.{word, name_spelled, literal_spelled, cell_spelled, term_spelled, next_spelled, all_spelled, rule_spelled, column_spelled, row_spelled, list_spelled}
 use Rattle.mq_cli.specs.Trees.{IsEach, IsList, IsName, IsLiteral, IsCell, IsTerm, IsNext, IsRule, IsColumn, IsRow}
@@ -13,7 +13,7 @@ use Rattle.mq_cli.specs.declared.tree.NextTerm.{NextTerm}
 use Rattle.mq_cli.specs.declared.tree.RuleTree.{RuleTree}
 use Rattle.mq_cli.specs.declared.tree.ColumnTree.{ColumnTree}
 use Rattle.mq_cli.specs.declared.tree.RowTree.{RowTree}
-use Rattle.mq_cli.proofs.Exact.{bound, then, some_same, word_sound, sign_sound, has_sign_sound, name_sound, name_full, whole_sound, Exact, NoComma, list_exact}
+use Rattle.mq_cli.proofs.ExactLemmas.{bound, then, got, some_same, word_sound, sign_sound, has_sign_sound, name_sound, name_full, whole_sound, Exact, NoComma, list_exact}
 
 -- nothing goes on with it
 abbrev pub Always : List Mark → Type 0
@@ -29,16 +29,16 @@ name_exact = record { sound = λ ts n rest e. name_sound ts n rest e; full = λ 
 -- ---- literals
 
 literal_from : (minus : Bool) (ts : List Mark) (l : Literal) (rest : List Mark)
-    → cond minus (past_sign (codes "-") ts >>= read_whole >>= (λ n. Some (literal true n.0, n.1))) (read_whole ts >>= (λ n. Some (literal false n.0, n.1))) ≡ Some (l, rest)
+    → cond minus (past_sign (codes "-") ts >>= read_whole >>= (λ n. got (literal true n.0) n.1)) (read_whole ts >>= (λ n. got (literal false n.0) n.1)) ≡ got l rest
     → literal_spelled l rest ≡ ts
 literal_from true ts l rest e =
-    let b = bound (past_sign (codes "-") ts >>= read_whole) (λ n. Some (literal true n.0, n.1)) (l, rest) e in
+    let b = bound (past_sign (codes "-") ts >>= read_whole) (λ n. got (literal true n.0) n.1) (l, rest) e in
     let a = bound (past_sign (codes "-") ts) read_whole b.0 b.1 in
     let k : ◌≡◌ {A = Literal × List Mark} (literal true b.0.0, b.0.1) (l, rest) = some_same b.2 in
     ap (λ (p : Literal × List Mark). literal_spelled p.0 p.1) (sym k)
     ∙ ap (λ t. Sign (codes "-") ∷ t) (whole_sound a.0 b.0.0 b.0.1 a.2) ∙ sign_sound (codes "-") ts a.0 a.1
 literal_from false ts l rest e =
-    let b = bound (read_whole ts) (λ n. Some (literal false n.0, n.1)) (l, rest) e in
+    let b = bound (read_whole ts) (λ n. got (literal false n.0) n.1) (l, rest) e in
     let k : ◌≡◌ {A = Literal × List Mark} (literal false b.0.0, b.0.1) (l, rest) = some_same b.2 in
     ap (λ (p : Literal × List Mark). literal_spelled p.0 p.1) (sym k) ∙ whole_sound ts b.0.0 b.0.1 b.1
 
@@ -68,10 +68,12 @@ cell_sound ts c rest e =
     let l = bound (read_literal a.0) _ _ a.2 in
     let b = bound (past_sign (codes "]") l.0.1) _ _ l.2 in
     let s = name_sound ts n.0.0 n.0.1 n.1 in
-    subst (λ (p : CellTree × List Mark). IsCell p.0 × (cell_spelled p.0 p.1 ≡ ts)) (some_same b.2)
-      (s.0, ap (λ t. Word n.0.0 ∷ Sign (codes "[") ∷ literal_spelled l.0.0 t) (sign_sound (codes "]") l.0.1 b.0 b.1)
-        ∙ ap (λ t. Word n.0.0 ∷ Sign (codes "[") ∷ t) (literal_sound a.0 l.0.0 l.0.1 l.1).1
-        ∙ ap (λ t. Word n.0.0 ∷ t) (sign_sound (codes "[") n.0.1 a.0 a.1) ∙ s.1)
+    subst (λ (p : CellTree × List Mark). IsCell p.0 × (cell_spelled p.0 p.1 ≡ ts)) (some_same b.2) (
+      s.0,
+      ap (λ t. Word n.0.0 ∷ Sign (codes "[") ∷ literal_spelled l.0.0 t) (sign_sound (codes "]") l.0.1 b.0 b.1)
+          ∙ ap (λ t. Word n.0.0 ∷ Sign (codes "[") ∷ t) (literal_sound a.0 l.0.0 l.0.1 l.1).1
+          ∙ ap (λ t. Word n.0.0 ∷ t) (sign_sound (codes "[") n.0.1 a.0 a.1) ∙ s.1,
+    )
 
 cell_full : (c : CellTree) (rest : List Mark) → IsCell c → Always rest → read_cell (cell_spelled c rest) ≡ Some (c, rest)
 unfolding read_cell
@@ -88,7 +90,7 @@ cell_exact = record { sound = cell_sound; full = cell_full; longer = cell_longer
 -- ---- terms
 
 term_from : (literal : Bool) (ts : List Mark) (t : Term) (rest : List Mark)
-    → cond literal (read_literal ts >>= (λ l. Some (term.Literal l.0, l.1))) (read_cell ts >>= (λ c. Some (term.Cell c.0, c.1))) ≡ Some (t, rest)
+    → cond literal (read_literal ts >>= (λ l. got (term.Literal l.0) l.1)) (read_cell ts >>= (λ c. got (term.Cell c.0) c.1)) ≡ got t rest
     → IsTerm t × (term_spelled t rest ≡ ts)
 term_from true ts t rest e =
     let b = bound (read_literal ts) _ _ e in
@@ -108,9 +110,9 @@ begins false n rest = refl
 term_full : (t : Term) (rest : List Mark) → IsTerm t → Always rest → read_term (term_spelled t rest) ≡ Some (t, rest)
 unfolding read_term
 term_full (term.Literal l) rest is stops =
-    ap (λ q. cond q (read_literal (literal_spelled l rest) >>= (λ l. Some (term.Literal l.0, l.1))) (read_cell (literal_spelled l rest) >>= (λ c. Some (term.Cell c.0, c.1)))) (begins l.minus l.whole rest)
-    ∙ then (λ l. Some (term.Literal l.0, l.1)) (literal_full l.minus l.whole rest)
-term_full (term.Cell c) rest is stops = then (λ c. Some (term.Cell c.0, c.1)) (cell_full c rest is tt)
+    ap (λ q. cond q (read_literal (literal_spelled l rest) >>= (λ l. got (term.Literal l.0) l.1)) (read_cell (literal_spelled l rest) >>= (λ c. got (term.Cell c.0) c.1))) (begins l.minus l.whole rest)
+    ∙ then (λ l. got (term.Literal l.0) l.1) (literal_full l.minus l.whole rest)
+term_full (term.Cell c) rest is stops = then (λ c. got (term.Cell c.0) c.1) (cell_full c rest is tt)
 
 term_longer : (t : Term) (rest : List Mark) → length rest ≤ length (term_spelled t rest)
 term_longer (term.Literal l) rest = literal_longer l.minus l.whole rest
@@ -131,17 +133,21 @@ terms_sound : (n : ℕ) (found : List NextTerm) (ts : List Mark) (r : List NextT
 terms_sound zero found ts r rest e = absurd cc
 terms_sound (suc n) found ts r rest e =
     let minus = has_sign (codes "-") ts in
-    elim (has_sum_sign ts) as (λ q. (has_sum_sign ts ≡ q) → cond q (read_term (drop 1 ts) >>= (λ t. terms_from n (found ++ next minus t.0 ∷ []) t.1)) (Some (found, ts)) ≡ Some (r, rest)
-        → (xs : List NextTerm) × (r ≡ found ++ xs) × IsEach IsNext xs × (all_spelled next_spelled xs rest ≡ ts))
-    [ true ↦ λ sign e.
-        let b = bound (read_term (drop 1 ts)) (λ t. terms_from n (found ++ next minus t.0 ∷ []) t.1) (r, rest) e in
-        let s = term_sound (drop 1 ts) b.0.0 b.0.1 b.1 in
-        let h = terms_sound n (found ++ next minus b.0.0 ∷ []) b.0.1 r rest b.2 in
-        (next minus b.0.0 ∷ h.0, h.1 ∙ append_assoc found (next minus b.0.0 ∷ []) h.0, (s.0, h.2),
-          ap (λ t. Sign (cond minus (codes "-") (codes "+")) ∷ t) (ap (term_spelled b.0.0) h.3 ∙ s.1) ∙ sign_of minus ts refl sign)
-    | false ↦ λ none e.
-        let k : ◌≡◌ {A = List NextTerm × List Mark} (found, ts) (r, rest) = some_same e in
-        ([], ap (λ p. p.0) (sym k) ∙ sym (append-nil found), tt, ap (λ (p : List NextTerm × List Mark). p.1) (sym k)) ] refl e
+    elim (has_sum_sign ts) as (λ q. (has_sum_sign ts ≡ q) → cond q (read_term (drop 1 ts) >>= (λ t. terms_from n (found ++ next minus t.0 ∷ []) t.1)) (got found ts) ≡ got r rest
+    → (xs : List NextTerm) × (r ≡ found ++ xs) × IsEach IsNext xs × (all_spelled next_spelled xs rest ≡ ts)) [
+      | true ↦ λ sign e.
+          let b = bound (read_term (drop 1 ts)) (λ t. terms_from n (found ++ next minus t.0 ∷ []) t.1) (r, rest) e in
+          let s = term_sound (drop 1 ts) b.0.0 b.0.1 b.1 in
+          let h = terms_sound n (found ++ next minus b.0.0 ∷ []) b.0.1 r rest b.2 in (
+            next minus b.0.0 ∷ h.0,
+            h.1 ∙ append_assoc found (next minus b.0.0 ∷ []) h.0,
+            (s.0, h.2),
+            ap (λ t. Sign (cond minus (codes "-") (codes "+")) ∷ t) (ap (term_spelled b.0.0) h.3 ∙ s.1) ∙ sign_of minus ts refl sign,
+          )
+      | false ↦ λ none e.
+          let k : ◌≡◌ {A = List NextTerm × List Mark} (found, ts) (r, rest) = some_same e in
+          ([], ap (λ p. p.0) (sym k) ∙ sym (append-nil found), tt, ap (λ (p : List NextTerm × List Mark). p.1) (sym k))
+    ] refl e
 
 has_its_sign : (minus : Bool) (ts : List Mark) → has_sum_sign (Sign (cond minus (codes "-") (codes "+")) ∷ ts) ≡ true
 has_its_sign true ts = refl
@@ -192,11 +198,12 @@ rule_sound ts r rest e =
     let sc = cell_sound ts c.0.0 c.0.1 c.1 in
     let st = term_sound a.0 t.0.0 t.0.1 t.1 in
     let su = read_terms_sound t.0.1 u.0.0 u.0.1 u.1 in
-    subst (λ (p : RuleTree × List Mark). IsRule p.0 × (rule_spelled p.0 p.1 ≡ ts)) (some_same u.2)
-      ((sc.0, st.0, su.0),
-        ap (λ l. cell_spelled c.0.0 (Sign (codes "=") ∷ term_spelled t.0.0 l)) su.1
-        ∙ ap (λ l. cell_spelled c.0.0 (Sign (codes "=") ∷ l)) st.1
-        ∙ ap (cell_spelled c.0.0) (sign_sound (codes "=") c.0.1 a.0 a.1) ∙ sc.1)
+    subst (λ (p : RuleTree × List Mark). IsRule p.0 × (rule_spelled p.0 p.1 ≡ ts)) (some_same u.2) (
+      (sc.0, st.0, su.0),
+      ap (λ l. cell_spelled c.0.0 (Sign (codes "=") ∷ term_spelled t.0.0 l)) su.1
+          ∙ ap (λ l. cell_spelled c.0.0 (Sign (codes "=") ∷ l)) st.1
+          ∙ ap (cell_spelled c.0.0) (sign_sound (codes "=") c.0.1 a.0 a.1) ∙ sc.1,
+    )
 
 rule_full : (r : RuleTree) (rest : List Mark) → IsRule r → NoSign rest → read_rule (rule_spelled r rest) ≡ Some (r, rest)
 unfolding read_rule
@@ -223,7 +230,7 @@ column_sound ts c rest e =
     let a = bound (past_word (codes "INT") n.0.1) _ _ n.2 in
     let s = name_sound ts n.0.0 n.0.1 n.1 in
     subst (λ (p : ColumnTree × List Mark). IsColumn p.0 × (column_spelled p.0 p.1 ≡ ts)) (some_same a.2)
-      (s.0, ap (λ t. Word n.0.0 ∷ t) (word_sound (codes "INT") n.0.1 a.0 a.1) ∙ s.1)
+    (s.0, ap (λ t. Word n.0.0 ∷ t) (word_sound (codes "INT") n.0.1 a.0 a.1) ∙ s.1)
 
 column_full : (c : ColumnTree) (rest : List Mark) → IsColumn c → Always rest → read_column (column_spelled c rest) ≡ Some (c, rest)
 unfolding read_column
@@ -242,9 +249,11 @@ row_sound ts r rest e =
     let l = bound (read_list read_literal a.0) _ _ a.2 in
     let b = bound (past_sign (codes ")") l.0.1) _ _ l.2 in
     let s = literals.sound a.0 l.0.0 l.0.1 l.1 in
-    subst (λ (p : RowTree × List Mark). IsRow p.0 × (row_spelled p.0 p.1 ≡ ts)) (some_same b.2)
-      (s.0, ap (λ t. Sign (codes "(") ∷ list_spelled literal_spelled l.0.0 t) (sign_sound (codes ")") l.0.1 b.0 b.1)
-        ∙ ap (λ t. Sign (codes "(") ∷ t) s.1 ∙ sign_sound (codes "(") ts a.0 a.1)
+    subst (λ (p : RowTree × List Mark). IsRow p.0 × (row_spelled p.0 p.1 ≡ ts)) (some_same b.2) (
+      s.0,
+      ap (λ t. Sign (codes "(") ∷ list_spelled literal_spelled l.0.0 t) (sign_sound (codes ")") l.0.1 b.0 b.1)
+          ∙ ap (λ t. Sign (codes "(") ∷ t) s.1 ∙ sign_sound (codes "(") ts a.0 a.1,
+    )
 
 row_full : (r : RowTree) (rest : List Mark) → IsRow r → Always rest → read_row (row_spelled r rest) ≡ Some (r, rest)
 unfolding read_row

@@ -1,0 +1,5 @@
+use Rattle.mq_values.proofs.PrintsApart.{values_apart}
+use Rattle.mq_values.proofs.laws.values_print_apart.Goals as goal
+
+pub returns : goal.returns
+returns c = values_apart

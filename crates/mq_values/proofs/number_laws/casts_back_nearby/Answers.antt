@@ -1,0 +1,5 @@
+use Rattle.mq_values.proofs.Rounding.{casts}
+use Rattle.mq_values.proofs.number_laws.casts_back_nearby.Goals as goal
+
+pub returns : goal.returns
+returns c = casts

@@ -1,0 +1,5 @@
+use Rattle.mq_values.proofs.Rounding.{floors}
+use Rattle.mq_values.proofs.number_laws.floors_below.Goals as goal
+
+pub returns : goal.returns
+returns c = floors

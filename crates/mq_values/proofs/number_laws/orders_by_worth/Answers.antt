@@ -1,0 +1,5 @@
+use Rattle.mq_values.proofs.Rounding.{orders}
+use Rattle.mq_values.proofs.number_laws.orders_by_worth.Goals as goal
+
+pub returns : goal.returns
+returns c = orders

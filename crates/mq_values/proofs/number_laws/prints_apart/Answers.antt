@@ -1,0 +1,5 @@
+use Rattle.mq_values.proofs.NumberApart.{apart}
+use Rattle.mq_values.proofs.number_laws.prints_apart.Goals as goal
+
+pub returns : goal.returns
+returns c = apart

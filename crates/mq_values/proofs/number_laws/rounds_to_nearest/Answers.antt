@@ -1,0 +1,5 @@
+use Rattle.mq_values.proofs.Rounding.{rounds}
+use Rattle.mq_values.proofs.number_laws.rounds_to_nearest.Goals as goal
+
+pub returns : goal.returns
+returns c = rounds
