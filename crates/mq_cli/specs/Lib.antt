@@ -6,6 +6,7 @@ pub mod Fitting
 pub mod Grammar
 pub mod Marks
 pub mod PartTaking
+pub mod Places
 pub mod Reading
 pub mod Script
 pub mod Spelling
