@@ -1,0 +1,10 @@
+pub mod Answer
+pub mod Expression
+pub mod ExpressionLaws
+pub mod Items
+pub mod Lines
+pub mod Partitions
+pub mod Results
+pub mod Sequential
+pub mod Statement
+pub mod Tables
