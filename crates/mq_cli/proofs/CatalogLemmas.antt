@@ -15,15 +15,17 @@ pub with_rows-there : (es : Tables) (name : List ℕ) (t : Table) (rows : List (
 with_rows-there [] name t rows e = refl
 with_rows-there (x ∷ es) name t rows e =
     elim (pointwise nat_eq name x.0) as (λ q. cond q (Some x.1) (lookup (pointwise nat_eq name) es) ≡ Some t
-        → cond q ((x.0, longer t rows) ∷ es) (x ∷ set_value (pointwise nat_eq name) es (longer t rows)) ≡ cond q ((x.0, longer x.1 rows) ∷ es) (x ∷ with_rows es name rows))
-    [ true ↦ λ e. let p : x.1 ≡ t = cc in ap (λ (u : Table). (x.0, longer u rows) ∷ es) (sym p)
-    | false ↦ λ e. ap (λ l. x ∷ l) (with_rows-there es name t rows e) ] e
+    → cond q ((x.0, longer t rows) ∷ es) (x ∷ set_value (pointwise nat_eq name) es (longer t rows)) ≡ cond q ((x.0, longer x.1 rows) ∷ es) (x ∷ with_rows es name rows)) [
+      | true ↦ λ e. let p : x.1 ≡ t = cc in ap (λ (u : Table). (x.0, longer u rows) ∷ es) (sym p)
+      | false ↦ λ e. ap (λ l. x ∷ l) (with_rows-there es name t rows e)
+    ] e
 
 -- and where it is not
 pub with_rows-absent : (es : Tables) (name : List ℕ) (rows : List (List Value)) → lookup (pointwise nat_eq name) es ≡ None → es ≡ with_rows es name rows
 with_rows-absent [] name rows e = refl
 with_rows-absent (x ∷ es) name rows e =
     elim (pointwise nat_eq name x.0) as (λ q. cond q (Some x.1) (lookup (pointwise nat_eq name) es) ≡ None
-        → x ∷ es ≡ cond q ((x.0, longer x.1 rows) ∷ es) (x ∷ with_rows es name rows))
-    [ true ↦ λ e. absurd cc
-    | false ↦ λ e. ap (λ l. x ∷ l) (with_rows-absent es name rows e) ] e
+    → x ∷ es ≡ cond q ((x.0, longer x.1 rows) ∷ es) (x ∷ with_rows es name rows)) [
+      | true ↦ λ e. absurd cc
+      | false ↦ λ e. ap (λ l. x ∷ l) (with_rows-absent es name rows e)
+    ] e

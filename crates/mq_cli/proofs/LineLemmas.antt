@@ -72,6 +72,6 @@ joined_more c (y ∷ ys) (suc i) x less e =
     let one : suc i + 1 ≡ suc (i + 1) = omega arith in
     let behind : nat_lt 0 (suc i) ≡ true = grind (arith, nat_tests) in
     let more : joined_by c (y ∷ take (i + 1) ys) ≡ joined_by c (y ∷ take i ys) ++ placed_value (nat_lt 0 (suc i)) c x =
-        ap (λ l. joined_by c (y ∷ l)) (take_item ys i x (omega arith) e) ∙ joined_next c y (take i ys) x
-        ∙ ap (λ q. joined_by c (y ∷ take i ys) ++ placed_value q c x) (sym behind) in
+    ap (λ l. joined_by c (y ∷ l)) (take_item ys i x (omega arith) e) ∙ joined_next c y (take i ys) x
+    ∙ ap (λ q. joined_by c (y ∷ take i ys) ++ placed_value q c x) (sym behind) in
     rw one more

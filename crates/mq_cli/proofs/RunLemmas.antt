@@ -45,7 +45,7 @@ run_cut before now next f0 f1 tables flaw all rest s so a =
     let lines = (statement_step tables s).1 in
     let others = lines_from (statement_step tables s).0 rest in
     let e : text_of so.done ++ (text_of lines ++ text_of others) ≡ text_of (lines_from [] all) =
-        ap (λ t. text_of so.done ++ t) (sym (text_of-append lines others)) ∙ sym (text_of-append so.done (lines ++ others)) ∙ ap text_of so.lines in
+    ap (λ t. text_of so.done ++ t) (sym (text_of-append lines others)) ∙ sym (text_of-append so.done (lines ++ others)) ∙ ap text_of so.lines in
     subst (AppendsFront before next) e (AppendsFront-after before now next _ _ so.written (AppendsFront-of_part now next (text_of lines) (text_of others) a))
 
 pub run_ends : (before now : Option (List ℕ)) (f0 f1 : ℕ) (tables : Tables) (flaw : Bool) (all : List Statement)

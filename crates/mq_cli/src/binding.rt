@@ -176,11 +176,7 @@ fn number_in(model: &ModelTree, name: &Words) -> u32
     if model.dimension == *name { 0 } else { 1 }
 }
 
-fn printed_numbers(
-    alloc: Global,
-    model: &ModelTree,
-    names: &[Words],
-) -> Result<Items<u32>, Memory>
+fn printed_numbers(alloc: Global, model: &ModelTree, names: &[Words]) -> Result<Items<u32>, Memory>
     ensures { IfOk result (λ xs. xs ≡ map (spec.number_in model.now) names.now) }
 {
     let mut numbers = Items::new(alloc);

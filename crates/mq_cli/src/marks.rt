@@ -52,11 +52,7 @@ pub fn has_sign(tokens: &[Token<'_>], at: usize, sign: &str) -> bool
 }
 
 /// The place behind this word, which has to stand there.
-pub fn pass_word(
-    tokens: &[Token<'_>],
-    at: usize,
-    word: &str,
-) -> Result<usize, Fail<NoStatement>>
+pub fn pass_word(tokens: &[Token<'_>], at: usize, word: &str) -> Result<usize, Fail<NoStatement>>
     ensures passes { let all = marks (map lexeme tokens.now) in Passes all result (past_word word.now (drop at all)) }
     ensures further { IfOk result (λ to. (at < to) × (to ≤ length tokens.now)) }
 {
@@ -67,11 +63,7 @@ pub fn pass_word(
 }
 
 /// The place behind this sign, which has to stand there.
-pub fn pass_sign(
-    tokens: &[Token<'_>],
-    at: usize,
-    sign: &str,
-) -> Result<usize, Fail<NoStatement>>
+pub fn pass_sign(tokens: &[Token<'_>], at: usize, sign: &str) -> Result<usize, Fail<NoStatement>>
     ensures passes { let all = marks (map lexeme tokens.now) in Passes all result (past_sign sign.now (drop at all)) }
     ensures further { IfOk result (λ to. (at < to) × (to ≤ length tokens.now)) }
 {

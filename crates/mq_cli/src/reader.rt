@@ -8,12 +8,10 @@ ghost use Rattle.mq_cli.specs.Reading.{Reads, ReadsAll};
 ghost use Rattle.mq_cli.specs.Grammar as spec;
 
 use crate::lists::{Listed, list};
-use crate::marks::{
-    NoStatement, has_sign, has_whole, has_word, name, pass_sign, pass_word, whole,
-};
+use crate::marks::{NoStatement, has_sign, has_whole, has_word, name, pass_sign, pass_word, whole};
 use crate::tree::{
-    CellTree, ColumnTree, CreateTree, InsertTree, Literal, ModelTree, NextTerm, RowTree,
-    RuleTree, SelectTree, Term, Tree,
+    CellTree, ColumnTree, CreateTree, InsertTree, Literal, ModelTree, NextTerm, RowTree, RuleTree,
+    SelectTree, Term, Tree,
 };
 use mq_lexer::Token;
 use mq_values::{Fail, Items, Words};
@@ -24,7 +22,11 @@ impl Listed for Words {
 
     ghost read = { read_name };
 
-    fn read(alloc: Global, tokens: &[Token<'_>], at: usize) -> Result<(Words, usize), Fail<NoStatement>> {
+    fn read(
+        alloc: Global,
+        tokens: &[Token<'_>],
+        at: usize,
+    ) -> Result<(Words, usize), Fail<NoStatement>> {
         name(alloc, tokens, at)
     }
 }
@@ -87,10 +89,7 @@ impl Listed for RuleTree {
 
 // A minus where there is one, and a whole number.
 #[tactic(auto, unfolding(crate::specs::Grammar::read_literal))]
-fn literal(
-    tokens: &[Token<'_>],
-    at: usize,
-) -> Result<(Literal, usize), Fail<NoStatement>>
+fn literal(tokens: &[Token<'_>], at: usize) -> Result<(Literal, usize), Fail<NoStatement>>
     ensures reads { let all = marks (map lexeme tokens.now) in Reads all result (spec.read_literal (drop at all)) }
     ensures further { IfOk result (λ r. (at < r.1) × (r.1 ≤ length tokens.now)) }
 {
@@ -123,11 +122,7 @@ fn cell(
 
 // A literal, or a cell.
 #[tactic(auto, unfolding(crate::specs::Grammar::read_term))]
-fn term(
-    alloc: Global,
-    tokens: &[Token<'_>],
-    at: usize,
-) -> Result<(Term, usize), Fail<NoStatement>>
+fn term(alloc: Global, tokens: &[Token<'_>], at: usize) -> Result<(Term, usize), Fail<NoStatement>>
     ensures reads { let all = marks (map lexeme tokens.now) in Reads all result (spec.read_term (drop at all)) }
     ensures further { IfOk result (λ r. (at < r.1) × (r.1 ≤ length tokens.now)) }
 {
@@ -364,11 +359,7 @@ fn select(
 
 // The statement at the front.
 #[tactic(auto, unfolding(crate::specs::Grammar::read_tree))]
-fn tree(
-    alloc: Global,
-    tokens: &[Token<'_>],
-    at: usize,
-) -> Result<(Tree, usize), Fail<NoStatement>>
+fn tree(alloc: Global, tokens: &[Token<'_>], at: usize) -> Result<(Tree, usize), Fail<NoStatement>>
     ensures reads { let all = marks (map lexeme tokens.now) in Reads all result (spec.read_tree (drop at all)) }
     ensures further { IfOk result (λ r. (at < r.1) × (r.1 ≤ length tokens.now)) }
 {

@@ -23,7 +23,11 @@ const RUNS: [(&str, &str, u8); 12] = [
         "ok\nok 2\nok 1\n",
         0,
     ),
-    ("CREATE TABLE T (A INT, B INT, A INT)", "error line 1: SYNTAX\n", 1),
+    (
+        "CREATE TABLE T (A INT, B INT, A INT)",
+        "error line 1: SYNTAX\n",
+        1,
+    ),
     (
         "CREATE TABLE T (A INT); CREATE TABLE T (B INT);\n\nINSERT INTO T VALUES (1), (2, 3), (4);",
         "ok\nerror line 1: SYNTAX\nerror line 3: SYNTAX\n",
@@ -61,16 +65,15 @@ const RUNS: [(&str, &str, u8); 12] = [
         "ok\nok 2\n-7|4\n5|1\nNULL|-3\nNULL|2\nrows 4\n",
         0,
     ),
-    ("CREATE TABLE ORDER (A INT); CREATE TABLE T (A TEXT); SELECT", "error line 1: SYNTAX\nerror line 1: SYNTAX\nerror line 1: SYNTAX\n", 1),
+    (
+        "CREATE TABLE ORDER (A INT); CREATE TABLE T (A TEXT); SELECT",
+        "error line 1: SYNTAX\nerror line 1: SYNTAX\nerror line 1: SYNTAX\n",
+        1,
+    ),
 ];
 
 // Runs the script with a sink of this piece that fails at these calls, and gives its status.
-fn run_over(
-    alloc: Global,
-    words: &[String],
-    mut script: BytesSource,
-    out: &mut VecSink,
-) -> u8 {
+fn run_over(alloc: Global, words: &[String], mut script: BytesSource, out: &mut VecSink) -> u8 {
     let mut files = MapShelf::new(Vec::new(alloc), Vec::new(alloc));
     run(alloc, words, &mut script, &mut files, out, &OpenGate)
 }
@@ -96,7 +99,10 @@ fn scripts_print_their_lines(rt: HostRuntime) -> Result<(), Fail> {
 fn a_sink_that_fails_leaves_a_front(rt: HostRuntime) -> Result<(), Fail> {
     let alloc = rt.alloc();
     let mut out = VecSink::new(alloc, [8].to_vec(alloc)?, 1);
-    assert_eq!(rt; run_over(alloc, &[], source(alloc, FIRST, &[])?, &mut out), 4);
+    assert_eq!(rt;
+        run_over(alloc, &[], source(alloc, FIRST, &[])?, &mut out),
+        4
+    );
     assert_eq!(rt; str::from_utf8(out.taken())?, "ok\nok 2");
     Ok(())
 }
@@ -105,9 +111,15 @@ fn a_sink_that_fails_leaves_a_front(rt: HostRuntime) -> Result<(), Fail> {
 fn a_source_that_fails_or_a_word_prints_nothing(rt: HostRuntime) -> Result<(), Fail> {
     let alloc = rt.alloc();
     let mut out = VecSink::new(alloc, Vec::new(alloc), 1000);
-    assert_eq!(rt; run_over(alloc, &[], source(alloc, FIRST, &[1])?, &mut out), 3);
+    assert_eq!(rt;
+        run_over(alloc, &[], source(alloc, FIRST, &[1])?, &mut out),
+        3
+    );
     let words = vec![in alloc; String::from_str(alloc, "--workers")?]?;
-    assert_eq!(rt; run_over(alloc, &words, source(alloc, FIRST, &[])?, &mut out), 2);
+    assert_eq!(rt;
+        run_over(alloc, &words, source(alloc, FIRST, &[])?, &mut out),
+        2
+    );
     assert!(rt; out.taken().is_empty());
     Ok(())
 }

@@ -14,8 +14,8 @@ statements-preserved g c =
     let all = c.args.statements.now in
     let i = c.statements.statement-index in
     let P : Bool → Type 0 = λ flaw. RunSoFar (g.K.Sink.taken c.args.out.now) (g.K.Sink.taken c.run_statement.new.out) (g.K.Sink.faults c.args.out.now) (g.K.Sink.faults c.run_statement.new.out)
-        c.run_statement.new.catalog flaw (map statement all) (drop (i + 1) (map statement all)) in
+    c.run_statement.new.catalog flaw (map statement all) (drop (i + 1) (map statement all)) in
     subst P (sym c.either-flaw.ensures)
-      (run_goes_on_at _ _ _ (g.K.Sink.faults c.args.out.now) (g.K.Sink.faults c.statements.out) (g.K.Sink.faults c.run_statement.new.out) c.statements.catalog c.run_statement.new.catalog
-        c.statements.flaw c.in_ok-found.found all i _ c.statements-test.true c.statements.invariant
-        c.in_ok-found.ensures.done.0 c.in_ok-found.ensures.done.1 c.in_ok-found.ensures.done.2 c.in_ok-found.ensures.later)
+    (run_goes_on_at _ _ _ (g.K.Sink.faults c.args.out.now) (g.K.Sink.faults c.statements.out) (g.K.Sink.faults c.run_statement.new.out) c.statements.catalog c.run_statement.new.catalog
+    c.statements.flaw c.in_ok-found.found all i _ c.statements-test.true c.statements.invariant
+    c.in_ok-found.ensures.done.0 c.in_ok-found.ensures.done.1 c.in_ok-found.ensures.done.2 c.in_ok-found.ensures.later)
