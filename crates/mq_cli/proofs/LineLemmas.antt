@@ -1,7 +1,7 @@
 -- Lines and values, one after another.
-use Rattle.std.proofs.Common.{◌≡◌, ℕ, zero, suc, ◌+◌, ◌<◌, List, [], ◌∷◌, ◌++◌, Bool, true, false, take, get_or, nat_lt, arith, map, flat_map, length, refl, sym, ap, ◌∙◌, append_assoc, append-nil}
+use Rattle.std.proofs.Common.{◌≡◌, ℕ, zero, suc, ◌+◌, ◌<◌, List, [], ◌∷◌, ◌++◌, true, false, take, get_or, nat_lt, arith, map, flat_map, length, refl, sym, ap, ◌∙◌, append_assoc, append-nil}
 use Rattle.std.proofs.lemmas.Bool.Decides.{nat_tests}
-use Rattle.std.specs.List.{join_with_byte, list_any}
+use Rattle.std.specs.List.{list_any}
 use Rattle.mq_values.specs.Print.{printed}
 use Rattle.mq_values.specs.declared.value.Value.{Value}
 use Rattle.mq_cli.specs.Places.{placed_value}

@@ -1,5 +1,5 @@
 -- Reading lists and sums, one part after another.
-use Rattle.std.proofs.Common.{◌≡◌, ℕ, zero, suc, ◌+◌, ◌-◌, ◌<◌, ◌≤◌, Bool, true, false, cond, List, [], ◌∷◌, ◌++◌, Option, None, Some, length, drop, map, codes, refl, arith, ap, ◌∙◌, sym, subst, length-drop}
+use Rattle.std.proofs.Common.{◌≡◌, ℕ, zero, suc, ◌+◌, ◌-◌, ◌<◌, ◌≤◌, Bool, true, false, cond, List, [], ◌∷◌, ◌++◌, None, Some, length, drop, map, codes, refl, arith, ap, ◌∙◌, sym, length-drop}
 use Rattle.std.proofs.lemmas.List.{drop-drop}
 use Rattle.mq_cli.specs.Marks.{Mark, marks}
 use Rattle.std.specs.Prelude.{Err}

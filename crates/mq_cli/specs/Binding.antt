@@ -1,5 +1,5 @@
 -- What a statement means under the tables as they stand, and where it has no meaning.
-use Rattle.std.specs.Prelude.{◌≡◌, ℕ, ℤ, pos, Bool, true, false, List, [], ◌∷◌, map, Option, Some, None, bytes_eq, if◌then◌else◌, position, unwrap_or}
+use Rattle.std.specs.Prelude.{◌≡◌, ℕ, pos, List, [], ◌∷◌, map, Option, Some, None, bytes_eq, if◌then◌else◌, position, unwrap_or}
 use Rattle.std.proofs.Math.IntN.{neg_ℤ}
 use Rattle.mq_values.specs.declared.value.Kind.TheVariants.{Int}
 use Rattle.mq_values.specs.declared.value.Value.{Value}

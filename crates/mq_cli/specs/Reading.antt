@@ -1,11 +1,11 @@
 -- What a reader makes of marks: a part of a statement and the marks behind it, or nothing where no such part stands.
-use Rattle.std.specs.Prelude.{◌≡◌, ℕ, ◌+◌, suc, zero, Bool, true, false, ◌||◌, List, [], ◌∷◌, ◌++◌, drop, length, codes, if◌then◌else◌, Option, Some, None, Result, Ok, Err, bytes_eq}
+use Rattle.std.specs.Prelude.{◌≡◌, ℕ, ◌+◌, suc, zero, Bool, true, false, List, [], ◌∷◌, ◌++◌, drop, length, codes, if◌then◌else◌, Option, Some, None, Result, Ok, Err, bytes_eq}
 use Rattle.mq_values.specs.declared.memory.Fail.{Fail}
 use Rattle.mq_values.specs.declared.memory.Fail.TheVariants as fail
 use Rattle.mq_lexer.specs.declared.sorts.Token.{Token}
 use Rattle.mq_lexer.specs.Lexemes.{lexeme}
 use Rattle.mq_lexer.specs.Words.{folded, is_reserved}
-use Rattle.mq_cli.specs.Marks.{Mark, Word, Sign, Whole, Other, mark_of}
+use Rattle.mq_cli.specs.Marks.{Mark, Word, Sign, Whole, mark_of}
 use Rattle.mq_cli.specs.declared.marks.NoStatement.{NoStatement}
 
 -- one step, and then those that go on from its result

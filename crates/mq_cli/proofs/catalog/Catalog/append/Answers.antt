@@ -1,6 +1,6 @@
-use Rattle.std.proofs.Common.{◌≡◌, List, nat_eq, Some, None, ap, sym, ◌∙◌}
+use Rattle.std.proofs.Common.{List, nat_eq, ap, sym, ◌∙◌}
 use Rattle.std.specs.Cmp.Lexicographic.{pointwise}
-use Rattle.std.specs.Map.{lookup, set_value}
+use Rattle.std.specs.Map.{set_value}
 use Rattle.mq_values.specs.declared.value.Value.{Value}
 use Rattle.mq_ir.specs.Tables.{with_rows}
 use Rattle.mq_ir.specs.declared.statement.Table.{Table}
