@@ -1,5 +1,5 @@
 -- Exits from a call by the fault of a call inside it.
-use Rattle.std.proofs.Common.{◌≡◌, ℕ, ◌+◌, ◌<◌, List, ◌∷◌, drop, length, get_or, Result, Err, sym, ap, ◌∙◌, add-one, drop-cons}
+use Rattle.std.proofs.Common.{◌≡◌, ℕ, ◌+◌, ◌<◌, List, ◌∷◌, drop, length, get_or, Result, Err, sym, ◌∙◌, add-one, drop-cons}
 use Rattle.mq_values.specs.Answers.{Gives}
 use Rattle.mq_values.specs.declared.memory.Fail.{Fail}
 use Rattle.mq_values.specs.declared.memory.Fail.TheVariants as fail

@@ -1,13 +1,12 @@
 -- The order of values tells any two of them apart.
-use Rattle.std.proofs.Common.{◌≡◌, ℕ, List, [], ◌∷◌, Bool, true, false, ◌&&◌, eqb, Ordering, Less, Equal, Greater, refl, sym, ap, ◌∙◌}
+use Rattle.std.proofs.Common.{◌≡◌, [], ◌∷◌, true, ◌&&◌, eqb, Ordering, Less, Equal, Greater, refl, ap, ◌∙◌}
 use Rattle.std.specs.Ordering.{is_eq, int_eq, ordering_then}
 use Rattle.std.specs.Cmp.{signed_Decides, unsigned_Decides, first_so, second_so}
 use Rattle.std.specs.Cmp.Lexicographic.{slice_cmp}
 use Rattle.std.proofs.lemmas.Map.Lookups.{CmpEqualImpliesEq, exact_bytes}
-use Rattle.mq_values.specs.Number.{Number, cmp_number}
+use Rattle.mq_values.specs.Number.{cmp_number}
 use Rattle.mq_values.specs.NumberOrder.{equal_together}
 use Rattle.mq_values.specs.Order.{cmp_value, cmp_key}
-use Rattle.mq_values.specs.declared.value.Value.{Value}
 use Rattle.mq_values.specs.declared.value.Value.TheVariants as value
 
 then_first : (r s : Ordering) → ordering_then r s ≡ Equal → r ≡ Equal

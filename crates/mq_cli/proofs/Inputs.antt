@@ -1,5 +1,5 @@
 -- The input of a partition, row by row.
-use Rattle.std.proofs.Common.{◌≡◌, ℕ, List, [], ◌∷◌, ◌++◌, map, Bool, true, false, cond, ◌||◌, Option, Some, None, Result, Ok, Err, refl, sym, ap, ◌∙◌}
+use Rattle.std.proofs.Common.{◌≡◌, ℕ, List, [], ◌∷◌, ◌++◌, map, Bool, true, false, ◌||◌, Option, None, Result, Ok, Err, refl, sym, ap, ◌∙◌}
 use Rattle.std.specs.Option.{is_some}
 use Rattle.std.specs.Ordering.{is_eq}
 use Rattle.std.specs.List.{list_any}
@@ -11,7 +11,7 @@ use Rattle.mq_ir.specs.declared.query.ItemPart.{ItemPart}
 use Rattle.mq_ir.specs.Items.{base_rows, items_of, input_rows}
 use Rattle.mq_ir.specs.Partitions.{Tuple, Cells, cell_at, with_cell, cells_of, cut, lesser, least_from, repeats, repeated}
 use Rattle.mq_ir.specs.Results.{◌>>=◌, each}
-use Rattle.mq_cli.specs.PartTaking.{input_row, taken, all_taken, no_input}
+use Rattle.mq_cli.specs.PartTaking.{input_row, all_taken, no_input}
 use Rattle.mq_cli.specs.declared.partition.PartInput.{PartInput}
 use Rattle.mq_cli.proofs.CellLemmas.{found_after_put, any_more, any_again}
 

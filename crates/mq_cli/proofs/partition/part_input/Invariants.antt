@@ -1,5 +1,5 @@
 use Rattle.std.proofs.Common.{◌≡◌, drop}
-use Rattle.mq_cli.specs.PartTaking.{taken, all_taken, no_input}
+use Rattle.mq_cli.specs.PartTaking.{all_taken, no_input}
 use Rattle.mq_cli.proofs.partition.part_input.Given as goal
 
 abbrev pub invariant-loop-row : goal.invariant-loop-row

@@ -1,4 +1,4 @@
-use Rattle.std.proofs.Common.{◌≡◌, drop, length}
+use Rattle.std.proofs.Common.{◌≡◌, drop}
 use Rattle.mq_ir.specs.Sequential.{rules_from}
 use Rattle.mq_cli.proofs.sequential.run_seq.Given as goal
 
