@@ -1,7 +1,17 @@
+pub mod CatalogLemmas
 pub mod CellLemmas
 pub mod Chains
+pub mod ExactLemmas
+pub mod ExactPartLemmas
+pub mod ExactReadingLemmas
+pub mod ExactStatementLemmas
 pub mod Exits
+pub mod FitsLemmas
 pub mod Identity
 pub mod Inputs
+pub mod LineLemmas
+pub mod ListLemmas
+pub mod MarkLemmas
+pub mod RunLemmas
 pub mod SortLemmas
 pub mod Walks

@@ -1,2 +1,13 @@
+pub mod Binding
+pub mod ExactReading
 pub mod FaultPlaces
+pub mod Fits
+pub mod Fitting
+pub mod Grammar
+pub mod Marks
 pub mod PartTaking
+pub mod Places
+pub mod Reading
+pub mod Script
+pub mod Spelling
+pub mod Trees

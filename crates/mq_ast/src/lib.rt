@@ -1,0 +1,25 @@
+//! The trees of statements, queries and expressions, and the terminals of the grammar that reads them from tokens.
+//! Nothing goes in and nothing comes out: these are the types that the readers build and the binder takes.
+//! Which tree reads which tokens is the relation of specs/: `Expression`, `Query`, `Model`, `Rule` and `Statement`.
+#![tactic(auto)]
+
+mod expressions;
+mod laws;
+mod queries;
+mod statements;
+mod terminals;
+
+pub use expressions::{Arm, E, Path, Place, ProdTerm, SumTerm};
+pub use laws::{
+    keywords_are_reserved, one_conjunction, one_expression, one_plain, one_primary, one_product,
+    one_query, one_statement, one_sum, one_test,
+};
+pub use queries::{
+    ForList, FromItem, LeftPlace, LeftTree, ModelTree, Opt, OrderKey, Plain, Query, RefTree,
+    RuleTree, Sel,
+};
+pub use statements::{ColDef, Stmt};
+pub use terminals::{Keyword, Symbol, Terminal};
+
+#[cfg(test)]
+mod tests;

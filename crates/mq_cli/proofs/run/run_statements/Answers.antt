@@ -1,0 +1,21 @@
+use Rattle.std.proofs.Common.{Bool, map, drop, ◌+◌, sym, subst}
+use Rattle.std.proofs.lemmas.Result.{err_from_is_err_and}
+use Rattle.mq_lexer.specs.Statements.{statement}
+use Rattle.mq_cli.proofs.RunLemmas.{RunSoFar, run_goes_on_at, run_cut_at}
+use Rattle.mq_cli.proofs.run.run_statements.Goals as goal
+
+pub returns-in_err-found-clause-cut_short : goal.returns-in_err-found-clause-cut_short
+returns-in_err-found-clause-cut_short g c =
+    let p = err_from_is_err_and c.from_residual.result c.from_residual.ensures.1 in
+    rw p.1 (run_cut_at _ _ _ (g.K.Sink.faults c.args.out.now) (g.K.Sink.faults c.statements.out) 0 c.statements.catalog c.statements.catalog c.statements.flaw c.statements.flaw c.args.statements.now c.statements.statement-index _ c.statements-test.true c.statements.invariant c.in_err-found.ensures.cut_short)
+
+pub statements-preserved : goal.statements-preserved
+statements-preserved g c =
+    let all = c.args.statements.now in
+    let i = c.statements.statement-index in
+    let P : Bool → Type 0 = λ flaw. RunSoFar (g.K.Sink.taken c.args.out.now) (g.K.Sink.taken c.run_statement.new.out) (g.K.Sink.faults c.args.out.now) (g.K.Sink.faults c.run_statement.new.out)
+    c.run_statement.new.catalog flaw (map statement all) (drop (i + 1) (map statement all)) in
+    subst P (sym c.either-flaw.ensures)
+    (run_goes_on_at _ _ _ (g.K.Sink.faults c.args.out.now) (g.K.Sink.faults c.statements.out) (g.K.Sink.faults c.run_statement.new.out) c.statements.catalog c.run_statement.new.catalog
+    c.statements.flaw c.in_ok-found.found all i _ c.statements-test.true c.statements.invariant
+    c.in_ok-found.ensures.done.0 c.in_ok-found.ensures.done.1 c.in_ok-found.ensures.done.2 c.in_ok-found.ensures.later)

@@ -1,0 +1,2 @@
+pub mod ProgressLemmas
+mod SourceLemmas

@@ -1,0 +1,6 @@
+pub mod Calls
+pub mod Causes
+pub mod FileList
+pub mod Files
+pub mod InMemory
+pub mod Progress

@@ -1,0 +1,10 @@
+pub mod CommentLemmas
+pub mod Cuts
+pub mod LawLemmas
+pub mod Numbers
+pub mod Places
+pub mod Quotes
+pub mod Scans
+pub mod Spellings
+pub mod StatementLemmas
+pub mod WordLemmas

@@ -1,0 +1,5 @@
+use Rattle.mq_lexer.proofs.Spellings.{front-reads}
+use Rattle.mq_lexer.proofs.laws.tokens_are_the_longest.Goals as goal
+
+pub returns : goal.returns
+returns c = front-reads

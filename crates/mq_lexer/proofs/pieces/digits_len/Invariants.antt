@@ -1,0 +1,11 @@
+use Rattle.std.proofs.Common.{◌≡◌, ◌+◌, ◌-◌, ◌≤◌, length, drop}
+use Rattle.std.specs.List.{prefix_len}
+use Rattle.std.specs.Char.{is_ascii_digit}
+use Rattle.mq_lexer.proofs.pieces.digits_len.Given as goal
+
+abbrev pub invariant-loop-end : goal.invariant-loop-end
+invariant-loop-end l =
+    (l.end + prefix_len is_ascii_digit (drop l.end l.z) ≡ l.at + prefix_len is_ascii_digit (drop l.at l.z)) × (l.at ≤ l.end) × (l.end ≤ length l.z)
+
+abbrev pub decreases-loop-end : goal.decreases-loop-end
+decreases-loop-end l = length l.z - l.end

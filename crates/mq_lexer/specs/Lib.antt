@@ -1,0 +1,10 @@
+pub mod Comments
+pub mod Fronts
+pub mod Lexemes
+pub mod Numbers
+pub mod Pieces
+pub mod Quotes
+pub mod Spelling
+pub mod Statements
+pub mod Tokens
+pub mod Words

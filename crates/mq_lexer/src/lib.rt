@@ -1,0 +1,23 @@
+//! From the text of a script to its tokens, each lent by the text, with the line that it stands on.
+//! What goes in is any text. What comes out is the list of its tokens, and the statements as parts of that list.
+//! `specs/Tokens.antt` defines the tokens of a text, and `specs/Statements.antt` its statements.
+#![tactic(auto)]
+
+mod laws;
+mod pieces;
+mod scanner;
+mod script;
+mod sorts;
+mod words;
+
+pub use laws::{
+    gaps_are_blanks_and_comments, lines_are_counted_by_lf, pieces_give_the_text_back,
+    readable_tokens_hold_no_blank, statements_hold_the_tokens, tokens_are_the_longest,
+};
+pub use scanner::tokens;
+pub use script::{Statement, next_statement, statements};
+pub use sorts::{Sort, Token};
+pub use words::{is_name, is_reserved, is_sign, is_word};
+
+#[cfg(test)]
+mod tests;
