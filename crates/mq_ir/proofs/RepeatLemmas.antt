@@ -3,13 +3,13 @@ use Rattle.std.proofs.Common.{◌≡◌, ℕ, zero, suc, ◌+◌, ◌≤◌, Lis
 use Rattle.std.specs.Prelude.{if◌then◌else◌}
 use Rattle.std.specs.Option.{MatchOption}
 use Rattle.std.specs.Ordering.{is_eq, is_lt}
-use Rattle.std.specs.Cmp.{IsTotalOrder, tied_itself, alike_right}
+use Rattle.std.specs.Cmp.{tied_itself}
 use Rattle.std.specs.List.{list_any}
 use Rattle.std.proofs.lemmas.List.Sorted.{ranks_by}
 use Rattle.mq_values.specs.Order.{cmp_key}
 use Rattle.mq_values.specs.OrderLaws.{key_total}
 use Rattle.mq_ir.specs.AnswerLaws.{times, LeastOfTwo}
-use Rattle.mq_ir.specs.Partitions.{Tuple, repeats, repeated, lesser, least_from}
+use Rattle.mq_ir.specs.Partitions.{Tuple, repeats, least_from}
 
 abbrev one : Bool → ℕ
 one b = if b then 1 else 0
