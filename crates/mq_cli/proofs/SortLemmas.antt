@@ -9,40 +9,7 @@ use Rattle.std.proofs.lemmas.List.Sums.{sum_by-cons}
 use Rattle.std.proofs.lemmas.List.Sorted.{ranks_by, sorted_far, sum_by-IsPermutation}
 use Rattle.std.proofs.lemmas.Map.Lookups.{CmpEqualImpliesEq}
 use Rattle.mq_ir.specs.Answer.{placed, ascending}
-
--- no item is less than x
-abbrev Low : {K : Type 0} → (K → K → Ordering) → K → List K → Type 0
-Low R x [] = Unit {0}
-Low R x (y ∷ ys) = (is_lt (R y x) ≡ false) × Low R x ys
-
--- no item is less than an earlier one
-abbrev Rising : {K : Type 0} → (K → K → Ordering) → List K → Type 0
-Rising R [] = Unit {0}
-Rising R (x ∷ xs) = Low R x xs × Rising R xs
-
-low_under : {K : Type 0} {R : K → K → Ordering} (o : IsTotalOrder R) (x y : K) (zs : List K) → is_lt (R y x) ≡ false → Low R y zs → Low R x zs
-low_under o x y [] h l = tt
-low_under o x y (z ∷ zs) h l = ((ranks_by o (λ k. k)).chain z y x l.0 h, low_under o x y zs h l.1)
-
-low_placed : {K : Type 0} (R : K → K → Ordering) (x y : K) (zs : List K) → is_lt (R x y) ≡ false → Low R y zs → Low R y (placed R x zs)
-low_placed R x y [] h l = (h, tt)
-low_placed {K} R x y (z ∷ zs) h l = by (is_lt (R x z)) (low_placed R x y zs h l.1)
-  where
-    by : (b : Bool) → Low R y (placed R x zs) → Low R y (if b then x ∷ z ∷ zs else z ∷ placed R x zs)
-    by true r = (h, l)
-    by false r = (l.0, r)
-
-rising_placed : {K : Type 0} {R : K → K → Ordering} (o : IsTotalOrder R) (x : K) (ys : List K) → Rising R ys → Rising R (placed R x ys)
-rising_placed o x [] r = (tt, tt)
-rising_placed {K} {R} o x (y ∷ ys) r = by (is_lt (R x y)) refl (rising_placed o x ys r.1)
-  where
-    by : (b : Bool) → is_lt (R x y) ≡ b → Rising R (placed R x ys) → Rising R (if b then x ∷ y ∷ ys else y ∷ placed R x ys)
-    by true e s = let back = (ranks_by o (λ k. k)).one_way x y e in ((back, low_under o x y ys back r.0), r)
-    by false e s = (low_placed R x y ys e r.0, s)
-
-rising_ascending : {K : Type 0} {R : K → K → Ordering} (o : IsTotalOrder R) (xs : List K) → Rising R (ascending R xs)
-rising_ascending o [] = tt
-rising_ascending {K} {R} o (x ∷ xs) = rising_placed o x (ascending R xs) (rising_ascending o xs)
+use Rattle.mq_ir.proofs.Orders.{Low, Rising, rising_ascending}
 
 -- how often an item stands in a list that is not told apart from q
 abbrev one : Ordering → ℕ

@@ -1,4 +1,5 @@
 pub mod Answer
+pub mod AnswerLaws
 pub mod Expression
 pub mod ExpressionLaws
 pub mod Items

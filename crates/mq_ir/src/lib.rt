@@ -4,9 +4,11 @@
 #![tactic(auto)]
 
 mod expression;
+mod laws;
 mod query;
 mod statement;
 
 pub use expression::{BoundSum, Expr, Leaf};
+pub use laws::{least_of_two, rows_rise};
 pub use query::{Answer, BoundQuery, FromPart, ItemPart, LeftItem, ModelPart, Rule};
 pub use statement::{Bound, Change, Column, Row, Schema, Table, TableDef};
