@@ -1,0 +1,189 @@
+//! The signs, numbers and texts by their spelling.
+
+ghost use Rattle.std.specs.Prelude.{◌≡◌, ◌≤◌, ◌<◌, ◌+◌, ◌∷◌, [], length, false, IfOk, MatchOption};
+ghost use Rattle.std.specs.List.{fold};
+ghost use Rattle.std.specs.Option.{option_map};
+ghost use Rattle.std.specs.String.{string_bytes};
+ghost use Rattle.mq_lexer.specs.Tokens.{with_digit};
+ghost use Rattle.mq_ast.specs.Tokens as tok;
+ghost use Rattle.mq_ast.specs.Spelling as spec;
+ghost use Rattle.mq_parse_expr.specs.Rows.{may_be_text};
+
+use mq_ast::Symbol;
+use mq_values::{CmpOp, Memory, Num, ProdOp, SumOp, Text};
+use std::alloc::{AllocError, Global};
+
+/// The greatest number that a number's digits make without the point.
+const MAX_DIGITS: u128 = 170141183460469231731687303715884105727;
+
+/// The most digits behind the point of a number.
+const MAX_SCALE: usize = 12;
+
+// The sign of one byte.
+#[tactic(auto, unfolding(mq_ast::specs::Spelling::symbols))]
+fn short_symbol(b: u8) -> Option<Symbol>
+    ensures { result ≡ spec.symbol_of (b ∷ []) }
+{
+    match b {
+        b'(' => Some(Symbol::Open),
+        b')' => Some(Symbol::Close),
+        b'[' => Some(Symbol::OpenSquare),
+        b']' => Some(Symbol::CloseSquare),
+        b',' => Some(Symbol::Comma),
+        b';' => Some(Symbol::Semicolon),
+        b'.' => Some(Symbol::Point),
+        b'=' => Some(Symbol::Cmp(CmpOp::Eq)),
+        b'<' => Some(Symbol::Cmp(CmpOp::Lt)),
+        b'>' => Some(Symbol::Cmp(CmpOp::Gt)),
+        b'+' => Some(Symbol::Sum(SumOp::Add)),
+        b'-' => Some(Symbol::Sum(SumOp::Sub)),
+        b'*' => Some(Symbol::Prod(ProdOp::Mul)),
+        b'/' => Some(Symbol::Prod(ProdOp::Div)),
+        _ => None,
+    }
+}
+
+// The sign of two bytes.
+#[tactic(auto, unfolding(mq_ast::specs::Spelling::symbols))]
+fn long_symbol(b: u8, next: u8) -> Option<Symbol>
+    ensures { result ≡ spec.symbol_of (b ∷ next ∷ []) }
+{
+    match (b, next) {
+        (b'<', b'>') => Some(Symbol::Cmp(CmpOp::Ne)),
+        (b'!', b'=') => Some(Symbol::Cmp(CmpOp::Ne)),
+        (b'<', b'=') => Some(Symbol::Cmp(CmpOp::Le)),
+        (b'>', b'=') => Some(Symbol::Cmp(CmpOp::Ge)),
+        (b'|', b'|') => Some(Symbol::Sum(SumOp::Join)),
+        _ => None,
+    }
+}
+
+/// The sign that is spelled so.
+#[tactic(auto, unfolding(mq_ast::specs::Spelling::symbols))]
+pub(crate) fn symbol(sign: &str) -> Option<Symbol>
+    ensures { result ≡ spec.symbol_of sign.now }
+{
+    match sign.as_bytes() {
+        [b] => short_symbol(*b),
+        [b, next] => long_symbol(*b, *next),
+        _ => None,
+    }
+}
+
+#[tactic(auto, using(crate::proofs::SpellingLemmas::fold_above))]
+// What the digits make, where it is not too great. A point counts nothing.
+fn digits_value(mut number: &[u8]) -> Option<u128>
+    ensures { MatchOption result (MAX_DIGITS < fold with_digit 0 number.entry.now) (λ n. (n ≡ fold with_digit 0 number.entry.now) × (n ≤ MAX_DIGITS)) }
+{
+    let mut value: u128 = 0;
+    while let [b, rest @ ..] = number {
+        if b.is_ascii_digit() {
+            if value > MAX_DIGITS / 10 {
+                return None;
+            }
+            value = value * 10 + u128::from(*b - b'0');
+            if value > MAX_DIGITS {
+                return None;
+            }
+        }
+        number = rest;
+    }
+    Some(value)
+}
+
+// How many bytes stand behind the point.
+fn places(mut number: &[u8]) -> usize
+    ensures { result ≡ spec.places number.entry.now }
+{
+    while let [b, rest @ ..] = number {
+        if *b == b'.' {
+            return rest.len();
+        }
+        number = rest;
+    }
+    0
+}
+
+/// The number that is spelled so; none where it has too many digits.
+pub(crate) fn number(spelling: &str) -> Option<Num>
+    ensures { MatchOption result (spec.number_tok spelling.now ≡ tok.Bad) (λ n. spec.number_tok spelling.now ≡ tok.Num n) }
+{
+    let scale = places(spelling.as_bytes());
+    if scale > MAX_SCALE {
+        return None;
+    }
+    let value = digits_value(spelling.as_bytes())?;
+    Some(Num::new(value as i128, scale as u8))
+}
+
+// What stands behind the first quote of a text up to the closing one, with each doubled quote as one.
+fn unquoted(alloc: Global, quoted: &str) -> Result<Option<String>, AllocError>
+    ensures { IfOk result (λ o. option_map string_bytes o ≡ spec.unquoted false quoted.now) }
+{
+    let mut content = String::new(alloc);
+    let mut rest = quoted;
+    while let Some((piece, after)) = rest.split_once('\'') {
+        content.push_str(piece)?;
+        let Some(more) = after.strip_prefix('\'') else {
+            return Ok(if after.is_empty() {
+                Some(content)
+            } else {
+                None
+            });
+        };
+        content.push('\'')?;
+        rest = more;
+    }
+    Ok(None)
+}
+
+/// The content of the text that is spelled so; none where it is no text or a text that is too long.
+pub(crate) fn content(alloc: Global, spelling: &str) -> Result<Option<Text>, Memory>
+    ensures { IfOk result (λ o. MatchOption o (spec.text_tok spelling.now ≡ tok.Bad) (λ z. spec.text_tok spelling.now ≡ tok.Text z)) }
+{
+    let Some(quoted) = spelling.strip_prefix('\'') else {
+        return Ok(None);
+    };
+    match unquoted(alloc, quoted)? {
+        Some(content) => Text::new(alloc, content.as_str()),
+        None => Ok(None),
+    }
+}
+
+/// How many bytes a text may have.
+const MAX_CONTENT: usize = 256;
+
+// Whether what stands behind the first quote is the content of a text and its closing quote.
+#[tactic(auto, using(crate::proofs::SpellingLemmas::fits_more, crate::proofs::SpellingLemmas::fits_full, crate::proofs::SpellingLemmas::fits_bad))]
+fn ends_as_text(mut quoted: &[u8]) -> bool
+    ensures { result ≡ may_be_text (spec.unquoted false quoted.entry.now) }
+{
+    let mut count: usize = 0;
+    let mut behind_quote = false;
+    while let [b, rest @ ..] = quoted {
+        quoted = rest;
+        if *b == b'\'' && !behind_quote {
+            behind_quote = true;
+            continue;
+        }
+        if behind_quote && *b != b'\'' {
+            return false;
+        }
+        if count == MAX_CONTENT || *b < b' ' || *b == 127 {
+            return false;
+        }
+        count += 1;
+        behind_quote = false;
+    }
+    behind_quote
+}
+
+/// Whether a text is spelled so.
+pub(crate) fn is_text(spelling: &str) -> bool
+    ensures { result ≡ may_be_text (spec.content_of spelling.now) }
+{
+    match spelling.as_bytes() {
+        [b'\'', quoted @ ..] => ends_as_text(quoted),
+        _ => false,
+    }
+}
