@@ -1,1 +1,3 @@
 pub mod SpellingLemmas
+pub mod TokenLemmas
+pub mod RankLemmas

@@ -1,5 +1,5 @@
 -- How reserved words, numbers and texts are sought byte by byte.
-use Rattle.std.proofs.Common.{◌≡◌, ◌≢◌, ℕ, zero, suc, ◌+◌, ◌*◌, ◌<◌, ◌≤◌, Bool, true, false, List, [], ◌∷◌, ◌++◌, length, drop, take, map, refl, sym, ap, ◌∙◌, subst, arith, get_or, drop-cons, add-one}
+use Rattle.std.proofs.Common.{◌≡◌, ◌≢◌, ℕ, zero, suc, ◌+◌, ◌-◌, ◌*◌, ◌<◌, ◌≤◌, Bool, true, false, List, [], ◌∷◌, ◌++◌, length, drop, take, map, refl, sym, ap, ◌∙◌, subst, arith, get_or, drop-cons, add-one}
 use Rattle.std.specs.Prelude.{nat_le, nat_eq, ◌==◌, ◌&&◌, if◌then◌else◌, slice_index, Option, Some, None}
 use Rattle.std.specs.List.{filter, fold, list_all, position_or_len, before_first, after_first}
 use Rattle.std.specs.Option.{option_map}
@@ -68,6 +68,30 @@ map_twice : (b : ℕ) (z : List ℕ) (o : Option (List ℕ)) → option_map (λ 
 map_twice b z None = refl
 map_twice b z (Some c) = refl
 
-pub unquoted_split : (z : List ℕ) → position_or_len is_quote z < length z → unquoted false z ≡ option_map (λ c. before_first is_quote z ++ c) (unquoted true (after_first is_quote z))
+map_same : (o : Option (List ℕ)) → option_map (λ c. c) o ≡ o
+map_same None = refl
+map_same (Some c) = refl
+
+-- before the first quote, and behind it
+abbrev Splits : List ℕ → Type 0
+Splits z = position_or_len is_quote z < length z → unquoted false z ≡ option_map (λ c. before_first is_quote z ++ c) (unquoted true (after_first is_quote z))
+
+split_case : (b : ℕ) (z : List ℕ) (t : Bool) → (b == 39) ≡ t → Splits z → Splits (b ∷ z)
+split_case b z true h ih e = rw h (sym (map_same (unquoted true z)))
+split_case b z false h ih e =
+    let l : suc (position_or_len is_quote z) < suc (length z) = rw h at e in
+    let k : position_or_len is_quote z < length z = omega arith in
+    let a : suc (position_or_len is_quote z) + 1 ≡ suc (position_or_len is_quote z + 1) = omega arith in
+    rw (h, a) (rw (ih k) (map_twice b (before_first is_quote z) (unquoted true (after_first is_quote z))))
+
+pub unquoted_split : (z : List ℕ) → Splits z
 unquoted_split [] e = absurd (omega arith)
-unquoted_split (b ∷ z) e = ?
+unquoted_split (b ∷ z) e = split_case b z (b == 39) refl (unquoted_split z) e
+
+-- a digit more makes the number too great
+pub digit_above : (v limit : ℕ) (z : List ℕ) → 1 ≤ length z → is_ascii_digit (get_or z 0 0) ≡ true → limit < v * 10 + (get_or z 0 0 - 48) → limit < fold with_digit v z
+digit_above v limit [] l d h = absurd (omega arith)
+digit_above v limit (b ∷ z) l d h =
+    let e : with_digit v b ≡ v * 10 + (b - 48) = rw d refl in
+    let g = fold_grows (with_digit v b) z in
+    omega arith

@@ -1,3 +1,4 @@
 pub mod Reading
 pub mod Names
 pub mod Rows
+pub mod Ranks

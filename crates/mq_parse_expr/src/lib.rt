@@ -5,6 +5,7 @@
 
 mod keywords;
 mod names;
+mod ranks;
 mod spelling;
 mod terminals;
 

@@ -70,7 +70,6 @@ pub(crate) fn symbol(sign: &str) -> Option<Symbol>
     }
 }
 
-#[tactic(auto, using(crate::proofs::SpellingLemmas::fold_above))]
 // What the digits make, where it is not too great. A point counts nothing.
 fn digits_value(mut number: &[u8]) -> Option<u128>
     ensures { MatchOption result (MAX_DIGITS < fold with_digit 0 number.entry.now) (λ n. (n ≡ fold with_digit 0 number.entry.now) × (n ≤ MAX_DIGITS)) }
@@ -161,9 +160,9 @@ fn ends_as_text(mut quoted: &[u8]) -> bool
     let mut count: usize = 0;
     let mut behind_quote = false;
     while let [b, rest @ ..] = quoted {
-        quoted = rest;
         if *b == b'\'' && !behind_quote {
             behind_quote = true;
+            quoted = rest;
             continue;
         }
         if behind_quote && *b != b'\'' {
@@ -174,6 +173,7 @@ fn ends_as_text(mut quoted: &[u8]) -> bool
         }
         count += 1;
         behind_quote = false;
+        quoted = rest;
     }
     behind_quote
 }

@@ -1,12 +1,15 @@
 //! What stands at a place of a list of tokens.
 
 ghost use Rattle.std.specs.Prelude.{◌≡◌, ◌≢◌, ◌<◌, ◌≤◌, ◌+◌, [], ◌∷◌, length, MatchOption, MatchResult};
+ghost use Rattle.mq_ast.specs.declared.terminals.Keyword.{Keyword};
+ghost use Rattle.mq_ast.specs.declared.terminals.Symbol.{Symbol};
 ghost use Rattle.mq_ast.specs.Tokens.{Word, Sign, terminal_at};
 ghost use Rattle.mq_ast.specs.Spelling.{tok_of};
 ghost use Rattle.mq_ast.specs.Continuing.{loose, Stops, Not};
 ghost use Rattle.mq_parse_expr.specs.Reading.{from, Then, Fails};
 
 use crate::keywords::keyword;
+use crate::ranks::same_word;
 use crate::spelling::{is_text, number, symbol};
 use mq_ast::{Keyword, Symbol, Terminal};
 use mq_lexer::{Sort, Token};
@@ -58,25 +61,45 @@ pub fn terminal(t: &[Token<'_>], at: usize) -> Terminal
     }
 }
 
+// The reserved word at a place, where one stands there.
+fn word_at(t: &[Token<'_>], at: usize) -> Option<Keyword>
+    ensures { MatchOption result ((k : Keyword) → Not (Terminal.Word k) (from t.now at)) (λ k. (at < length t.now) × (terminal_at (from t.now at) ≡ Terminal.Word k)) }
+{
+    match terminal(t, at) {
+        Terminal::Word(word) => Some(word),
+        _ => None,
+    }
+}
+
+// The sign at a place, where one stands there.
+fn sign_at(t: &[Token<'_>], at: usize) -> Option<Symbol>
+    ensures { MatchOption result ((s : Symbol) → Not (Terminal.Sign s) (from t.now at)) (λ s. (at < length t.now) × (terminal_at (from t.now at) ≡ Terminal.Sign s)) }
+{
+    match terminal(t, at) {
+        Terminal::Sign(sign) => Some(sign),
+        _ => None,
+    }
+}
+
 /// The place behind this reserved word, where it stands at a place.
+#[tactic(auto, using(crate::proofs::TokenLemmas::word_next))]
 pub fn behind_word(t: &[Token<'_>], at: usize, word: Keyword) -> Option<usize>
     ensures { MatchOption result (Not (Terminal.Word word) (from t.now at)) (Then (Word word) t.now at) }
 {
-    if terminal(t, at) == Terminal::Word(word) {
-        Some(at + 1)
-    } else {
-        None
+    match word_at(t, at) {
+        Some(found) if same_word(found, word) => Some(at + 1),
+        _ => None,
     }
 }
 
 /// The place behind this sign, where it stands at a place.
+#[tactic(auto, using(crate::proofs::TokenLemmas::sign_next))]
 pub fn behind_sign(t: &[Token<'_>], at: usize, sign: Symbol) -> Option<usize>
     ensures { MatchOption result (Not (Terminal.Sign sign) (from t.now at)) (Then (Sign sign) t.now at) }
 {
-    if terminal(t, at) == Terminal::Sign(sign) {
-        Some(at + 1)
-    } else {
-        None
+    match sign_at(t, at) {
+        Some(found) if found == sign => Some(at + 1),
+        _ => None,
     }
 }
 
