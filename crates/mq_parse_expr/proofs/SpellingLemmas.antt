@@ -1,5 +1,5 @@
 -- How reserved words, numbers and texts are sought byte by byte.
-use Rattle.std.proofs.Common.{◌≡◌, ◌≢◌, ℕ, zero, suc, ◌+◌, ◌-◌, ◌*◌, ◌<◌, ◌≤◌, Bool, true, false, List, [], ◌∷◌, ◌++◌, length, drop, take, map, refl, sym, ap, ◌∙◌, subst, arith, get_or, drop-cons, add-one}
+use Rattle.std.proofs.Common.{◌≡◌, ◌≢◌, ℕ, zero, suc, ◌+◌, ◌-◌, ◌*◌, ◌<◌, ◌≤◌, Bool, true, false, List, [], ◌∷◌, ◌++◌, length, drop, take, map, refl, sym, ap, ◌∙◌, subst, arith, get_or, drop-cons, add-one, append_assoc, append-nil}
 use Rattle.std.specs.Prelude.{nat_le, nat_eq, ◌==◌, ◌&&◌, if◌then◌else◌, slice_index, Option, Some, None}
 use Rattle.std.specs.List.{filter, fold, list_all, position_or_len, before_first, after_first}
 use Rattle.std.specs.Option.{option_map}
@@ -11,7 +11,7 @@ use Rattle.mq_lexer.specs.Words.{folded}
 use Rattle.mq_values.specs.Text.{is_plain}
 use Rattle.mq_ast.specs.declared.terminals.Keyword.{Keyword}
 use Rattle.mq_ast.specs.Spelling.{spelled, keywords, keyword_of, unquoted}
-use Rattle.mq_parse_expr.specs.Rows.{reserved_row}
+use Rattle.mq_parse_expr.specs.Rows.{reserved_row, fits, is_quote}
 
 -- the words of one first byte are enough
 first_same : (w z : List ℕ) → bytes_eq w z ≡ true → (slice_index w 0 == slice_index z 0) ≡ true
@@ -39,11 +39,7 @@ fold_grows n (b ∷ z) = omega (arith, with_digit_grows n b, fold_grows (with_di
 pub fold_above : (n limit : ℕ) (z : List ℕ) → limit < n → limit < fold with_digit n z
 fold_above n limit z h = omega (arith, fold_grows n z)
 
--- whether so many bytes and these make a text
-abbrev pub fits : ℕ → Option (List ℕ) → Bool
-fits n None = false
-fits n (Some z) = nat_le (n + length z) 256 && list_all is_plain z
-
+-- one byte more of a text
 pub fits_more : (n b : ℕ) (o : Option (List ℕ)) → is_plain b ≡ true → fits n (option_map (λ c. b ∷ c) o) ≡ fits (n + 1) o
 fits_more n b None e = refl
 fits_more n b (Some z) e = grind (arith, nat_tests, e)
@@ -57,8 +53,6 @@ fits_bad n b None e = refl
 fits_bad n b (Some z) e = grind (arith, nat_tests, e)
 
 -- a text up to its next quote
-abbrev pub is_quote : ℕ → Bool
-is_quote b = b == 39
 
 pub unquoted_none : (z : List ℕ) → position_or_len is_quote z ≡ length z → unquoted false z ≡ None
 unquoted_none [] e = refl
@@ -79,10 +73,11 @@ Splits z = position_or_len is_quote z < length z → unquoted false z ≡ option
 split_case : (b : ℕ) (z : List ℕ) (t : Bool) → (b == 39) ≡ t → Splits z → Splits (b ∷ z)
 split_case b z true h ih e = rw h (sym (map_same (unquoted true z)))
 split_case b z false h ih e =
-    let l : suc (position_or_len is_quote z) < suc (length z) = rw h at e in
+    let l : 1 + position_or_len is_quote z < suc (length z) = rw h at e in
     let k : position_or_len is_quote z < length z = omega arith in
+    let o : 1 + position_or_len is_quote z ≡ suc (position_or_len is_quote z) = omega arith in
     let a : suc (position_or_len is_quote z) + 1 ≡ suc (position_or_len is_quote z + 1) = omega arith in
-    rw (h, a) (rw (ih k) (map_twice b (before_first is_quote z) (unquoted true (after_first is_quote z))))
+    rw (h, o, a) (rw (ih k) (map_twice b (before_first is_quote z) (unquoted true (after_first is_quote z))))
 
 pub unquoted_split : (z : List ℕ) → Splits z
 unquoted_split [] e = absurd (omega arith)
@@ -95,3 +90,29 @@ digit_above v limit (b ∷ z) l d h =
     let e : with_digit v b ≡ v * 10 + (b - 48) = rw d refl in
     let g = fold_grows (with_digit v b) z in
     omega arith
+
+-- a piece of a text up to a doubled quote, and behind it
+joined : (x y : List ℕ) (o : Option (List ℕ)) → option_map (λ c. ((x ++ y) ++ 39 ∷ []) ++ c) o ≡ option_map (λ c. x ++ c) (option_map (λ c. y ++ c) (option_map (λ c. 39 ∷ c) o))
+joined x y None = refl
+joined x y (Some c) = ap Some (simp append_assoc)
+
+pub piece_more : (x y rest after more new : List ℕ) (q : Option (List ℕ)) → option_map (λ c. x ++ c) (unquoted false rest) ≡ q → unquoted false rest ≡ option_map (λ c. y ++ c) (unquoted true after) → after ≡ 39 ∷ more → new ≡ (x ++ y) ++ 39 ∷ [] → option_map (λ c. new ++ c) (unquoted false more) ≡ q
+piece_more x y rest after more new q i s a n = rw n (joined x y (unquoted false more) ∙ rw (s, a) at i)
+
+pub piece_last : (x y rest after new : List ℕ) (q : Option (List ℕ)) → option_map (λ c. x ++ c) (unquoted false rest) ≡ q → unquoted false rest ≡ option_map (λ c. y ++ c) (unquoted true after) → after ≡ [] → new ≡ x ++ y → Some new ≡ q
+piece_last x y rest after new q i s a n = rw n (ap (λ c. Some (x ++ c)) (sym (append-nil y)) ∙ rw (s, a) at i)
+
+broken : (b : ℕ) (z : List ℕ) → ((r : List ℕ) → b ∷ z ≢ 39 ∷ r) → (b == 39) ≡ false
+broken b z n = let f : b ≡ 39 → ⊥ = λ e. n z (ap (λ x. x ∷ z) e) in grind (arith, nat_tests, f)
+
+pub piece_broken : (x y rest after : List ℕ) (q : Option (List ℕ)) → option_map (λ c. x ++ c) (unquoted false rest) ≡ q → unquoted false rest ≡ option_map (λ c. y ++ c) (unquoted true after) → ((r : List ℕ) → after ≢ 39 ∷ r) → 0 < length after → None ≡ q
+piece_broken x y rest [] q i s n l = absurd (omega arith)
+piece_broken x y rest (b ∷ after) q i s n l =
+    let d : (b == 39) ≡ false = broken b after n in
+    rw (s, d) at i
+
+pub piece_none : (x rest : List ℕ) (q : Option (List ℕ)) → option_map (λ c. x ++ c) (unquoted false rest) ≡ q → position_or_len is_quote rest ≡ length rest → None ≡ q
+piece_none x rest q i e = rw (unquoted_none rest e) at i
+
+pub cut_quote : (rest piece after : List ℕ) → (piece ≡ before_first is_quote rest) × (after ≡ after_first is_quote rest) × (position_or_len is_quote rest < length rest) → unquoted false rest ≡ option_map (λ c. piece ++ c) (unquoted true after)
+cut_quote rest piece after p = rw (p.0, p.1) (unquoted_split rest p.2)

@@ -1,13 +1,13 @@
 //! The signs, numbers and texts by their spelling.
 
-ghost use Rattle.std.specs.Prelude.{◌≡◌, ◌≤◌, ◌<◌, ◌+◌, ◌∷◌, [], length, false, IfOk, MatchOption};
-ghost use Rattle.std.specs.List.{fold};
+ghost use Rattle.std.specs.Prelude.{◌≡◌, Option, ◌≤◌, ◌<◌, ◌≢◌, ◌+◌, ◌∷◌, ◌++◌, [], ℕ, List, length, false, OnOk, IfSome, IfOk, MatchOption};
+ghost use Rattle.std.specs.List.{fold, position_or_len, before_first, after_first};
 ghost use Rattle.std.specs.Option.{option_map};
 ghost use Rattle.std.specs.String.{string_bytes};
 ghost use Rattle.mq_lexer.specs.Tokens.{with_digit};
 ghost use Rattle.mq_ast.specs.Tokens as tok;
 ghost use Rattle.mq_ast.specs.Spelling as spec;
-ghost use Rattle.mq_parse_expr.specs.Rows.{may_be_text};
+ghost use Rattle.mq_parse_expr.specs.Rows.{fits, fits_behind, fits_next, is_quote, may_be_text};
 
 use mq_ast::Symbol;
 use mq_values::{CmpOp, Memory, Num, ProdOp, SumOp, Text};
@@ -115,22 +115,46 @@ pub(crate) fn number(spelling: &str) -> Option<Num>
     Some(Num::new(value as i128, scale as u8))
 }
 
+// What stands before the next quote, and behind it.
+fn split_at_quote(text: &str) -> Option<(&str, &str)>
+    ensures { MatchOption result (position_or_len is_quote text.now ≡ length text.now) (λ p. (p.0.now ≡ before_first is_quote text.now) × (p.1.now ≡ after_first is_quote text.now) × (position_or_len is_quote text.now < length text.now)) }
+{
+    text.split_once('\'')
+}
+
+// What stands behind a quote at the front.
+fn behind_quote(text: &str) -> Option<&str>
+    ensures { MatchOption result ((r : List ℕ) → text.now ≢ 39 ∷ r) (λ x. text.now ≡ 39 ∷ x.now) }
+{
+    match text.strip_prefix('\'') {
+        Some(rest) => Some(rest),
+        None => None,
+    }
+}
+
+// Puts a piece and a quote behind the content.
+fn put_piece(content: &mut String, piece: &str) -> Result<(), AllocError>
+    ensures { OnOk result (string_bytes content.new ≡ (string_bytes content.old ++ piece.now) ++ 39 ∷ []) }
+{
+    content.push_str(piece)?;
+    content.push('\'')
+}
+
 // What stands behind the first quote of a text up to the closing one, with each doubled quote as one.
 fn unquoted(alloc: Global, quoted: &str) -> Result<Option<String>, AllocError>
     ensures { IfOk result (λ o. option_map string_bytes o ≡ spec.unquoted false quoted.now) }
 {
     let mut content = String::new(alloc);
     let mut rest = quoted;
-    while let Some((piece, after)) = rest.split_once('\'') {
-        content.push_str(piece)?;
-        let Some(more) = after.strip_prefix('\'') else {
-            return Ok(if after.is_empty() {
-                Some(content)
-            } else {
-                None
-            });
+    while let Some((piece, after)) = split_at_quote(rest) {
+        let Some(more) = behind_quote(after) else {
+            if after.is_empty() {
+                content.push_str(piece)?;
+                return Ok(Some(content));
+            }
+            return Ok(None);
         };
-        content.push('\'')?;
+        put_piece(&mut content, piece)?;
         rest = more;
     }
     Ok(None)
@@ -140,7 +164,7 @@ fn unquoted(alloc: Global, quoted: &str) -> Result<Option<String>, AllocError>
 pub(crate) fn content(alloc: Global, spelling: &str) -> Result<Option<Text>, Memory>
     ensures { IfOk result (λ o. MatchOption o (spec.text_tok spelling.now ≡ tok.Bad) (λ z. spec.text_tok spelling.now ≡ tok.Text z)) }
 {
-    let Some(quoted) = spelling.strip_prefix('\'') else {
+    let Some(quoted) = behind_quote(spelling) else {
         return Ok(None);
     };
     match unquoted(alloc, quoted)? {
@@ -152,30 +176,52 @@ pub(crate) fn content(alloc: Global, spelling: &str) -> Result<Option<Text>, Mem
 /// How many bytes a text may have.
 const MAX_CONTENT: usize = 256;
 
-// Whether what stands behind the first quote is the content of a text and its closing quote.
+// How many bytes a content has with one more; none where it is too long or the byte is a control character.
 #[tactic(auto, using(crate::proofs::SpellingLemmas::fits_more, crate::proofs::SpellingLemmas::fits_full, crate::proofs::SpellingLemmas::fits_bad))]
-fn ends_as_text(mut quoted: &[u8]) -> bool
-    ensures { result ≡ may_be_text (spec.unquoted false quoted.entry.now) }
+fn with_byte(count: usize, b: u8) -> Option<usize>
+    requires { count ≤ 256 }
+    ensures value { (o : Option (List ℕ)) → fits count (option_map (λ c. b ∷ c) o) ≡ fits_next result o }
+    ensures within { IfSome result (λ n. n ≤ 256) }
 {
-    let mut count: usize = 0;
-    let mut behind_quote = false;
-    while let [b, rest @ ..] = quoted {
-        if *b == b'\'' && !behind_quote {
-            behind_quote = true;
-            quoted = rest;
-            continue;
-        }
-        if behind_quote && *b != b'\'' {
-            return false;
-        }
-        if count == MAX_CONTENT || *b < b' ' || *b == 127 {
-            return false;
-        }
-        count += 1;
-        behind_quote = false;
-        quoted = rest;
+    if count == MAX_CONTENT {
+        return None;
     }
-    behind_quote
+    if b < b' ' || b == 127 {
+        return None;
+    }
+    Some(count + 1)
+}
+
+// What is known of a text behind one more byte: how many bytes its content has, and whether a quote stands right
+// before. None where the text is not spelled so or too long.
+fn behind_byte(count: usize, at_quote: bool, b: u8) -> Option<(usize, bool)>
+    requires { count ≤ 256 }
+    ensures value { (z : List ℕ) → fits count (spec.unquoted at_quote (b ∷ z)) ≡ fits_behind result z }
+    ensures within { IfSome result (λ p. p.0 ≤ 256) }
+{
+    if (b == b'\'') == at_quote {
+        let bytes = with_byte(count, b)?;
+        return Some((bytes, false));
+    }
+    if at_quote { None } else { Some((count, true)) }
+}
+
+// Whether what stands behind the first quote is the content of a text and its closing quote.
+fn ends_as_text(quoted: &[u8]) -> bool
+    ensures { result ≡ may_be_text (spec.unquoted false quoted.now) }
+{
+    let mut count = 0;
+    let mut at_end = false;
+    for b in quoted {
+        match behind_byte(count, at_end, *b) {
+            Some((bytes, behind_quote)) => {
+                count = bytes;
+                at_end = behind_quote;
+            }
+            None => return false,
+        }
+    }
+    at_end
 }
 
 /// Whether a text is spelled so.
