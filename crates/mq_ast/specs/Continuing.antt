@@ -1,10 +1,10 @@
 -- Where a part of a statement ends: which tokens go on behind it.
-use Rattle.std.specs.Prelude.{◌≢◌, ℕ, ◌<◌, List}
+use Rattle.std.specs.Prelude.{◌≡◌, ◌≢◌, ℕ, ◌<◌, List}
 use Rattle.mq_ast.specs.declared.terminals.Keyword.TheVariants as word
 use Rattle.mq_ast.specs.declared.terminals.Symbol.TheVariants as sign
 use Rattle.mq_ast.specs.declared.terminals.Terminal.{Terminal}
 use Rattle.mq_ast.specs.declared.terminals.Terminal.TheVariants.{Word, Sign, Name}
-use Rattle.mq_ast.specs.Tokens.{Tok, terminal_at}
+use Rattle.mq_ast.specs.Tokens.{Tok, terminal_at, rest_of}
 
 -- how loosely a token goes on what stands before it
 abbrev pub loose : Terminal → ℕ
@@ -52,6 +52,10 @@ Ends t ts = Stops 7 ts × Not t ts
 -- the end of the keys of ORDER BY
 abbrev pub EndsKeys : List Tok → Type 0
 EndsKeys ts = Not (Sign sign.Comma) ts × Not (Word word.Asc) ts × Not (Word word.Desc) ts
+
+-- the end of the columns of CREATE TABLE: a comma there is that of PRIMARY KEY
+abbrev pub EndsCols : List Tok → Type 0
+EndsCols ts = Stops 7 ts × (terminal_at ts ≡ Sign sign.Comma → terminal_at (rest_of ts) ≡ Word word.Primary)
 
 -- where a token stands in a MODEL clause: 1 an option, 2 RETURN, 3 REFERENCE, 4 MAIN, 5 PARTITION BY, 6 a mode,
 -- 7 an order of the rules, 8 ITERATE, 9 UNTIL, 10 none of these

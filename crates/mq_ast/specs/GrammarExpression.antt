@@ -1,5 +1,5 @@
 -- The grammar of expressions. Expr a from to: a reads the tokens of `from` before `to`.
-use Rattle.std.specs.Prelude.{ℕ, Bool, true, false, List, [], ◌∷◌, Option, None, Some}
+use Rattle.std.specs.Prelude.{ℕ, true, false, List, [], ◌∷◌, Option, None, Some}
 use Rattle.mq_values.specs.Number.{Number}
 use Rattle.mq_values.specs.declared.operators.Agg.{Agg}
 use Rattle.mq_values.specs.declared.operators.Agg.TheVariants as agg
@@ -105,9 +105,9 @@ mutual
     prim_num : {n : Number} {to : List Tok} → PrimE (e.Lit (value.Num n)) (Num n ∷ to) to
     prim_text : {t : List ℕ} {to : List Tok} → PrimE (e.Lit (value.Text t)) (Text t ∷ to) to
     prim_null : {to : List Tok} → PrimE (e.Lit value.Null) (Word word.Null ∷ to) to
-    -- path | path '[' (ANY | e) {',' (ANY | e)} ']'
-    prim_path : {p : Path} {from to : List Tok} → PathE p from to → PrimE (e.Name p) from to
-    prim_cell : {p : Path} {ps : List Place} {from mid to : List Tok} → PathE p from mid → Brackets ps mid to → PrimE (e.Cell p ps) from to
+    -- path | path '[' (ANY | e) {',' (ANY | e)} ']', where a path begins with a name
+    prim_path : {p : Path} {n : List ℕ} {from to : List Tok} → PathE p (Name n ∷ from) to → PrimE (e.Name p) (Name n ∷ from) to
+    prim_cell : {p : Path} {n : List ℕ} {ps : List Place} {from mid to : List Tok} → PathE p (Name n ∷ from) mid → Brackets ps mid to → PrimE (e.Cell p ps) (Name n ∷ from) to
     -- '(' e ')'
     prim_round : {a : E} {from to : List Tok} → Expr a from (closer ∷ to) → PrimE a (opener ∷ from) to
     -- agg '(' e ')' | COUNT '(' '*' ')' | agg '(' name ')' '[' (ANY | e) {',' (ANY | e)} ']'

@@ -9,7 +9,7 @@ use Rattle.mq_ast.specs.declared.queries.Plain.{Plain}
 use Rattle.mq_ast.specs.declared.terminals.Keyword.TheVariants as word
 use Rattle.mq_ast.specs.Tokens.{Tok, Word, Name, opener, closer, comma, star}
 use Rattle.mq_ast.specs.GrammarNames.{PathE}
-use Rattle.mq_ast.specs.GrammarLists.{SomeOf}
+use Rattle.mq_ast.specs.GrammarLists.{SomeOf, ManyOf}
 use Rattle.mq_ast.specs.GrammarExpression.{Expr}
 
 abbrev pub sel_of : E → Option (List ℕ) → Sel
@@ -42,16 +42,16 @@ pub data Cols : List Sel → List Tok → List Tok → Type 0 where
 pub data ItemE : Option E → FromItem → List Tok → List Tok → Type 0 where
   item : {on : Option E} {n : List ℕ} {o : Option (List ℕ)} {from to : List Tok} → AliasE o from to → ItemE on (item_of n o on) (Name n ∷ from) to
 
--- from := item {',' item | [INNER] JOIN item ON e | CROSS JOIN item}
-pub data MoreItems : List FromItem → List Tok → List Tok → Type 0 where
-  items_end : {to : List Tok} → MoreItems [] to to
-  items_comma : {i : FromItem} {xs : List FromItem} {from mid to : List Tok} → ItemE None i from mid → MoreItems xs mid to → MoreItems (i ∷ xs) (comma ∷ from) to
-  items_join : {a : E} {i : FromItem} {xs : List FromItem} {from mid next to : List Tok} → ItemE (Some a) i from (Word word.On ∷ mid) → Expr a mid next → MoreItems xs next to → MoreItems (i ∷ xs) (Word word.Join ∷ from) to
-  items_inner : {a : E} {i : FromItem} {xs : List FromItem} {from mid next to : List Tok} → ItemE (Some a) i from (Word word.On ∷ mid) → Expr a mid next → MoreItems xs next to → MoreItems (i ∷ xs) (Word word.Inner ∷ Word word.Join ∷ from) to
-  items_cross : {i : FromItem} {xs : List FromItem} {from mid to : List Tok} → ItemE None i from mid → MoreItems xs mid to → MoreItems (i ∷ xs) (Word word.Cross ∷ Word word.Join ∷ from) to
+-- ',' item | [INNER] JOIN item ON e | CROSS JOIN item
+pub data JoinE : FromItem → List Tok → List Tok → Type 0 where
+  join_comma : {i : FromItem} {from to : List Tok} → ItemE None i from to → JoinE i (comma ∷ from) to
+  join_on : {a : E} {i : FromItem} {from mid to : List Tok} → ItemE (Some a) i from (Word word.On ∷ mid) → Expr a mid to → JoinE i (Word word.Join ∷ from) to
+  join_inner : {a : E} {i : FromItem} {from mid to : List Tok} → ItemE (Some a) i from (Word word.On ∷ mid) → Expr a mid to → JoinE i (Word word.Inner ∷ Word word.Join ∷ from) to
+  join_cross : {i : FromItem} {from to : List Tok} → ItemE None i from to → JoinE i (Word word.Cross ∷ Word word.Join ∷ from) to
 
+-- from := item {',' item | [INNER] JOIN item ON e | CROSS JOIN item}
 pub data FromE : List FromItem → List Tok → List Tok → Type 0 where
-  items : {i : FromItem} {xs : List FromItem} {from mid to : List Tok} → ItemE None i from mid → MoreItems xs mid to → FromE (i ∷ xs) from to
+  items : {i : FromItem} {xs : List FromItem} {from mid to : List Tok} → ItemE None i from mid → ManyOf JoinE xs mid to → FromE (i ∷ xs) from to
 
 -- '*' | sel {',' sel}
 pub data SelectE : Bool → List Sel → List Tok → List Tok → Type 0 where

@@ -47,18 +47,19 @@ pub data SetE : List ℕ × E → List Tok → List Tok → Type 0 where
 -- stmt := what is below
 pub data StmtE : Stmt → List Tok → Type 0 where
   -- CREATE TABLE name '(' col {',' col} [',' PRIMARY KEY '(' names ')'] ')'
-  create_table : {n : List ℕ} {cs : List ColDef} {ks : List (List ℕ)} {from mid : List Tok} → SomeOf ColE cs from mid → PrimaryE ks mid (closer ∷ []) → StmtE (stmt.CreateTable n cs ks) (Word word.Create ∷ Word word.Table ∷ Name n ∷ opener ∷ from)
+  stmt_create_table : {n : List ℕ} {cs : List ColDef} {ks : List (List ℕ)} {from mid : List Tok} → SomeOf ColE cs from mid → PrimaryE ks mid (closer ∷ []) → StmtE (stmt.CreateTable n cs ks) (Word word.Create ∷ Word word.Table ∷ Name n ∷ opener ∷ from)
   -- DROP TABLE name | CREATE VIEW name AS query | DROP VIEW name
-  drop_table : {n : List ℕ} → StmtE (stmt.DropTable n) (Word word.Drop ∷ Word word.Table ∷ Name n ∷ [])
-  create_view : {n : List ℕ} {q : Query} {from : List Tok} → QueryE q from [] → StmtE (stmt.CreateView n q) (Word word.Create ∷ Word word.View ∷ Name n ∷ Word word.As ∷ from)
-  drop_view : {n : List ℕ} → StmtE (stmt.DropView n) (Word word.Drop ∷ Word word.View ∷ Name n ∷ [])
+  stmt_drop_table : {n : List ℕ} → StmtE (stmt.DropTable n) (Word word.Drop ∷ Word word.Table ∷ Name n ∷ [])
+  stmt_create_view : {n : List ℕ} {q : Query} {from : List Tok} → QueryE q from [] → StmtE (stmt.CreateView n q) (Word word.Create ∷ Word word.View ∷ Name n ∷ Word word.As ∷ from)
+  stmt_drop_view : {n : List ℕ} → StmtE (stmt.DropView n) (Word word.Drop ∷ Word word.View ∷ Name n ∷ [])
   -- INSERT INTO name ['(' names ')'] VALUES tuple {',' tuple}
-  insert : {n : List ℕ} {o : Option (List (List ℕ))} {xss : List (List E)} {from mid : List Tok} → MaybeNames o from (Word word.Values ∷ mid) → SomeOf Tuple xss mid [] → StmtE (stmt.Insert n o xss) (Word word.Insert ∷ Word word.Into ∷ Name n ∷ from)
+  stmt_insert : {n : List ℕ} {o : Option (List (List ℕ))} {xss : List (List E)} {from mid : List Tok} → MaybeNames o from (Word word.Values ∷ mid) → SomeOf Tuple xss mid [] → StmtE (stmt.Insert n o xss) (Word word.Insert ∷ Word word.Into ∷ Name n ∷ from)
   -- UPDATE name SET name '=' e {',' name '=' e} [WHERE e]
-  update : {n : List ℕ} {xs : List (List ℕ × E)} {o : Option E} {from mid : List Tok} → SomeOf SetE xs from mid → WhereE o mid [] → StmtE (stmt.Update n xs o) (Word word.Update ∷ Name n ∷ Word word.Set ∷ from)
+  stmt_update : {n : List ℕ} {xs : List (List ℕ × E)} {o : Option E} {from mid : List Tok} → SomeOf SetE xs from mid → WhereE o mid [] → StmtE (stmt.Update n xs o) (Word word.Update ∷ Name n ∷ Word word.Set ∷ from)
   -- DELETE FROM name [WHERE e]
-  delete : {n : List ℕ} {o : Option E} {from : List Tok} → WhereE o from [] → StmtE (stmt.Delete n o) (Word word.Delete ∷ Word word.From ∷ Name n ∷ from)
-  -- LOAD INTO name FROM txt | SHOW name | query
-  load : {n file : List ℕ} → StmtE (stmt.Load n file) (Word word.Load ∷ Word word.Into ∷ Name n ∷ Word word.From ∷ Text file ∷ [])
-  show : {n : List ℕ} → StmtE (stmt.Show n) (Word word.Show ∷ Name n ∷ [])
-  query : {q : Query} {from : List Tok} → QueryE q from [] → StmtE (stmt.Query q) from
+  stmt_delete : {n : List ℕ} {o : Option E} {from : List Tok} → WhereE o from [] → StmtE (stmt.Delete n o) (Word word.Delete ∷ Word word.From ∷ Name n ∷ from)
+  -- LOAD INTO name FROM txt | SHOW name
+  stmt_load : {n file : List ℕ} → StmtE (stmt.Load n file) (Word word.Load ∷ Word word.Into ∷ Name n ∷ Word word.From ∷ Text file ∷ [])
+  stmt_show : {n : List ℕ} → StmtE (stmt.Show n) (Word word.Show ∷ Name n ∷ [])
+  -- query, which begins with SELECT
+  stmt_query : {q : Query} {from : List Tok} → QueryE q (Word word.Select ∷ from) [] → StmtE (stmt.Query q) (Word word.Select ∷ from)

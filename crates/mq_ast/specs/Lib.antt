@@ -2,6 +2,7 @@ pub mod Tokens
 pub mod Spelling
 pub mod Continuing
 pub mod Chains
+pub mod OneTree
 pub mod GrammarNames
 pub mod GrammarLists
 pub mod GrammarExpression

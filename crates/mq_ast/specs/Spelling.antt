@@ -1,6 +1,7 @@
 -- How a token of the lexer becomes a token of the grammar.
-use Rattle.std.specs.Prelude.{ℕ, ◌-◌, ◌&&◌, nat_le, Bool, false, if◌then◌else◌, ◌==◌, pos, List, [], ◌∷◌, length, map, take, drop, codes, Option, Some, None}
+use Rattle.std.specs.Prelude.{ℕ, ◌&&◌, nat_le, Bool, true, false, if◌then◌else◌, ◌==◌, pos, List, [], ◌∷◌, length, map, codes, Option, Some, None}
 use Rattle.std.specs.List.{fold}
+use Rattle.std.specs.Option.{option_map}
 use Rattle.std.specs.Str.{bytes_eq}
 use Rattle.mq_values.specs.declared.operators.Agg.TheVariants as agg
 use Rattle.mq_values.specs.declared.operators.CmpOp.TheVariants as cmp
@@ -10,7 +11,7 @@ use Rattle.mq_values.specs.Text.{is_text}
 use Rattle.mq_lexer.specs.declared.sorts.Sort.{Sort}
 use Rattle.mq_lexer.specs.declared.sorts.Sort.TheVariants as sort
 use Rattle.mq_lexer.specs.declared.sorts.Token.{Token}
-use Rattle.mq_lexer.specs.Tokens.{with_digit, is_small, content}
+use Rattle.mq_lexer.specs.Tokens.{with_digit, is_small}
 use Rattle.mq_lexer.specs.Words.{folded}
 use Rattle.mq_ast.specs.declared.terminals.Keyword.{Keyword}
 use Rattle.mq_ast.specs.declared.terminals.Keyword.TheVariants as word
@@ -96,12 +97,25 @@ number_tok z =
     then Num (record { mant = pos (fold with_digit 0 z); scale = places z })
     else Bad
 
--- what stands between the quotes, with each doubled quote as one
-abbrev pub content_of : List ℕ → List ℕ
-content_of z = content false (take (length z - 2) (drop 1 z))
+-- What stands behind the first quote of a text, with each doubled quote as one; None where it is not spelled as a text.
+-- `behind_quote`: a quote stands right before, which is the closing one at the end and else the first of two.
+abbrev pub unquoted : Bool → List ℕ → Option (List ℕ)
+unquoted false [] = None
+unquoted true [] = Some []
+unquoted false (b ∷ z) = if b == 39 then unquoted true z else option_map (λ c. b ∷ c) (unquoted false z)
+unquoted true (b ∷ z) = if b == 39 then option_map (λ c. b ∷ c) (unquoted false z) else None
+
+-- what stands between the quotes of a text
+abbrev pub content_of : List ℕ → Option (List ℕ)
+content_of [] = None
+content_of (b ∷ z) = if b == 39 then unquoted false z else None
+
+abbrev pub content_tok : Option (List ℕ) → Tok
+content_tok None = Bad
+content_tok (Some c) = if is_text c then Text c else Bad
 
 abbrev pub text_tok : List ℕ → Tok
-text_tok z = if is_text (content_of z) then Text (content_of z) else Bad
+text_tok z = content_tok (content_of z)
 
 abbrev pub tok : Sort → List ℕ → Tok
 tok sort.Word z = word_tok z (keyword_of z)

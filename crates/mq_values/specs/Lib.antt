@@ -1,5 +1,11 @@
 pub mod Answers
+pub mod Arithmetic
+pub mod Convert
 pub mod Number
+pub mod NumberOrder
+pub mod Order
+pub mod OrderLaws
+pub mod Print
 pub mod Shared
 pub mod Text
 pub mod Words

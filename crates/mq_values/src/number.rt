@@ -1,9 +1,45 @@
-ghost use Rattle.std.specs.Prelude.{◌≡◌, ◌≤◌};
+//! The exact decimal number, and its orders.
+ghost use Rattle.std.specs.Prelude.{◌≡◌, ◌≤◌, pos, ◌^◌, ◌*ℤ◌, ◌<ℤ◌, IsTrue};
+ghost use Rattle.std.proofs.Common.{rules};
+ghost use Rattle.std.specs.Cmp.Rules.{comparing};
+ghost use Rattle.std.specs.Ordering.{as_partial_cmp};
+ghost use Rattle.std.specs.Cmp.{partial_order_from_agreeing_total};
+ghost use Rattle.mq_values.specs.Number.{cmp_number, cmp_worth, fitting, is_mantissa};
+ghost use Rattle.mq_values.specs.NumberOrder.{equal_together};
 
+use std::cmp::Ordering;
 use std::marker::Model;
 
-/// A number to a scale: `mant / 10^scale`.
-#[derive(Clone, Copy, Debug, PartialEq, Eq, PartialOrd, Ord, Hash)]
+static TENS: [i128; 25] = [
+    1,
+    10,
+    100,
+    1_000,
+    10_000,
+    100_000,
+    1_000_000,
+    10_000_000,
+    100_000_000,
+    1_000_000_000,
+    10_000_000_000,
+    100_000_000_000,
+    1_000_000_000_000,
+    10_000_000_000_000,
+    100_000_000_000_000,
+    1_000_000_000_000_000,
+    10_000_000_000_000_000,
+    100_000_000_000_000_000,
+    1_000_000_000_000_000_000,
+    10_000_000_000_000_000_000,
+    100_000_000_000_000_000_000,
+    1_000_000_000_000_000_000_000,
+    10_000_000_000_000_000_000_000,
+    100_000_000_000_000_000_000_000,
+    1_000_000_000_000_000_000_000_000,
+];
+
+/// An exact decimal number: a mantissa and a scale from 0 to 12, worth mantissa / 10^scale.
+#[derive(Clone, Copy, Debug, PartialEq, Eq, Hash)]
 pub struct Num {
     mant: i128,
     scale: u8,
@@ -31,8 +67,10 @@ impl Num {
         Num { mant, scale }
     }
 
+    /// The mantissa.
     pub fn mant(self) -> i128
-        ensures { result ≡ self.mant }
+        ensures value { result ≡ self.mant }
+        ensures range { IsTrue (is_mantissa self.mant) }
     {
         self.mant
     }
@@ -43,5 +81,72 @@ impl Num {
         ensures bound { result ≤ 12 }
     {
         self.scale
+    }
+
+    /// Compares by worth alone, whatever the scales.
+    pub fn cmp_value(self, other: Num) -> Ordering
+        ensures { result ≡ cmp_worth self other }
+    {
+        if self.scale == other.scale {
+            return self.mant.cmp(&other.mant);
+        }
+        if self.scale < other.scale {
+            return scaled_cmp(self, other);
+        }
+        scaled_cmp(other, self).reverse()
+    }
+}
+
+impl Num {
+    /// The mantissa followed by that many zeros, where it is in range.
+    pub(crate) fn with_zeros(self, zeros: u8) -> Option<i128>
+        requires { zeros ≤ 24 }
+        ensures { result ≡ fitting (self.mant *ℤ pos (10 ^ zeros)) }
+    {
+        self.mant.checked_mul(ten_to(zeros))
+    }
+}
+
+/// Ten to that power.
+pub(crate) fn ten_to(power: u8) -> i128
+    requires { power ≤ 24 }
+    ensures value { result ≡ pos (10 ^ power) }
+    ensures positive { pos 0 <ℤ result }
+{
+    TENS[power as usize]
+}
+
+/// Compares by worth a number with one of a larger scale.
+fn scaled_cmp(a: Num, b: Num) -> Ordering
+    requires { a.scale ≤ b.scale }
+    ensures { result ≡ cmp_worth a b }
+{
+    match a.with_zeros(b.scale - a.scale) {
+        Some(mant) => mant.cmp(&b.mant),
+        None => a.mant.cmp(&0),
+    }
+}
+
+impl Ord for Num {
+    ghost cmp = { cmp_number };
+
+    ghost total = { Prim.search (comparing, rules) };
+
+    ghost matches_partial_cmp = { Prim.search (comparing, rules) };
+
+    ghost matches_eq = { equal_together };
+
+    fn cmp(&self, other: &Num) -> Ordering {
+        self.cmp_value(*other).then(self.scale.cmp(&other.scale))
+    }
+}
+
+impl PartialOrd for Num {
+    ghost partial_cmp = { as_partial_cmp cmp_number };
+
+    ghost laws = { partial_order_from_agreeing_total cmp_number (Prim.search (comparing, rules)) (Prim.search (comparing, rules)) equal_together };
+
+    fn partial_cmp(&self, other: &Num) -> Option<Ordering> {
+        Some(self.cmp(other))
     }
 }

@@ -1,4 +1,4 @@
-ghost use Rattle.std.specs.Prelude.{◌≡◌, [], Some, None, IfOk, if◌then◌else◌};
+ghost use Rattle.std.specs.Prelude.{◌≡◌, [], IsTrue, Some, None, IfOk, if◌then◌else◌};
 ghost use Rattle.std.specs.List.{list_all};
 ghost use Rattle.mq_values.specs.Text.{is_plain, is_text};
 
@@ -53,7 +53,8 @@ impl Text {
     }
 
     pub fn as_str(&self) -> &str
-        ensures { result.now ≡ self.now }
+        ensures value { result.now ≡ self.now }
+        ensures text { IsTrue (is_text self.now) }
     {
         self.words.as_str()
     }

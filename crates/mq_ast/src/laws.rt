@@ -1,0 +1,67 @@
+//! The grammar reads tokens in one way only: laws on functions that do nothing. Two trees of one level that read the
+//! tokens from one place, each up to a place where no token stands that goes on at that level, are equal and end at
+//! the same place (docs/MEANING.md, "Reading").
+
+ghost use Rattle.std.specs.Prelude.{◌≡◌, ℕ, List, is_some};
+ghost use Rattle.mq_ast.specs.declared.statements.Stmt.{Stmt};
+ghost use Rattle.mq_lexer.specs.Words.{is_reserved};
+ghost use Rattle.mq_ast.specs.Tokens.{Tok};
+ghost use Rattle.mq_ast.specs.Spelling.{keyword_of};
+ghost use Rattle.mq_ast.specs.Continuing.{Stops};
+ghost use Rattle.mq_ast.specs.OneTree.{OneTree};
+ghost use Rattle.mq_ast.specs.GrammarExpression.{Expr, AndE, NotE, TestE, SumE, ProdE, SignE, PrimE};
+ghost use Rattle.mq_ast.specs.GrammarQuery.{PlainE};
+ghost use Rattle.mq_ast.specs.GrammarModel.{QueryE};
+ghost use Rattle.mq_ast.specs.GrammarStatement.{StmtE};
+
+/// An expression without an operator, alone or with a sign.
+pub fn one_primary()
+    ensures primary { OneTree PrimE (Stops 2) }
+    ensures signed { OneTree SignE (Stops 2) }
+{}
+
+/// A product.
+pub fn one_product()
+    ensures { OneTree ProdE (Stops 3) }
+{}
+
+/// A sum.
+pub fn one_sum()
+    ensures { OneTree SumE (Stops 4) }
+{}
+
+/// A comparison or another test, alone or behind NOT.
+pub fn one_test()
+    ensures test { OneTree TestE (Stops 5) }
+    ensures negated { OneTree NotE (Stops 5) }
+{}
+
+/// A chain by AND.
+pub fn one_conjunction()
+    ensures { OneTree AndE (Stops 6) }
+{}
+
+/// A whole expression.
+pub fn one_expression()
+    ensures { OneTree Expr (Stops 7) }
+{}
+
+/// The plain part of a query.
+pub fn one_plain()
+    ensures { OneTree PlainE (Stops 11) }
+{}
+
+/// A whole query.
+pub fn one_query()
+    ensures { OneTree QueryE (Stops 12) }
+{}
+
+/// Two statements that read the same tokens are equal.
+pub fn one_statement()
+    ensures { (a b : Stmt) (tokens : List Tok) → StmtE a tokens → StmtE b tokens → a ≡ b }
+{}
+
+/// A word is a keyword of the grammar exactly where the lexer calls it reserved.
+pub fn keywords_are_reserved()
+    ensures { (z : List ℕ) → is_some (keyword_of z) ≡ is_reserved z }
+{}

@@ -1,0 +1,4 @@
+pub mod NumberTexts
+pub mod Ranges
+pub mod Steps
+pub mod Tens
