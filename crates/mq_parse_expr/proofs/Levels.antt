@@ -6,6 +6,7 @@ use Rattle.mq_values.specs.declared.operators.SumOp.{SumOp}
 use Rattle.mq_values.specs.declared.operators.ProdOp.{ProdOp}
 use Rattle.mq_values.specs.declared.operators.CmpOp.{CmpOp}
 use Rattle.mq_ast.specs.declared.expressions.E.{E}
+use Rattle.mq_ast.specs.declared.expressions.E.TheVariants as tree
 use Rattle.mq_ast.specs.declared.expressions.Place.{Place}
 use Rattle.mq_ast.specs.declared.expressions.SumTerm.{SumTerm}
 use Rattle.mq_ast.specs.declared.expressions.ProdTerm.{ProdTerm}
@@ -234,3 +235,43 @@ place_no_end l a to (place_expr d) s = absurd (expr_no_any d)
 pub place_no_expr : {ts : List Tok} → Not (terminal.Word word.Any) ts → No Expr (Stops 7) ts → No PlaceE (Stops 7) ts
 place_no_expr n h a to place_any s = n refl
 place_no_expr n h a to (place_expr d) s = h _ _ d s
+
+-- one more kind of token that does not go on
+pub stops_or : (s : Terminal) → 6 < loose s → s ≢ terminal.Word word.Or → 7 < loose s
+stops_or (terminal.Word word.Or) l n = absurd (n refl)
+stops_or (terminal.Word (word.Agg _)) l n = omega arith
+stops_or (terminal.Sign (sign.Cmp _)) l n = omega arith
+stops_or (terminal.Sign (sign.Sum _)) l n = omega arith
+stops_or (terminal.Sign (sign.Prod _)) l n = omega arith
+stops_or _ l n = omega arith
+
+pub stops_and : (s : Terminal) → 5 < loose s → s ≢ terminal.Word word.And → 6 < loose s
+stops_and (terminal.Word word.And) l n = absurd (n refl)
+stops_and (terminal.Word (word.Agg _)) l n = omega arith
+stops_and (terminal.Sign (sign.Cmp _)) l n = omega arith
+stops_and (terminal.Sign (sign.Sum _)) l n = omega arith
+stops_and (terminal.Sign (sign.Prod _)) l n = omega arith
+stops_and _ l n = omega arith
+
+pub stops_sum : (s : Terminal) → 3 < loose s → ((op : SumOp) → s ≢ terminal.Sign (sign.Sum op)) → 4 < loose s
+stops_sum (terminal.Sign (sign.Sum op)) l n = absurd (n op refl)
+stops_sum (terminal.Word (word.Agg _)) l n = omega arith
+stops_sum (terminal.Sign (sign.Cmp _)) l n = omega arith
+stops_sum (terminal.Sign (sign.Prod _)) l n = omega arith
+stops_sum _ l n = omega arith
+
+pub stops_prod : (s : Terminal) → 2 < loose s → ((op : ProdOp) → s ≢ terminal.Sign (sign.Prod op)) → 3 < loose s
+stops_prod (terminal.Sign (sign.Prod op)) l n = absurd (n op refl)
+stops_prod (terminal.Word (word.Agg _)) l n = omega arith
+stops_prod (terminal.Sign (sign.Cmp _)) l n = omega arith
+stops_prod (terminal.Sign (sign.Sum _)) l n = omega arith
+stops_prod _ l n = omega arith
+
+-- a test by BETWEEN or IN
+pub between_tail : (not : Bool) {x a b : E} {ts mid to : List Tok} → SumE a ts (Word word.And ∷ mid) → SumE b mid to → TestTail x (tree.Between x not a b) (between_front not ts) to
+between_tail false d f = tail_between d f
+between_tail true d f = tail_not_between d f
+
+pub in_tail : (not : Bool) {x : E} {xs : List E} {ts to : List Tok} → Tuple xs ts to → TestTail x (tree.InList x not xs) (in_front not ts) to
+in_tail false d = tail_in d
+in_tail true d = tail_not_in d

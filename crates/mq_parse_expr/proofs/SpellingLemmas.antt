@@ -116,3 +116,7 @@ piece_none x rest q i e = rw (unquoted_none rest e) at i
 
 pub cut_quote : (rest piece after : List ℕ) → (piece ≡ before_first is_quote rest) × (after ≡ after_first is_quote rest) × (position_or_len is_quote rest < length rest) → unquoted false rest ≡ option_map (λ c. piece ++ c) (unquoted true after)
 cut_quote rest piece after p = rw (p.0, p.1) (unquoted_split rest p.2)
+
+pub empty_of : (z : List ℕ) → (length z == 0) ≡ true → z ≡ []
+empty_of [] e = refl
+empty_of (_ ∷ z) e = absurd (grind (arith, nat_tests, e))

@@ -8,7 +8,7 @@ use Rattle.mq_ast.specs.Tokens.{Tok, Word, Sign, Name, Num, Text, Bad, terminal_
 use Rattle.mq_ast.specs.Spelling.{tok_of}
 use Rattle.mq_parse_expr.specs.Reading.{from, Then}
 
-next : (t : List Token) (at : ℕ) → rest_of (from t at) ≡ from t (at + 1)
+pub next : (t : List Token) (at : ℕ) → rest_of (from t at) ≡ from t (at + 1)
 next [] zero = refl
 next [] (suc n) = rw add-one refl
 next (k ∷ t) zero = refl

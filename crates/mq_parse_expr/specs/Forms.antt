@@ -1,6 +1,7 @@
 -- What kind of expression or test a token begins, and what stands there then.
-use Rattle.std.specs.Prelude.{List, [], ◌∷◌, Option, Some, None}
+use Rattle.std.specs.Prelude.{ℕ, ◌+◌, ◌≤◌, length, List, [], ◌∷◌, Option, Some, None}
 use Rattle.mq_values.specs.declared.operators.Func.TheVariants as func
+use Rattle.mq_lexer.specs.declared.sorts.Token.{Token}
 use Rattle.mq_ast.specs.declared.expressions.E.{E}
 use Rattle.mq_ast.specs.declared.expressions.E.TheVariants as e
 use Rattle.mq_ast.specs.declared.terminals.Keyword.{Keyword}
@@ -79,3 +80,12 @@ IsLeaf form.Null = Unit {0}
 IsLeaf form.Cv = Unit {0}
 IsLeaf form.Turn = Unit {0}
 IsLeaf _ = ⊥
+
+-- a token stands at a place where a form or the rest of a test begins
+abbrev pub FormInside : Form → List Token → ℕ → Type 0
+FormInside form.Other t at = Unit {0}
+FormInside _ t at = at + 1 ≤ length t
+
+abbrev pub TailInside : Tail → List Token → ℕ → Type 0
+TailInside tail.Done t at = Unit {0}
+TailInside _ t at = at + 1 ≤ length t

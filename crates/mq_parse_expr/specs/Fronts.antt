@@ -1,5 +1,5 @@
 -- What stands before a part that is read from there on.
-use Rattle.std.specs.Prelude.{◌≡◌, ◌≢◌, ◌+◌, ◌≤◌, ℕ, Bool, true, false, List, [], ◌∷◌, length, Option}
+use Rattle.std.specs.Prelude.{◌≡◌, ◌≢◌, ◌≤◌, ℕ, Bool, true, false, List, [], ◌∷◌, length, Option}
 use Rattle.mq_values.specs.Number.{Number}
 use Rattle.mq_values.specs.declared.operators.Agg.{Agg}
 use Rattle.mq_values.specs.declared.operators.Agg.TheVariants as agg
@@ -13,6 +13,7 @@ use Rattle.mq_ast.specs.declared.terminals.Keyword.TheVariants as word
 use Rattle.mq_ast.specs.declared.terminals.Symbol.TheVariants as sign
 use Rattle.mq_ast.specs.declared.terminals.Terminal.TheVariants as terminal
 use Rattle.mq_ast.specs.Tokens.{Tok, Word, Sign, Name, Num, terminal_at, opener, closer, comma, star}
+use Rattle.mq_ast.specs.Continuing.{Not}
 use Rattle.mq_ast.specs.GrammarNames.{KindE, IsInt}
 use Rattle.mq_ast.specs.GrammarExpression.{Expr, PrimE, TestTail, Whens, ElseE}
 use Rattle.mq_parse_expr.specs.declared.forms.IsTest.{IsTest}
@@ -51,14 +52,24 @@ in_front false ts = Word word.In ∷ ts
 in_front true ts = Word word.Not ∷ Word word.In ∷ ts
 
 -- what stands behind the word of an aggregate: '(' '*' ')' of COUNT, or '(' name ')' before '[', or neither
+abbrev pub HeadsAll : Agg → List Token → ℕ → ℕ → Type 0
+HeadsAll g t at next = (g ≡ agg.Count) × (at ≤ next) × (next ≤ length t) × (from t at ≡ opener ∷ star ∷ closer ∷ from t next)
+
+abbrev pub NoAll : Agg → List Tok → Type 0
+NoAll g ts = (us : List Tok) → g ≡ agg.Count → ts ≢ opener ∷ star ∷ closer ∷ us
+
+abbrev pub HeadsCells : List ℕ → List Token → ℕ → ℕ → Type 0
+HeadsCells n t at next =
+    (at ≤ next) × (next ≤ length t) × (from t at ≡ opener ∷ Name n ∷ closer ∷ from t next)
+    × (terminal_at (from t next) ≡ terminal.Sign sign.OpenSquare)
+
+abbrev pub NoCells : List Tok → Type 0
+NoCells ts = (n : List ℕ) (us : List Tok) → ts ≡ opener ∷ Name n ∷ closer ∷ us → Not (terminal.Sign sign.OpenSquare) us
+
 abbrev pub Heads : Agg → AggHead → List Token → ℕ → Type 0
-Heads g head.All t at = (g ≡ agg.Count) × (at + 3 ≤ length t) × (from t at ≡ opener ∷ star ∷ closer ∷ from t (at + 3))
-Heads g (head.Cells n) t at =
-    (at + 3 ≤ length t) × (from t at ≡ opener ∷ Name n.now ∷ closer ∷ from t (at + 3))
-    × (terminal_at (from t (at + 3)) ≡ terminal.Sign sign.OpenSquare)
-Heads g head.Values t at =
-    ((ts : List Tok) → g ≡ agg.Count → from t at ≢ opener ∷ star ∷ closer ∷ ts)
-    × ((n : List ℕ) (ts : List Tok) → from t at ≡ opener ∷ Name n ∷ closer ∷ ts → terminal_at ts ≢ terminal.Sign sign.OpenSquare)
+Heads g (head.All next) t at = HeadsAll g t at next
+Heads g (head.Cells n next) t at = HeadsCells n.now t at next
+Heads g head.Values t at = NoAll g (from t at) × NoCells (from t at)
 
 -- the cells of an aggregate, read from '[' on
 abbrev pub CellsOf : Agg → List ℕ → E → List Tok → List Tok → Type 0

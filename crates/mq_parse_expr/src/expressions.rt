@@ -1,6 +1,6 @@
 //! Expressions, level by level (docs/LANGUAGE.md, "Expressions").
 
-ghost use Rattle.std.specs.Prelude.{◌≡◌, ◌≤◌, length};
+ghost use Rattle.std.specs.Prelude.{◌≡◌, ◌≤◌, ◌+◌, length};
 ghost use Rattle.mq_ast.specs.Tokens.{Word, terminal_at};
 ghost use Rattle.mq_ast.specs.Continuing.{Stops, Ends};
 ghost use Rattle.mq_ast.specs.GrammarExpression.{Expr, MoreOr, AndE, MoreAnd, NotE, TestE, TestTail, Tuple, Exprs, MoreExprs, SumE, MoreSum, ProdE, MoreProd, SignE, PrimE, Brackets, MorePlaces, PlaceE, CaseE};
@@ -18,7 +18,7 @@ use crate::trees::{
     aggregate, all_of, any_of, between, called, cast, comparison, in_list, negation, product,
     range, rounded, signed, sum,
 };
-use mq_ast::{Arm, E, Keyword, Place, ProdTerm, SumTerm, Symbol};
+use mq_ast::{Arm, E, Keyword, Place, ProdTerm, SumTerm, Symbol, Terminal};
 use mq_lexer::Token;
 use mq_values::{Agg, Boxed, CmpOp, Fail, Items, Refused, SumOp};
 use std::alloc::Global;
@@ -318,12 +318,11 @@ fn read_prim(alloc: Global, t: &[Token<'_>], at: usize) -> Result<(E, usize), Fa
     requires { at ≤ length t.now }
     ensures { Gives PrimE (Stops 2) t.now at result }
 {
-    let form = form_at(t, at);
-    match form {
+    match form_at(t, at) {
         Form::Name => read_name(alloc, t, at),
         Form::Aggregate(agg) => read_agg(alloc, t, at + 1, agg),
         Form::Other => Err(Fail::Cause(Refused::Syntax)),
-        _ => {
+        form => {
             let (e, to) = read_closed(alloc, t, at, form)?;
             settled(t, to, 2)?;
             Ok((e, to))
@@ -339,7 +338,7 @@ fn read_closed(
     at: usize,
     form: Form,
 ) -> Result<(E, usize), Fail<Refused>>
-    requires in_range { at ≤ length t.now }
+    requires in_range { at + 1 ≤ length t.now }
     requires begins { form ≡ spec_form (terminal_at (from t.now at)) }
     requires closed { IsClosed form }
     ensures { Gives PrimE Anywhere t.now at result }
@@ -383,11 +382,11 @@ fn read_agg(
     ensures { Gives (Behind (Word (Keyword.Agg agg))) (Stops 2) t.now at result }
 {
     match agg_head(t, at, agg) {
-        AggHead::All => {
-            settled(t, at + 3, 2)?;
-            Ok((E::CountAll, at + 3))
+        AggHead::All(to) => {
+            settled(t, to, 2)?;
+            Ok((E::CountAll, to))
         }
-        AggHead::Cells(measure) => read_range(alloc, t, at + 3, agg, measure),
+        AggHead::Cells(measure, cells) => read_range(alloc, t, cells, agg, measure),
         AggHead::Values => {
             let (e, to) = read_round(alloc, t, at)?;
             settled(t, to, 2)?;

@@ -57,11 +57,12 @@ pub(crate) enum IsTest {
     Any,
 }
 
-/// How an aggregate goes on behind its word: as COUNT(*), as cells of a measure, or as values.
+/// How an aggregate goes on behind its word, and up to which place: as COUNT(*), as the cells of a measure up to their
+/// bracket, or as values.
 #[derive(Clone, Copy)]
 pub(crate) enum AggHead<'a> {
-    All,
-    Cells(&'a str),
+    All(usize),
+    Cells(&'a str, usize),
     Values,
 }
 

@@ -1,14 +1,14 @@
 //! What stands at the front of a part of an expression, up to the next expression in it.
 
-ghost use Rattle.std.specs.Prelude.{◌≡◌, ◌≢◌, ◌≤◌, ◌+◌, length, MatchOption};
+ghost use Rattle.std.specs.Prelude.{◌≡◌, ◌≢◌, ◌≤◌, ◌+◌, List, ◌∷◌, length, MatchOption};
 ghost use Rattle.mq_values.specs.declared.operators.SumOp.{SumOp};
 ghost use Rattle.mq_values.specs.declared.operators.ProdOp.{ProdOp};
-ghost use Rattle.mq_ast.specs.Tokens.{Word, Sign, terminal_at};
+ghost use Rattle.mq_ast.specs.Tokens.{Tok, Word, Sign, closer, terminal_at};
 ghost use Rattle.mq_ast.specs.Continuing.{Stops, Not};
 ghost use Rattle.mq_ast.specs.GrammarExpression.{PrimE};
 ghost use Rattle.mq_parse_expr.specs.Reading.{from, Then, Anywhere, Gives};
-ghost use Rattle.mq_parse_expr.specs.Forms.{IsLeaf, form_of as spec_form, tail_of as spec_tail};
-ghost use Rattle.mq_parse_expr.specs.Fronts.{AsKind, Behind, Heads, IsTestE, NullOrPresent, Since, ToScale, is_front};
+ghost use Rattle.mq_parse_expr.specs.Forms.{FormInside, IsLeaf, TailInside, form_of as spec_form, tail_of as spec_tail};
+ghost use Rattle.mq_parse_expr.specs.Fronts.{AsKind, Behind, Heads, HeadsAll, HeadsCells, NoAll, NoCells, IsTestE, NullOrPresent, Since, ToScale, is_front};
 
 use crate::forms::{AggHead, Form, IsTest, Tail, form_of, tail_of};
 use crate::names::{name_at, number_at, read_int, read_kind, read_name, text_at};
@@ -22,7 +22,7 @@ use std::alloc::Global;
 /// The kind of primary expression that begins at a place.
 pub(crate) fn form_at(t: &[Token<'_>], at: usize) -> Form
     ensures form { result ≡ spec_form (terminal_at (from t.now at)) }
-    ensures inside { result ≢ Form.Other → at + 1 ≤ length t.now }
+    ensures inside { FormInside result t.now at }
 {
     form_of(terminal(t, at))
 }
@@ -30,12 +30,13 @@ pub(crate) fn form_at(t: &[Token<'_>], at: usize) -> Form
 /// How a test goes on at a place.
 pub(crate) fn tail_at(t: &[Token<'_>], at: usize) -> Tail
     ensures tail { result ≡ spec_tail (terminal_at (from t.now at)) }
-    ensures inside { result ≢ Tail.Done → at + 1 ≤ length t.now }
+    ensures inside { TailInside result t.now at }
 {
     tail_of(terminal(t, at))
 }
 
 /// The sign with which a sum goes on at a place.
+#[tactic(auto, using(crate::proofs::TokenLemmas::sign_next))]
 pub(crate) fn sum_op(t: &[Token<'_>], at: usize) -> Option<SumOp>
     ensures { MatchOption result ((op : SumOp) → Not (Terminal.Sign (Symbol.Sum op)) (from t.now at)) (λ op. Then (Sign (Symbol.Sum op)) t.now at (at + 1)) }
 {
@@ -46,6 +47,7 @@ pub(crate) fn sum_op(t: &[Token<'_>], at: usize) -> Option<SumOp>
 }
 
 /// The sign with which a product goes on at a place.
+#[tactic(auto, using(crate::proofs::TokenLemmas::sign_next))]
 pub(crate) fn prod_op(t: &[Token<'_>], at: usize) -> Option<ProdOp>
     ensures { MatchOption result ((op : ProdOp) → Not (Terminal.Sign (Symbol.Prod op)) (from t.now at)) (λ op. Then (Sign (Symbol.Prod op)) t.now at (at + 1)) }
 {
@@ -57,34 +59,66 @@ pub(crate) fn prod_op(t: &[Token<'_>], at: usize) -> Option<ProdOp>
 
 /// How an aggregate goes on behind its word.
 pub(crate) fn agg_head<'a>(t: &[Token<'a>], at: usize, agg: Agg) -> AggHead<'a>
-    requires { at ≤ length t.now }
     ensures { Heads agg result t.now at }
 {
-    let Some(open) = behind_sign(t, at, Symbol::Open) else {
-        return AggHead::Values;
-    };
-    if agg == Agg::Count && is_star(t, open) {
-        return AggHead::All;
-    }
-    match name_at(t, open) {
-        Some(name) if is_range(t, open + 1) => AggHead::Cells(name),
-        _ => AggHead::Values,
+    match all_end(t, at, agg) {
+        Some(to) => AggHead::All(to),
+        None => match cells_start(t, at) {
+            Some((measure, to)) => AggHead::Cells(measure, to),
+            None => AggHead::Values,
+        },
     }
 }
 
-// Whether a star and a closing bracket stand here.
-fn is_star(t: &[Token<'_>], at: usize) -> bool {
-    match behind_sign(t, at, Symbol::Prod(ProdOp::Mul)) {
-        Some(close) => behind_sign(t, close, Symbol::Close).is_some(),
-        None => false,
+// The place behind the brackets of COUNT(*).
+fn all_end(t: &[Token<'_>], at: usize, agg: Agg) -> Option<usize>
+    ensures { MatchOption result (NoAll agg (from t.now at)) (HeadsAll agg t.now at) }
+{
+    match agg {
+        Agg::Count => star_end(t, at),
+        _ => None,
     }
 }
 
-// Whether a closing bracket and an opening square one stand here.
-fn is_range(t: &[Token<'_>], at: usize) -> bool {
+// The place behind a star between brackets.
+fn star_end(t: &[Token<'_>], at: usize) -> Option<usize>
+    ensures { MatchOption result (NoAll Agg.Count (from t.now at)) (HeadsAll Agg.Count t.now at) }
+{
+    match behind_sign(t, at, Symbol::Open) {
+        Some(open) => match behind_sign(t, open, Symbol::Prod(ProdOp::Mul)) {
+            Some(close) => behind_sign(t, close, Symbol::Close),
+            None => None,
+        },
+        None => None,
+    }
+}
+
+// A name between brackets before an opening square bracket, and that bracket's place.
+fn cells_start<'a>(t: &[Token<'a>], at: usize) -> Option<(&'a str, usize)>
+    ensures { MatchOption result (NoCells (from t.now at)) (λ p. HeadsCells p.0.now t.now at p.1) }
+{
+    match behind_sign(t, at, Symbol::Open) {
+        Some(open) => match name_at(t, open) {
+            Some(name) => match square_behind(t, open + 1) {
+                Some(to) => Some((name, to)),
+                None => None,
+            },
+            None => None,
+        },
+        None => None,
+    }
+}
+
+// The place of an opening square bracket behind a closing bracket.
+fn square_behind(t: &[Token<'_>], at: usize) -> Option<usize>
+    ensures { MatchOption result ((us : List Tok) → from t.now at ≡ closer ∷ us → Not (Terminal.Sign Symbol.OpenSquare) us) (λ next. Then closer t.now at next × (terminal_at (from t.now next) ≡ Terminal.Sign Symbol.OpenSquare)) }
+{
     match behind_sign(t, at, Symbol::Close) {
-        Some(square) => behind_sign(t, square, Symbol::OpenSquare).is_some(),
-        None => false,
+        Some(to) => match behind_sign(t, to, Symbol::OpenSquare) {
+            Some(_) => Some(to),
+            None => None,
+        },
+        None => None,
     }
 }
 
@@ -115,6 +149,7 @@ pub(crate) fn read_leaf(
     at: usize,
     form: Form,
 ) -> Result<(E, usize), Fail<Refused>>
+    requires in_range { at + 1 ≤ length t.now }
     requires begins { form ≡ spec_form (terminal_at (from t.now at)) }
     requires leaf { IsLeaf form }
     ensures { Gives PrimE Anywhere t.now at result }

@@ -21,13 +21,15 @@ use std::alloc::Global;
 pub fn name_at<'a>(t: &[Token<'a>], at: usize) -> Option<&'a str>
     ensures { MatchOption result (Not Terminal.Name (from t.now at)) (λ n. Then (tok.Name n.now) t.now at (at + 1)) }
 {
-    let token = token_at(t, at)?;
-    match token.sort {
-        Sort::Word => match keyword(token.text) {
-            Some(_) => None,
-            None => Some(token.text),
+    match token_at(t, at) {
+        Some(token) => match token.sort {
+            Sort::Word => match keyword(token.text) {
+                Some(_) => None,
+                None => Some(token.text),
+            },
+            _ => None,
         },
-        _ => None,
+        None => None,
     }
 }
 
@@ -35,10 +37,12 @@ pub fn name_at<'a>(t: &[Token<'a>], at: usize) -> Option<&'a str>
 pub fn number_at(t: &[Token<'_>], at: usize) -> Option<Num>
     ensures { MatchOption result (Not Terminal.Number (from t.now at)) (λ n. Then (tok.Num n) t.now at (at + 1)) }
 {
-    let token = token_at(t, at)?;
-    match token.sort {
-        Sort::Number => number(token.text),
-        _ => None,
+    match token_at(t, at) {
+        Some(token) => match token.sort {
+            Sort::Number => number(token.text),
+            _ => None,
+        },
+        None => None,
     }
 }
 

@@ -1,6 +1,6 @@
 //! The signs, numbers and texts by their spelling.
 
-ghost use Rattle.std.specs.Prelude.{◌≡◌, Option, ◌≤◌, ◌<◌, ◌≢◌, ◌+◌, ◌∷◌, ◌++◌, [], ℕ, List, length, false, OnOk, IfSome, IfOk, MatchOption};
+ghost use Rattle.std.specs.Prelude.{◌≡◌, Option, ◌≤◌, ◌<◌, ◌≢◌, ◌+◌, ◌∷◌, ◌++◌, [], ℕ, List, length, false, OnOk, IfSome, IfOk, MatchOption, Some, None};
 ghost use Rattle.std.specs.List.{fold, position_or_len, before_first, after_first};
 ghost use Rattle.std.specs.Option.{option_map};
 ghost use Rattle.std.specs.String.{string_bytes};
@@ -199,11 +199,27 @@ fn behind_byte(count: usize, at_quote: bool, b: u8) -> Option<(usize, bool)>
     ensures value { (z : List ℕ) → fits count (spec.unquoted at_quote (b ∷ z)) ≡ fits_behind result z }
     ensures within { IfSome result (λ p. p.0 ≤ 256) }
 {
-    if (b == b'\'') == at_quote {
-        let bytes = with_byte(count, b)?;
-        return Some((bytes, false));
+    if b == b'\'' {
+        if at_quote {
+            return next_state(with_byte(count, b));
+        }
+        return Some((count, true));
     }
-    if at_quote { None } else { Some((count, true)) }
+    if at_quote {
+        return None;
+    }
+    next_state(with_byte(count, b))
+}
+
+// No quote stands right before.
+fn next_state(bytes: Option<usize>) -> Option<(usize, bool)>
+    ensures value { (z : List ℕ) → fits_behind result z ≡ fits_next bytes (spec.unquoted false z) }
+    ensures same { MatchOption bytes (result ≡ None) (λ n. result ≡ Some (n, false)) }
+{
+    match bytes {
+        Some(n) => Some((n, false)),
+        None => None,
+    }
 }
 
 // Whether what stands behind the first quote is the content of a text and its closing quote.
