@@ -24,6 +24,7 @@ use Rattle.mq_ast.proofs.Common.{Same, begin, cut}
 use Rattle.mq_ast.proofs.OneExpression.{brackets_front, brackets_stop, whens_front, whens_stop, else_stop, expr_no_star, expr_no_when, name_ends, no_square, path_same, kind_same, stops_when, expr_same, tuple_same, brackets_same, case_same, whens_same, else_same, closed_same}
 use Rattle.mq_parse_expr.specs.declared.forms.Call.{Call}
 use Rattle.mq_parse_expr.specs.declared.forms.Call.TheVariants as call
+use Rattle.mq_parse_expr.specs.declared.forms.Form.{Form}
 use Rattle.mq_parse_expr.specs.declared.forms.Form.TheVariants as form
 use Rattle.mq_parse_expr.specs.Reading.{No, Anywhere}
 use Rattle.mq_parse_expr.specs.Forms.{form_of, word_of, called, IsClosed}
@@ -148,13 +149,13 @@ path_no_end mid e r m l a to (prim_cell d b) s =
 
 pub cell_no_places : {p : Path} {n : List ℕ} {ts mid : List Tok} → PathE p (Name n ∷ ts) mid → Stops 1 mid → terminal_at mid ≡ terminal.Sign sign.OpenSquare → No Brackets Anywhere mid → No PrimE (Stops 2) (Name n ∷ ts)
 cell_no_places e r o h a to (prim_path d) s =
-    let p = path_same e d r (omega arith) in no_square s (ap terminal_at (sym p.1) ∙ o)
+    let p = path_same e d r (omega arith) in no_square to s (ap terminal_at (sym p.1) ∙ o)
 cell_no_places e r o h a to (prim_cell d b) s =
     let p = path_same e d r (brackets_stop b) in h _ _ (begin Brackets p.1 b) tt
 
 pub cell_no_end : {p : Path} {ps : List Place} {n : List ℕ} {ts mid : List Tok} (end : List Tok) → PathE p (Name n ∷ ts) mid → Stops 1 mid → Brackets ps mid end → loose (terminal_at end) ≤ 2 → No PrimE (Stops 2) (Name n ∷ ts)
 cell_no_end end e r f l a to (prim_path d) s =
-    let p = path_same e d r (omega arith) in no_square s (ap terminal_at (sym p.1) ∙ brackets_front f)
+    let p = path_same e d r (omega arith) in no_square to s (ap terminal_at (sym p.1) ∙ brackets_front f)
 cell_no_end end e r f l a to (prim_cell d b) s =
     let p = path_same e d r (brackets_stop b) in
     let q = brackets_same f (begin Brackets p.1 b) in
@@ -188,11 +189,11 @@ agg_prim (round d) = prim_agg d
 
 -- the cells of an aggregate
 pub range_no_places : {g : Agg} {n : List ℕ} {ts : List Tok} → terminal_at ts ≡ terminal.Sign sign.OpenSquare → No Brackets Anywhere ts → No (CellsOf g n) (Stops 2) ts
-range_no_places o h a to (prim_agg d) s = no_square s (ap terminal_at (cut (name_ends d)) ∙ o)
+range_no_places o h a to (prim_agg d) s = no_square to s (ap terminal_at (cut (name_ends d)) ∙ o)
 range_no_places o h a to (prim_range b) s = h _ _ b tt
 
 pub range_no_end : {g : Agg} {n : List ℕ} {ps : List Place} {ts : List Tok} (mid : List Tok) → Brackets ps ts mid → loose (terminal_at mid) ≤ 2 → No (CellsOf g n) (Stops 2) ts
-range_no_end mid f l a to (prim_agg d) s = no_square s (ap terminal_at (cut (name_ends d)) ∙ brackets_front f)
+range_no_end mid f l a to (prim_agg d) s = no_square to s (ap terminal_at (cut (name_ends d)) ∙ brackets_front f)
 range_no_end mid f l a to (prim_range b) s =
     let q = brackets_same f b in
     let k = ap (λ x. loose (terminal_at x)) q.1 in absurd (omega arith)
@@ -296,11 +297,11 @@ case_prim (_ ∷ xs) c w o = prim_case c w.1 o
 
 pub subject_no_expr : {ts : List Tok} → Not (terminal.Word word.When) ts → No Expr (Stops 7) ts → No CaseE AtWhen ts
 subject_no_expr n h a to case_none w = n w
-subject_no_expr n h a to (case_some d) w = h _ _ d (stops_when w)
+subject_no_expr n h a to (case_some d) w = h _ _ d (stops_when to w)
 
 pub subject_no_when : {x : E} {ts mid : List Tok} → Not (terminal.Word word.When) ts → Expr x ts mid → Stops 7 mid → Not (terminal.Word word.When) mid → No CaseE AtWhen ts
 subject_no_when n e r m a to case_none w = n w
-subject_no_when n e r m a to (case_some d) w = let p = expr_same e d r (stops_when w) in m (ap terminal_at p.1 ∙ w)
+subject_no_when n e r m a to (case_some d) w = let p = expr_same e d r (stops_when to w) in m (ap terminal_at p.1 ∙ w)
 
 pub else_no_expr : {ts : List Tok} → No Expr (Stops 7) ts → No ElseEnd Anywhere (Word word.Else ∷ ts)
 else_no_expr h a to (else_some d) s = h _ _ d (omega arith)
@@ -311,3 +312,13 @@ else_no_end e r n a to (else_some d) s = let p = expr_same e d r (omega arith) i
 pub else_no_word : {ts : List Tok} → Not (terminal.Word word.Else) ts → Not (terminal.Word word.End) ts → No ElseEnd Anywhere ts
 else_no_word m n a to else_none s = n refl
 else_no_word m n a to (else_some d) s = m refl
+
+-- a form that neither a name nor an aggregate is
+is_closed : (f : Form) → (f ≡ form.Name → ⊥) → ((g : Agg) → f ≡ form.Aggregate g → ⊥) → (f ≡ form.Other → ⊥) → IsClosed f
+is_closed form.Name n a o = n refl
+is_closed (form.Aggregate g) n a o = a g refl
+is_closed form.Other n a o = o refl
+is_closed _ n a o = tt
+
+pub closed_form : (f : Form) (x : Terminal) → f ≡ form_of x → (f ≡ form.Name → ⊥) → ((g : Agg) → f ≡ form.Aggregate g → ⊥) → (f ≡ form.Other → ⊥) → IsClosed (form_of x)
+closed_form f x e n a o = let P : Form → Type 0 = IsClosed in subst P e (is_closed f n a o)

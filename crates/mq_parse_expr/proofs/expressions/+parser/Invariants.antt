@@ -5,7 +5,7 @@ use Rattle.mq_ast.specs.Continuing.{Stops, Ends}
 use Rattle.mq_ast.specs.GrammarExpression.{MoreOr, MoreAnd, MoreExprs, MoreSum, MoreProd, MorePlaces}
 use Rattle.mq_parse_expr.proofs.Steps.{SoFar}
 use Rattle.mq_parse_expr.proofs.Arms.{WhensSoFar}
-use Rattle.mq_parse_expr.proofs.+parser.Given as goal
+use Rattle.mq_parse_expr.proofs.expressions.+parser.Given as goal
 
 abbrev pub decreases-read_tuple : goal.decreases-read_tuple
 decreases-read_tuple l = 40 * (length l.t.now - l.at) + 20

@@ -18,9 +18,9 @@ use Rattle.mq_parse_expr.specs.Fronts.{RoundE, round, Behind, Since, cmp_front, 
 use Rattle.mq_parse_expr.proofs.Steps.{exit, here, there, till, as_value, gives_as, fronted, one_more, cut_short, all_found}
 use Rattle.mq_parse_expr.proofs.FrontLemmas.{form_front, tail_front, at_front, leaf_left}
 use Rattle.mq_parse_expr.proofs.Levels.{or_no_first, or_no_others, or_no_next, or_no_more, and_no_first, and_no_others, and_no_next, and_no_more, sum_no_first, sum_no_others, sum_no_next, sum_no_more, prod_no_first, prod_no_others, prod_no_next, prod_no_more, exprs_no_first, exprs_no_others, exprs_no_next, exprs_no_more, places_no_next, places_no_more, not_no_not, not_no_plain, sign_no_minus, sign_no_plain, test_no_first, test_no_tail, cmp_no_sum, cmp_no_end, between_no_low, between_no_and, between_no_high, between_no_end, between_tail, in_no_tuple, in_no_end, in_tail, not_no_other, tuple_no_open, tuple_no_list, tuple_no_close, brackets_no_open, brackets_no_first, brackets_no_others, brackets_no_close, place_no_end, place_no_expr, stops_or, stops_and, stops_sum, stops_prod}
-use Rattle.mq_parse_expr.proofs.PrimLemmas.{prim_form, prim_rounded, prim_no_round, prim_no_closed, prim_no_end, split_name, prim_no_path, path_no_end, cell_no_places, cell_no_end, round_no_open, round_no_inner, round_no_close, all_no_end, all_prim, agg_no_value, agg_no_end, agg_prim, range_no_places, range_no_end, cast_no_open, cast_no_expr, cast_no_kind, cast_prim, rounded_no_open, rounded_no_expr, rounded_no_scale, rounded_prim, call_no_tuple, call_no_count, call_prim, case_no_subject, case_no_whens, case_no_else, case_prim, subject_no_expr, subject_no_when, else_no_expr, else_no_end, else_no_word}
+use Rattle.mq_parse_expr.proofs.PrimLemmas.{prim_form, prim_rounded, prim_no_round, prim_no_closed, prim_no_end, closed_form, split_name, prim_no_path, path_no_end, cell_no_places, cell_no_end, round_no_open, round_no_inner, round_no_close, all_no_end, all_prim, agg_no_value, agg_no_end, agg_prim, range_no_places, range_no_end, cast_no_open, cast_no_expr, cast_no_kind, cast_prim, rounded_no_open, rounded_no_expr, rounded_no_scale, rounded_prim, call_no_tuple, call_no_count, call_prim, case_no_subject, case_no_whens, case_no_else, case_prim, subject_no_expr, subject_no_when, else_no_expr, else_no_end, else_no_word}
 use Rattle.mq_parse_expr.proofs.Arms.{whens_init, whens_none, whens_no_test_at, whens_no_then_at, whens_no_value_at, whens_kept, whens_done}
-use Rattle.mq_parse_expr.proofs.+parser.Goals as goal
+use Rattle.mq_parse_expr.proofs.expressions.+parser.Goals as goal
 
 pub read_expr-returns-in_err-first : goal.read_expr-returns-in_err-first
 read_expr-returns-in_err-first t c =
@@ -110,27 +110,27 @@ read_test-returns t c =
 pub read_tail-returns-in-Cmp : goal.read_tail-returns-in-Cmp
 read_tail-returns-in-Cmp t c =
     let f = tail_front (tail.Cmp c.in-Cmp.op) (from c.args.t.now c.args.at) c.in-Cmp.ensures.tail in
-    fronted (TestTail c.args.a) (Stops 5) (cmp_front c.in-Cmp.op) c.args.t.now c.args.at (c.args.at + 1) c.read_cmp-in-Cmp.result (omega arith) (at_front (Sign (sign.Cmp c.in-Cmp.op)) c.args.t.now c.args.at f) c.read_cmp-in-Cmp.ensures
+    fronted (TestTail c.args.a) (Stops 5) (cmp_front c.in-Cmp.op) c.args.t.now c.args.at (c.args.at + 1) c.read_cmp.result (omega arith) (at_front (Sign (sign.Cmp c.in-Cmp.op)) c.args.t.now c.args.at f) c.read_cmp.ensures
 
 pub read_tail-returns-in-Between : goal.read_tail-returns-in-Between
 read_tail-returns-in-Between t c =
     let f = tail_front tail.Between (from c.args.t.now c.args.at) c.in-Between.ensures.tail in
-    fronted (TestTail c.args.a) (Stops 5) (between_front false) c.args.t.now c.args.at (c.args.at + 1) c.read_between-in-Between.result (omega arith) (at_front (Word word.Between) c.args.t.now c.args.at f) c.read_between-in-Between.ensures
+    fronted (TestTail c.args.a) (Stops 5) (between_front false) c.args.t.now c.args.at (c.args.at + 1) c.read_between.result (omega arith) (at_front (Word word.Between) c.args.t.now c.args.at f) c.read_between.ensures
 
 pub read_tail-returns-in-In : goal.read_tail-returns-in-In
 read_tail-returns-in-In t c =
     let f = tail_front tail.In (from c.args.t.now c.args.at) c.in-In.ensures.tail in
-    fronted (TestTail c.args.a) (Stops 5) (in_front false) c.args.t.now c.args.at (c.args.at + 1) c.read_in-in-In.result (omega arith) (at_front (Word word.In) c.args.t.now c.args.at f) c.read_in-in-In.ensures
+    fronted (TestTail c.args.a) (Stops 5) (in_front false) c.args.t.now c.args.at (c.args.at + 1) c.read_in.result (omega arith) (at_front (Word word.In) c.args.t.now c.args.at f) c.read_in.ensures
 
 pub read_tail-returns-in-Is : goal.read_tail-returns-in-Is
 read_tail-returns-in-Is t c =
     let f = tail_front tail.Is (from c.args.t.now c.args.at) c.in-Is.ensures.tail in
-    fronted (TestTail c.args.a) (Stops 5) is_front c.args.t.now c.args.at (c.args.at + 1) c.read_is-in-Is.result (omega arith) (at_front (Word word.Is) c.args.t.now c.args.at f) c.read_is-in-Is.ensures
+    fronted (TestTail c.args.a) (Stops 5) is_front c.args.t.now c.args.at (c.args.at + 1) c.read_is.result (omega arith) (at_front (Word word.Is) c.args.t.now c.args.at f) c.read_is.ensures
 
 pub read_tail-returns-in-Not : goal.read_tail-returns-in-Not
 read_tail-returns-in-Not t c =
     let f = tail_front tail.Not (from c.args.t.now c.args.at) c.in-Not.ensures.tail in
-    fronted (TestTail c.args.a) (Stops 5) not_front c.args.t.now c.args.at (c.args.at + 1) c.read_negated-in-Not.result (omega arith) (at_front (Word word.Not) c.args.t.now c.args.at f) c.read_negated-in-Not.ensures
+    fronted (TestTail c.args.a) (Stops 5) not_front c.args.t.now c.args.at (c.args.at + 1) c.read_negated.result (omega arith) (at_front (Word word.Not) c.args.t.now c.args.at f) c.read_negated.ensures
 
 pub read_tail-returns-in-Done : goal.read_tail-returns-in-Done
 read_tail-returns-in-Done t c =
@@ -139,12 +139,12 @@ read_tail-returns-in-Done t c =
 pub read_negated-returns-in-Between : goal.read_negated-returns-in-Between
 read_negated-returns-in-Between t c =
     let f = tail_front tail.Between (from c.args.t.now c.args.at) c.in-Between.ensures.tail in
-    fronted (Since not_front c.args.a) (Stops 5) (λ us. Word word.Between ∷ us) c.args.t.now c.args.at (c.args.at + 1) c.read_between-in-Between.result (omega arith) (at_front (Word word.Between) c.args.t.now c.args.at f) c.read_between-in-Between.ensures
+    fronted (Since not_front c.args.a) (Stops 5) (λ us. Word word.Between ∷ us) c.args.t.now c.args.at (c.args.at + 1) c.read_between.result (omega arith) (at_front (Word word.Between) c.args.t.now c.args.at f) c.read_between.ensures
 
 pub read_negated-returns-in-In : goal.read_negated-returns-in-In
 read_negated-returns-in-In t c =
     let f = tail_front tail.In (from c.args.t.now c.args.at) c.in-In.ensures.tail in
-    fronted (Since not_front c.args.a) (Stops 5) (λ us. Word word.In ∷ us) c.args.t.now c.args.at (c.args.at + 1) c.read_in-in-In.result (omega arith) (at_front (Word word.In) c.args.t.now c.args.at f) c.read_in-in-In.ensures
+    fronted (Since not_front c.args.a) (Stops 5) (λ us. Word word.In ∷ us) c.args.t.now c.args.at (c.args.at + 1) c.read_in.result (omega arith) (at_front (Word word.In) c.args.t.now c.args.at f) c.read_in.ensures
 
 pub read_negated-returns-in_default : goal.read_negated-returns-in_default
 read_negated-returns-in_default t c =
@@ -234,15 +234,15 @@ read_exprs-returns-in_err-first t c =
     let p = err_from_is_err_and c.from_residual.result c.from_residual.ensures.1 in
     rw (p.1, p.2) (exit c.in_err-first.field-0.0 c.in_err-first.ensures (exprs_no_first))
 
-pub read_exprs-returns-in_err-others : goal.read_exprs-returns-in_err-others
-read_exprs-returns-in_err-others t c =
-    let p = err_from_is_err_and c.from_residual-in_err-others.result c.from_residual-in_err-others.ensures.1 in
-    rw (p.1, p.2) (exit c.in_err-others.field-0.0 c.in_err-others.ensures (exprs_no_others c.in_ok-first.ensures.2 c.in_ok-first.ensures.3))
+pub read_exprs-returns-in_err-all : goal.read_exprs-returns-in_err-all
+read_exprs-returns-in_err-all t c =
+    let p = err_from_is_err_and c.from_residual-in_err-all.result c.from_residual-in_err-all.ensures.1 in
+    rw (p.1, p.2) (exit c.in_err-all.field-0.0 c.in_err-all.ensures (exprs_no_others c.in_ok-first.ensures.2 c.in_ok-first.ensures.3))
 
 pub read_exprs-returns : goal.read_exprs-returns
 read_exprs-returns t c =
     let f = c.in_ok-first.ensures in
-    let o = c.in_ok-others.ensures in
+    let o = c.in_ok-all.ensures in
     (omega (arith, f.0, o.0), o.1, as_value Exprs c.in_ok-put_first.ensures.ok (exprs f.2 o.2), o.3)
 
 pub read_more_exprs-returns-in_err-e : goal.read_more_exprs-returns-in_err-e
@@ -337,7 +337,7 @@ read_sign-returns-in-None t c =
 pub read_prim-returns-in-Aggregate : goal.read_prim-returns-in-Aggregate
 read_prim-returns-in-Aggregate t c =
     let f = form_front (form.Aggregate c.in-Aggregate.agg) (from c.args.t.now c.args.at) c.in-Aggregate.ensures.form in
-    fronted PrimE (Stops 2) (λ us. Word (word.Agg c.in-Aggregate.agg) ∷ us) c.args.t.now c.args.at (c.args.at + 1) c.read_agg-in-Aggregate.result (omega arith) (at_front (Word (word.Agg c.in-Aggregate.agg)) c.args.t.now c.args.at f) c.read_agg-in-Aggregate.ensures
+    fronted PrimE (Stops 2) (λ us. Word (word.Agg c.in-Aggregate.agg) ∷ us) c.args.t.now c.args.at (c.args.at + 1) c.read_agg.result (omega arith) (at_front (Word (word.Agg c.in-Aggregate.agg)) c.args.t.now c.args.at f) c.read_agg.ensures
 
 pub read_prim-returns-in-Other : goal.read_prim-returns-in-Other
 read_prim-returns-in-Other t c =
@@ -351,36 +351,40 @@ read_prim-returns-in_err-e-in_default t c =
 pub read_prim-returns-in_err-settled-in_default : goal.read_prim-returns-in_err-settled-in_default
 read_prim-returns-in_err-settled-in_default t c =
     let p = err_from_is_err_and c.from_residual-in_err-settled-in_default.result c.from_residual-in_err-settled-in_default.ensures.1 in
-    rw (p.1, p.2) (exit c.in_err-settled-in_default.field-0.0 c.in_err-settled-in_default.ensures (λ h. prim_no_end (from c.args.t.now c.in_ok-e-in_default.to) ? c.in_ok-e-in_default.ensures.2 h))
+    rw (p.1, p.2) (exit c.in_err-settled-in_default.field-0.0 c.in_err-settled-in_default.ensures (λ h. prim_no_end (from c.args.t.now c.in_ok-e-in_default.to) (closed_form c.form_at.result (terminal_at (from c.args.t.now c.args.at)) c.form_at.ensures.form c.in_default.not-Name c.in_default.not-Aggregate c.in_default.not-Other) c.in_ok-e-in_default.ensures.2 h))
 
 pub read_closed-returns-in-Brackets : goal.read_closed-returns-in-Brackets
 read_closed-returns-in-Brackets t c =
     let f = form_front form.Brackets (from c.args.t.now c.args.at) (sym c.in-Brackets.is ∙ c.requires.begins) in
-    gives_as PrimE RoundE Anywhere Anywhere c.args.t.now c.args.at c.args.at c.read_round-in-Brackets.result (omega arith) (λ a to d s. (prim_rounded d, tt)) (λ h. here PrimE Anywhere f (prim_no_round (here RoundE Anywhere (sym f) h))) c.read_round-in-Brackets.ensures
+    gives_as PrimE RoundE Anywhere Anywhere c.args.t.now c.args.at c.args.at c.read_round.result (omega arith) (λ a to d s. (prim_rounded d, tt)) (λ h. here PrimE Anywhere f (prim_no_round (here RoundE Anywhere (sym f) h))) c.read_round.ensures
 
 pub read_closed-returns-in-Case : goal.read_closed-returns-in-Case
 read_closed-returns-in-Case t c =
     let f = form_front form.Case (from c.args.t.now c.args.at) (sym c.in-Case.is ∙ c.requires.begins) in
-    fronted PrimE Anywhere (λ us. Word word.Case ∷ us) c.args.t.now c.args.at (c.args.at + 1) c.read_case-in-Case.result (omega arith) (at_front (Word word.Case) c.args.t.now c.args.at f) c.read_case-in-Case.ensures
+    fronted PrimE Anywhere (λ us. Word word.Case ∷ us) c.args.t.now c.args.at (c.args.at + 1) c.read_case.result (omega arith) (at_front (Word word.Case) c.args.t.now c.args.at f) c.read_case.ensures
 
 pub read_closed-returns-in-Cast : goal.read_closed-returns-in-Cast
 read_closed-returns-in-Cast t c =
     let f = form_front form.Cast (from c.args.t.now c.args.at) (sym c.in-Cast.is ∙ c.requires.begins) in
-    fronted PrimE Anywhere (λ us. Word word.Cast ∷ us) c.args.t.now c.args.at (c.args.at + 1) c.read_cast-in-Cast.result (omega arith) (at_front (Word word.Cast) c.args.t.now c.args.at f) c.read_cast-in-Cast.ensures
+    fronted PrimE Anywhere (λ us. Word word.Cast ∷ us) c.args.t.now c.args.at (c.args.at + 1) c.read_cast.result (omega arith) (at_front (Word word.Cast) c.args.t.now c.args.at f) c.read_cast.ensures
 
 pub read_closed-returns-in-Round : goal.read_closed-returns-in-Round
 read_closed-returns-in-Round t c =
     let f = form_front form.Round (from c.args.t.now c.args.at) (sym c.in-Round.is ∙ c.requires.begins) in
-    fronted PrimE Anywhere (λ us. Word word.Round ∷ us) c.args.t.now c.args.at (c.args.at + 1) c.read_rounded-in-Round.result (omega arith) (at_front (Word word.Round) c.args.t.now c.args.at f) c.read_rounded-in-Round.ensures
+    fronted PrimE Anywhere (λ us. Word word.Round ∷ us) c.args.t.now c.args.at (c.args.at + 1) c.read_rounded.result (omega arith) (at_front (Word word.Round) c.args.t.now c.args.at f) c.read_rounded.ensures
 
 pub read_closed-returns-in-Call : goal.read_closed-returns-in-Call
 read_closed-returns-in-Call t c =
     let f = form_front (form.Call c.in-Call.call) (from c.args.t.now c.args.at) (sym c.in-Call.is ∙ c.requires.begins) in
-    fronted PrimE Anywhere (λ us. Word (word_of c.in-Call.call) ∷ us) c.args.t.now c.args.at (c.args.at + 1) c.read_call-in-Call.result (omega arith) (at_front (Word (word_of c.in-Call.call)) c.args.t.now c.args.at f) c.read_call-in-Call.ensures
+    fronted PrimE Anywhere (λ us. Word (word_of c.in-Call.call) ∷ us) c.args.t.now c.args.at (c.args.at + 1) c.read_call.result (omega arith) (at_front (Word (word_of c.in-Call.call)) c.args.t.now c.args.at f) c.read_call.ensures
 
 pub read_closed-read_leaf-requires : goal.read_closed-read_leaf-requires
 read_closed-read_leaf-requires t c =
-    ?
+    record {
+      in_range = c.requires.in_range;
+      begins = c.requires.begins;
+      leaf = leaf_left c.args.form c.requires.closed c.in_default.not-Brackets c.in_default.not-Case c.in_default.not-Cast c.in_default.not-Round c.in_default.not-Call;
+    }
 
 pub read_name-returns-in_err-path : goal.read_name-returns-in_err-path
 read_name-returns-in_err-path t c =
@@ -392,8 +396,8 @@ read_name-returns-in_err-settled t c =
     let p = err_from_is_err_and c.from_residual-in_err-settled.result c.from_residual-in_err-settled.ensures.1 in
     rw (p.1, p.2) (exit c.in_err-settled.field-0.0 c.in_err-settled.ensures (λ h. let n = (split_name (from c.args.t.now c.args.at) c.requires.begins) in here PrimE (Stops 2) n.1 (path_no_end (from c.args.t.now c.in_ok-path.mid) (there PathE (sym n.1) c.in_ok-path.ensures.2) c.in_ok-path.ensures.3 c.in_default.ensures h)))
 
-pub read_name-returns-in_ok-settled : goal.read_name-returns-in_ok-settled
-read_name-returns-in_ok-settled t c =
+pub read_name-returns-in_default : goal.read_name-returns-in_default
+read_name-returns-in_default t c =
     let n = (split_name (from c.args.t.now c.args.at) c.requires.begins) in
     let p = c.in_ok-path.ensures in
     (p.0, p.1, there PrimE n.1 (prim_path (there PathE (sym n.1) p.2)), c.in_ok-settled.ensures)
@@ -428,7 +432,7 @@ read_agg-returns-in_ok-settled-in-All t c =
 pub read_agg-returns-in-Cells : goal.read_agg-returns-in-Cells
 read_agg-returns-in-Cells t c =
     let a = c.in-Cells.ensures in
-    fronted (Behind (Word (word.Agg c.args.agg))) (Stops 2) (λ us. opener ∷ Name c.in-Cells.measure.now ∷ closer ∷ us) c.args.t.now c.args.at c.in-Cells.cells c.read_range-in-Cells.result a.0 a.2 c.read_range-in-Cells.ensures
+    fronted (Behind (Word (word.Agg c.args.agg))) (Stops 2) (λ us. opener ∷ Name c.in-Cells.measure.now ∷ closer ∷ us) c.args.t.now c.args.at c.in-Cells.cells c.read_range.result a.0 a.2 c.read_range.ensures
 
 pub read_agg-returns-in_err-e-in-Values : goal.read_agg-returns-in_err-e-in-Values
 read_agg-returns-in_err-e-in-Values t c =
@@ -448,7 +452,7 @@ read_agg-returns-in_ok-aggregate-in-Values t c =
 pub read_range-returns-in_err-places : goal.read_range-returns-in_err-places
 read_range-returns-in_err-places t c =
     let p = err_from_is_err_and c.from_residual.result c.from_residual.ensures.1 in
-    rw (p.1, p.2) (exit c.in_err-places.field-0.0 c.in_err-places.ensures (range_no_places c.requires.begins))
+    rw (p.1, p.2) (exit c.in_err-places.field-0.0 c.in_err-places.ensures (range_no_places (first_of (c.requires.1.begins, c.requires.0.begins))))
 
 pub read_range-returns-in_err-settled : goal.read_range-returns-in_err-settled
 read_range-returns-in_err-settled t c =
@@ -534,11 +538,11 @@ read_call-returns-in_err-args t c =
 pub read_call-returns-in-Some : goal.read_call-returns-in-Some
 read_call-returns-in-Some t c =
     let a = c.in_ok-args.ensures in
-    (a.0, a.1, call_prim c.args.call c.in_ok-args.args a.2 ?, tt)
+    (a.0, a.1, call_prim c.args.call c.in_ok-args.args a.2 (sym c.in_ok-e.ensures ∙ c.in-Some.is), tt)
 
 pub read_call-returns-in-None : goal.read_call-returns-in-None
 read_call-returns-in-None t c =
-    call_no_count c.args.call c.in_ok-args.ensures.2 ?
+    call_no_count c.args.call c.in_ok-args.ensures.2 (sym c.in-None.is ∙ c.in_ok-e.ensures)
 
 pub read_case-returns-in_err-subject : goal.read_case-returns-in_err-subject
 read_case-returns-in_err-subject t c =
