@@ -1,6 +1,9 @@
 -- Primary expressions: where they read nothing, by their parts.
 use Rattle.std.proofs.Common.{◌≡◌, ◌≢◌, ℕ, ◌+◌, ◌<◌, ◌≤◌, List, [], ◌∷◌, length, refl, sym, ap, ◌∙◌, subst, arith}
-use Rattle.std.specs.Prelude.{Option, Some, None}
+use Rattle.std.specs.Prelude.{Option, Some, None, Result}
+use Rattle.mq_values.specs.declared.memory.Fail.{Fail}
+use Rattle.mq_values.specs.declared.faults.Refused.{Refused}
+use Rattle.mq_lexer.specs.declared.sorts.Token.{Token}
 use Rattle.mq_values.specs.Number.{Number}
 use Rattle.mq_values.specs.declared.value.Kind.{Kind}
 use Rattle.mq_values.specs.declared.operators.Agg.{Agg}
@@ -26,7 +29,7 @@ use Rattle.mq_parse_expr.specs.declared.forms.Call.{Call}
 use Rattle.mq_parse_expr.specs.declared.forms.Call.TheVariants as call
 use Rattle.mq_parse_expr.specs.declared.forms.Form.{Form}
 use Rattle.mq_parse_expr.specs.declared.forms.Form.TheVariants as form
-use Rattle.mq_parse_expr.specs.Reading.{No, Anywhere}
+use Rattle.mq_parse_expr.specs.Reading.{No, Anywhere, Gives}
 use Rattle.mq_parse_expr.specs.Forms.{form_of, word_of, called, IsClosed}
 use Rattle.mq_parse_expr.specs.Fronts.{Behind, RoundE, round, NoAll, NoCells, CellsOf, AsKind, as_kind, ToScale, to_scale, AtWhen, IsSome, SomeWhens, ElseEnd}
 
@@ -188,6 +191,9 @@ pub agg_prim : {g : Agg} {a : E} {ts to : List Tok} → RoundE a ts to → PrimE
 agg_prim (round d) = prim_agg d
 
 -- the cells of an aggregate
+pub measured : (g : Agg) (t : List Token) (at : ℕ) (r : Result (E × ℕ) (Fail Refused)) {m n : List ℕ} → m ≡ n → Gives (CellsOf g m) (Stops 2) t at r → Gives (CellsOf g n) (Stops 2) t at r
+measured g t at r {m} {n} e d = let P : List ℕ → Type 0 = λ x. Gives (CellsOf g x) (Stops 2) t at r in subst P e d
+
 pub range_no_places : {g : Agg} {n : List ℕ} {ts : List Tok} → terminal_at ts ≡ terminal.Sign sign.OpenSquare → No Brackets Anywhere ts → No (CellsOf g n) (Stops 2) ts
 range_no_places o h a to (prim_agg d) s = no_square to s (ap terminal_at (cut (name_ends d)) ∙ o)
 range_no_places o h a to (prim_range b) s = h _ _ b tt

@@ -16,11 +16,11 @@ use crate::names::{read_path, scale_of};
 use crate::terminals::{behind_sign, behind_word, pass_sign, pass_word, settled};
 use crate::trees::{
     aggregate, all_of, any_of, between, called, cast, comparison, in_list, negation, product,
-    range, rounded, signed, sum,
+    rounded, signed, sum,
 };
 use mq_ast::{Arm, E, Keyword, Place, ProdTerm, SumTerm, Symbol, Terminal};
 use mq_lexer::Token;
-use mq_values::{Agg, Boxed, CmpOp, Fail, Items, Refused, SumOp};
+use mq_values::{Agg, Boxed, CmpOp, Fail, Items, Refused, SumOp, Words};
 use std::alloc::Global;
 
 /// An expression, up to a place where no token stands that goes on. SYNTAX exactly where there is no such expression.
@@ -386,7 +386,10 @@ fn read_agg(
             settled(t, to, 2)?;
             Ok((E::CountAll, to))
         }
-        AggHead::Cells(measure, cells) => read_range(alloc, t, cells, agg, measure),
+        AggHead::Cells(measure, cells) => {
+            let measure = Words::new(alloc, measure)?;
+            read_range(alloc, t, cells, agg, measure)
+        }
         AggHead::Values => {
             let (e, to) = read_round(alloc, t, at)?;
             settled(t, to, 2)?;
@@ -402,15 +405,15 @@ fn read_range(
     t: &[Token<'_>],
     at: usize,
     agg: Agg,
-    measure: &str,
+    measure: Words,
 ) -> Result<(E, usize), Fail<Refused>>
     requires in_range { at ≤ length t.now }
     requires begins { terminal_at (from t.now at) ≡ Terminal.Sign Symbol.OpenSquare }
-    ensures { Gives (CellsOf agg measure.now) (Stops 2) t.now at result }
+    ensures { Gives (CellsOf agg measure) (Stops 2) t.now at result }
 {
     let (places, to) = read_brackets(alloc, t, at)?;
     settled(t, to, 2)?;
-    Ok((range(alloc, agg, measure, places)?, to))
+    Ok((E::RangeAgg(agg, measure, places), to))
 }
 
 /// An expression between brackets.

@@ -8,7 +8,7 @@ ghost use Rattle.mq_parse_expr.specs.Fronts.{judged as tested};
 
 use crate::forms::{Call, IsTest};
 use mq_ast::{E, Place, ProdTerm, SumTerm};
-use mq_values::{Agg, Boxed, CmpOp, Func, Items, Kind, Memory, Words};
+use mq_values::{Agg, Boxed, CmpOp, Func, Items, Kind, Memory};
 use std::alloc::Global;
 
 /// The members with OR between them; one alone is itself.
@@ -104,17 +104,6 @@ pub(crate) fn aggregate(alloc: Global, agg: Agg, e: E) -> Result<E, Memory>
     ensures { IfOk result (λ r. r ≡ E.Agg agg e) }
 {
     Ok(E::Agg(agg, Boxed::new(alloc, e)?))
-}
-
-pub(crate) fn range(
-    alloc: Global,
-    agg: Agg,
-    measure: &str,
-    places: Items<Place>,
-) -> Result<E, Memory>
-    ensures { IfOk result (λ e. e ≡ E.RangeAgg agg measure.now places) }
-{
-    Ok(E::RangeAgg(agg, Words::new(alloc, measure)?, places))
 }
 
 pub(crate) fn cast(alloc: Global, e: E, kind: Kind) -> Result<E, Memory>

@@ -18,7 +18,7 @@ use Rattle.mq_parse_expr.specs.Fronts.{RoundE, round, Behind, Since, cmp_front, 
 use Rattle.mq_parse_expr.proofs.Steps.{exit, here, there, till, as_value, gives_as, fronted, one_more, cut_short, all_found}
 use Rattle.mq_parse_expr.proofs.FrontLemmas.{form_front, tail_front, at_front, leaf_left}
 use Rattle.mq_parse_expr.proofs.Levels.{or_no_first, or_no_others, or_no_next, or_no_more, and_no_first, and_no_others, and_no_next, and_no_more, sum_no_first, sum_no_others, sum_no_next, sum_no_more, prod_no_first, prod_no_others, prod_no_next, prod_no_more, exprs_no_first, exprs_no_others, exprs_no_next, exprs_no_more, places_no_next, places_no_more, not_no_not, not_no_plain, sign_no_minus, sign_no_plain, test_no_first, test_no_tail, cmp_no_sum, cmp_no_end, between_no_low, between_no_and, between_no_high, between_no_end, between_tail, in_no_tuple, in_no_end, in_tail, not_no_other, tuple_no_open, tuple_no_list, tuple_no_close, brackets_no_open, brackets_no_first, brackets_no_others, brackets_no_close, place_no_end, place_no_expr, stops_or, stops_and, stops_sum, stops_prod}
-use Rattle.mq_parse_expr.proofs.PrimLemmas.{prim_form, prim_rounded, prim_no_round, prim_no_closed, prim_no_end, closed_form, split_name, prim_no_path, path_no_end, cell_no_places, cell_no_end, round_no_open, round_no_inner, round_no_close, all_no_end, all_prim, agg_no_value, agg_no_end, agg_prim, range_no_places, range_no_end, cast_no_open, cast_no_expr, cast_no_kind, cast_prim, rounded_no_open, rounded_no_expr, rounded_no_scale, rounded_prim, call_no_tuple, call_no_count, call_prim, case_no_subject, case_no_whens, case_no_else, case_prim, subject_no_expr, subject_no_when, else_no_expr, else_no_end, else_no_word}
+use Rattle.mq_parse_expr.proofs.PrimLemmas.{prim_form, prim_rounded, prim_no_round, prim_no_closed, prim_no_end, closed_form, split_name, prim_no_path, path_no_end, cell_no_places, cell_no_end, round_no_open, round_no_inner, round_no_close, all_no_end, all_prim, agg_no_value, agg_no_end, agg_prim, measured, range_no_places, range_no_end, cast_no_open, cast_no_expr, cast_no_kind, cast_prim, rounded_no_open, rounded_no_expr, rounded_no_scale, rounded_prim, call_no_tuple, call_no_count, call_prim, case_no_subject, case_no_whens, case_no_else, case_prim, subject_no_expr, subject_no_when, else_no_expr, else_no_end, else_no_word}
 use Rattle.mq_parse_expr.proofs.Arms.{whens_init, whens_none, whens_no_test_at, whens_no_then_at, whens_no_value_at, whens_kept, whens_done}
 use Rattle.mq_parse_expr.proofs.expressions.+parser.Goals as goal
 
@@ -429,10 +429,10 @@ read_agg-returns-in_ok-settled-in-All t c =
     let a = c.in-All.ensures in
     (a.1, a.2, all_prim a.0 a.3, c.in_ok-settled-in-All.ensures)
 
-pub read_agg-returns-in-Cells : goal.read_agg-returns-in-Cells
-read_agg-returns-in-Cells t c =
+pub read_agg-returns-in_ok-measure-in-Cells : goal.read_agg-returns-in_ok-measure-in-Cells
+read_agg-returns-in_ok-measure-in-Cells t c =
     let a = c.in-Cells.ensures in
-    fronted (Behind (Word (word.Agg c.args.agg))) (Stops 2) (λ us. opener ∷ Name c.in-Cells.measure.now ∷ closer ∷ us) c.args.t.now c.args.at c.in-Cells.cells c.read_range.result a.0 a.2 c.read_range.ensures
+    fronted (Behind (Word (word.Agg c.args.agg))) (Stops 2) (λ us. opener ∷ Name c.in-Cells.measure.now ∷ closer ∷ us) c.args.t.now c.args.at c.in-Cells.cells c.read_range.result a.0 a.2 (measured c.args.agg c.args.t.now c.in-Cells.cells c.read_range.result c.in_ok-measure-in-Cells.ensures c.read_range.ensures)
 
 pub read_agg-returns-in_err-e-in-Values : goal.read_agg-returns-in_err-e-in-Values
 read_agg-returns-in_err-e-in-Values t c =
@@ -452,7 +452,7 @@ read_agg-returns-in_ok-aggregate-in-Values t c =
 pub read_range-returns-in_err-places : goal.read_range-returns-in_err-places
 read_range-returns-in_err-places t c =
     let p = err_from_is_err_and c.from_residual.result c.from_residual.ensures.1 in
-    rw (p.1, p.2) (exit c.in_err-places.field-0.0 c.in_err-places.ensures (range_no_places (first_of (c.requires.1.begins, c.requires.0.begins))))
+    rw (p.1, p.2) (exit c.in_err-places.field-0.0 c.in_err-places.ensures (range_no_places c.requires.begins))
 
 pub read_range-returns-in_err-settled : goal.read_range-returns-in_err-settled
 read_range-returns-in_err-settled t c =
@@ -462,7 +462,7 @@ read_range-returns-in_err-settled t c =
 pub read_range-returns : goal.read_range-returns
 read_range-returns t c =
     let b = c.in_ok-places.ensures in
-    (b.0, b.1, as_value (CellsOf c.args.agg c.args.measure.now) c.in_ok-range.ensures (prim_range b.2), c.in_ok-settled.ensures)
+    (b.0, b.1, prim_range b.2, c.in_ok-settled.ensures)
 
 pub read_round-returns-in_err-open : goal.read_round-returns-in_err-open
 read_round-returns-in_err-open t c =
