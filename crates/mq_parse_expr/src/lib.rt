@@ -21,6 +21,3 @@ pub use terminals::{
     behind_sign, behind_word, looseness, pass_sign, pass_word, settled, terminal, terminal_of,
     token_at,
 };
-
-//#[cfg(test)]
-//mod tests;
