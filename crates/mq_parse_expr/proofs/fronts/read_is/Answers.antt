@@ -1,0 +1,22 @@
+use Rattle.std.proofs.Common.{◌≡◌, ◌<◌, ◌≤◌, ◌+◌, ◌∷◌, refl, sym, ap, ◌∙◌, arith}
+use Rattle.std.proofs.lemmas.Result.{err_from_is_err_and}
+use Rattle.mq_parse_expr.proofs.Steps.{exit, here, there, as_value, gives_as, fronted}
+use Rattle.mq_parse_expr.specs.Reading.{from, Anywhere}
+use Rattle.mq_parse_expr.proofs.FrontLemmas.{is_no_test, is_no_end, asks_tail}
+use Rattle.mq_parse_expr.specs.Fronts.{Since, is_front}
+use Rattle.mq_parse_expr.proofs.fronts.read_is.Goals as goal
+
+pub returns-in_err-test : goal.returns-in_err-test
+returns-in_err-test c =
+    let p = err_from_is_err_and c.from_residual.result c.from_residual.ensures.1 in
+    rw (p.1, p.2) (exit c.in_err-test.field-0.0 c.in_err-test.ensures (is_no_test))
+
+pub returns-in_err-settled : goal.returns-in_err-settled
+returns-in_err-settled c =
+    let p = err_from_is_err_and c.from_residual-in_err-settled.result c.from_residual-in_err-settled.ensures.1 in
+    rw (p.1, p.2) (exit c.in_err-settled.field-0.0 c.in_err-settled.ensures (λ h. is_no_end (from c.args.t.now c.in_ok-test.to) c.in_ok-test.ensures.2 h))
+
+pub returns : goal.returns
+returns c =
+    let x = c.in_ok-test.ensures in
+    (x.0, x.1, as_value (Since is_front c.args.a) c.in_ok-judged.ensures (asks_tail x.2), c.in_ok-settled.ensures)

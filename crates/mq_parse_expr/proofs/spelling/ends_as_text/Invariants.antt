@@ -1,0 +1,7 @@
+use Rattle.std.proofs.Common.{◌≡◌, ◌≤◌, false, drop}
+use Rattle.mq_ast.specs.Spelling.{unquoted}
+use Rattle.mq_parse_expr.specs.Rows.{fits, may_be_text}
+use Rattle.mq_parse_expr.proofs.spelling.ends_as_text.Given as goal
+
+abbrev pub invariant-loop-b : goal.invariant-loop-b
+invariant-loop-b l = (fits l.count (unquoted l.at_end (drop l.b-index l.quoted)) ≡ may_be_text (unquoted false l.quoted)) × (l.count ≤ 256)

@@ -1,0 +1,29 @@
+-- The reserved words by their first letter, and what may be a text.
+use Rattle.std.specs.Prelude.{ℕ, ◌+◌, Bool, false, ◌==◌, ◌&&◌, nat_le, List, length, filter, slice_index, Option, Some, None}
+use Rattle.std.specs.List.{list_all}
+use Rattle.mq_values.specs.Text.{is_plain, is_text}
+use Rattle.mq_ast.specs.declared.terminals.Keyword.{Keyword}
+use Rattle.mq_ast.specs.Spelling.{keywords, unquoted}
+
+unfoldable pub reserved_row : ℕ → List (List ℕ × Keyword)
+reserved_row b = filter (λ w. slice_index w.0 0 == b) keywords
+
+abbrev pub may_be_text : Option (List ℕ) → Bool
+may_be_text None = false
+may_be_text (Some z) = is_text z
+
+abbrev pub is_quote : ℕ → Bool
+is_quote b = b == 39
+
+-- whether so many bytes and these make a text
+abbrev pub fits : ℕ → Option (List ℕ) → Bool
+fits n None = false
+fits n (Some z) = nat_le (n + length z) 256 && list_all is_plain z
+
+abbrev pub fits_next : Option ℕ → Option (List ℕ) → Bool
+fits_next None o = false
+fits_next (Some n) o = fits n o
+
+abbrev pub fits_behind : Option (ℕ × Bool) → List ℕ → Bool
+fits_behind None z = false
+fits_behind (Some p) z = fits p.0 (unquoted p.1 z)

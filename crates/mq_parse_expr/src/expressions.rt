@@ -1,0 +1,604 @@
+//! Expressions, level by level (docs/LANGUAGE.md, "Expressions").
+
+ghost use Rattle.std.specs.Prelude.{◌≡◌, ◌≤◌, ◌+◌, length};
+ghost use Rattle.mq_ast.specs.Tokens.{Word, terminal_at};
+ghost use Rattle.mq_ast.specs.Continuing.{Stops, Ends};
+ghost use Rattle.mq_ast.specs.GrammarExpression.{Expr, MoreOr, AndE, MoreAnd, NotE, TestE, TestTail, Tuple, Exprs, MoreExprs, SumE, MoreSum, ProdE, MoreProd, SignE, PrimE, Brackets, MorePlaces, PlaceE, CaseE};
+ghost use Rattle.mq_parse_expr.specs.Reading.{from, Anywhere, Gives};
+ghost use Rattle.mq_parse_expr.specs.Forms.{IsClosed, form_of as spec_form, word_of};
+ghost use Rattle.mq_parse_expr.specs.Fronts.{AtWhen, Behind, CellsOf, ElseEnd, RoundE, Since, SomeWhens, between_front, cmp_front, in_front, not_front};
+
+use crate::forms::{AggHead, Call, Form, Tail};
+use crate::fronts::{
+    agg_head, form_at, prod_op, read_as_kind, read_is, read_leaf, read_to_scale, sum_op, tail_at,
+};
+use crate::names::{read_path, scale_of};
+use crate::terminals::{behind_sign, behind_word, pass_sign, pass_word, settled};
+use crate::trees::{
+    aggregate, all_of, any_of, between, called, cast, comparison, in_list, negation, product,
+    rounded, signed, sum,
+};
+use mq_ast::{Arm, E, Keyword, Place, ProdTerm, SumTerm, Symbol, Terminal};
+use mq_lexer::Token;
+use mq_values::{Agg, Boxed, CmpOp, Fail, Items, Refused, SumOp, Words};
+use std::alloc::Global;
+
+/// An expression, up to a place where no token stands that goes on. SYNTAX exactly where there is no such expression.
+#[cycle(parser)]
+pub fn read_expr(alloc: Global, t: &[Token<'_>], at: usize) -> Result<(E, usize), Fail<Refused>>
+    requires { at ≤ length t.now }
+    ensures { Gives Expr (Stops 7) t.now at result }
+{
+    let (first, mid) = read_and(alloc, t, at)?;
+    let (others, to) = read_ors(alloc, t, mid)?;
+    Ok((any_of(first, others)?, to))
+}
+
+#[cycle(parser)]
+fn read_ors(alloc: Global, t: &[Token<'_>], at: usize) -> Result<(Items<E>, usize), Fail<Refused>>
+    requires in_range { at ≤ length t.now }
+    requires stops { Stops 6 (from t.now at) }
+    ensures { Gives MoreOr (Stops 7) t.now at result }
+{
+    let mut found = Items::new(alloc);
+    let mut to = at;
+    while let Some(behind) = behind_word(t, to, Keyword::Or) {
+        let (e, next) = read_and(alloc, t, behind)?;
+        found.push(e)?;
+        to = next;
+    }
+    Ok((found, to))
+}
+
+#[cycle(parser)]
+fn read_and(alloc: Global, t: &[Token<'_>], at: usize) -> Result<(E, usize), Fail<Refused>>
+    requires { at ≤ length t.now }
+    ensures { Gives AndE (Stops 6) t.now at result }
+{
+    let (first, mid) = read_not(alloc, t, at)?;
+    let (others, to) = read_ands(alloc, t, mid)?;
+    Ok((all_of(first, others)?, to))
+}
+
+#[cycle(parser)]
+fn read_ands(alloc: Global, t: &[Token<'_>], at: usize) -> Result<(Items<E>, usize), Fail<Refused>>
+    requires in_range { at ≤ length t.now }
+    requires stops { Stops 5 (from t.now at) }
+    ensures { Gives MoreAnd (Stops 6) t.now at result }
+{
+    let mut found = Items::new(alloc);
+    let mut to = at;
+    while let Some(behind) = behind_word(t, to, Keyword::And) {
+        let (e, next) = read_not(alloc, t, behind)?;
+        found.push(e)?;
+        to = next;
+    }
+    Ok((found, to))
+}
+
+#[cycle(parser)]
+fn read_not(alloc: Global, t: &[Token<'_>], at: usize) -> Result<(E, usize), Fail<Refused>>
+    requires { at ≤ length t.now }
+    ensures { Gives NotE (Stops 5) t.now at result }
+{
+    match behind_word(t, at, Keyword::Not) {
+        Some(behind) => {
+            let (e, to) = read_test(alloc, t, behind)?;
+            Ok((negation(alloc, e)?, to))
+        }
+        None => read_test(alloc, t, at),
+    }
+}
+
+#[cycle(parser)]
+fn read_test(alloc: Global, t: &[Token<'_>], at: usize) -> Result<(E, usize), Fail<Refused>>
+    requires { at ≤ length t.now }
+    ensures { Gives TestE (Stops 5) t.now at result }
+{
+    let (a, mid) = read_sum(alloc, t, at)?;
+    read_tail(alloc, t, mid, a)
+}
+
+// What follows the first sum of a test.
+#[cycle(parser)]
+fn read_tail(alloc: Global, t: &[Token<'_>], at: usize, a: E) -> Result<(E, usize), Fail<Refused>>
+    requires in_range { at ≤ length t.now }
+    requires stops { Stops 4 (from t.now at) }
+    ensures { Gives (TestTail a) (Stops 5) t.now at result }
+{
+    match tail_at(t, at) {
+        Tail::Cmp(op) => read_cmp(alloc, t, at + 1, a, op),
+        Tail::Between => read_between(alloc, t, at + 1, a, false),
+        Tail::In => read_in(alloc, t, at + 1, a, false),
+        Tail::Is => read_is(alloc, t, at + 1, a),
+        Tail::Not => read_negated(alloc, t, at + 1, a),
+        Tail::Done => Ok((a, at)),
+    }
+}
+
+// A test with NOT, behind NOT.
+#[cycle(parser)]
+fn read_negated(
+    alloc: Global,
+    t: &[Token<'_>],
+    at: usize,
+    a: E,
+) -> Result<(E, usize), Fail<Refused>>
+    requires { at ≤ length t.now }
+    ensures { Gives (Since not_front a) (Stops 5) t.now at result }
+{
+    match tail_at(t, at) {
+        Tail::Between => read_between(alloc, t, at + 1, a, true),
+        Tail::In => read_in(alloc, t, at + 1, a, true),
+        _ => Err(Fail::Cause(Refused::Syntax)),
+    }
+}
+
+// A comparison, behind its sign.
+#[cycle(parser)]
+fn read_cmp(
+    alloc: Global,
+    t: &[Token<'_>],
+    at: usize,
+    a: E,
+    op: CmpOp,
+) -> Result<(E, usize), Fail<Refused>>
+    requires { at ≤ length t.now }
+    ensures { Gives (Since (cmp_front op) a) (Stops 5) t.now at result }
+{
+    let (b, to) = read_sum(alloc, t, at)?;
+    settled(t, to, 5)?;
+    Ok((comparison(alloc, a, op, b)?, to))
+}
+
+// A test by BETWEEN, behind it.
+#[cycle(parser)]
+fn read_between(
+    alloc: Global,
+    t: &[Token<'_>],
+    at: usize,
+    a: E,
+    not: bool,
+) -> Result<(E, usize), Fail<Refused>>
+    requires { at ≤ length t.now }
+    ensures { Gives (Since (between_front not) a) (Stops 5) t.now at result }
+{
+    let (low, end) = read_sum(alloc, t, at)?;
+    let mid = pass_word(t, end, Keyword::And)?;
+    let (high, to) = read_sum(alloc, t, mid)?;
+    settled(t, to, 5)?;
+    Ok((between(alloc, a, not, low, high)?, to))
+}
+
+// A test by IN, behind it.
+#[cycle(parser)]
+fn read_in(
+    alloc: Global,
+    t: &[Token<'_>],
+    at: usize,
+    a: E,
+    not: bool,
+) -> Result<(E, usize), Fail<Refused>>
+    requires { at ≤ length t.now }
+    ensures { Gives (Since (in_front not) a) (Stops 5) t.now at result }
+{
+    let (members, to) = read_tuple(alloc, t, at)?;
+    settled(t, to, 5)?;
+    Ok((in_list(alloc, a, not, members)?, to))
+}
+
+/// A list of expressions between brackets, with commas between them.
+#[cycle(parser)]
+pub fn read_tuple(
+    alloc: Global,
+    t: &[Token<'_>],
+    at: usize,
+) -> Result<(Items<E>, usize), Fail<Refused>>
+    requires { at ≤ length t.now }
+    ensures { Gives Tuple Anywhere t.now at result }
+{
+    let open = pass_sign(t, at, Symbol::Open)?;
+    let (list, end) = read_exprs(alloc, t, open)?;
+    let to = pass_sign(t, end, Symbol::Close)?;
+    Ok((list, to))
+}
+
+/// Expressions with commas between them, up to a place where neither a comma stands nor a token that goes on.
+#[cycle(parser)]
+pub fn read_exprs(
+    alloc: Global,
+    t: &[Token<'_>],
+    at: usize,
+) -> Result<(Items<E>, usize), Fail<Refused>>
+    requires { at ≤ length t.now }
+    ensures { Gives Exprs (Ends (Terminal.Sign Symbol.Comma)) t.now at result }
+{
+    let (first, mid) = read_expr(alloc, t, at)?;
+    let (mut all, to) = read_more_exprs(alloc, t, mid)?;
+    all.put_first(first)?;
+    Ok((all, to))
+}
+
+#[cycle(parser)]
+fn read_more_exprs(
+    alloc: Global,
+    t: &[Token<'_>],
+    at: usize,
+) -> Result<(Items<E>, usize), Fail<Refused>>
+    requires in_range { at ≤ length t.now }
+    requires stops { Stops 7 (from t.now at) }
+    ensures { Gives MoreExprs (Ends (Terminal.Sign Symbol.Comma)) t.now at result }
+{
+    let mut found = Items::new(alloc);
+    let mut to = at;
+    while let Some(behind) = behind_sign(t, to, Symbol::Comma) {
+        let (e, next) = read_expr(alloc, t, behind)?;
+        found.push(e)?;
+        to = next;
+    }
+    Ok((found, to))
+}
+
+#[cycle(parser)]
+fn read_sum(alloc: Global, t: &[Token<'_>], at: usize) -> Result<(E, usize), Fail<Refused>>
+    requires { at ≤ length t.now }
+    ensures { Gives SumE (Stops 4) t.now at result }
+{
+    let (first, mid) = read_prod(alloc, t, at)?;
+    let (others, to) = read_sums(alloc, t, mid)?;
+    Ok((sum(alloc, first, others)?, to))
+}
+
+#[cycle(parser)]
+fn read_sums(
+    alloc: Global,
+    t: &[Token<'_>],
+    at: usize,
+) -> Result<(Items<SumTerm>, usize), Fail<Refused>>
+    requires in_range { at ≤ length t.now }
+    requires stops { Stops 3 (from t.now at) }
+    ensures { Gives MoreSum (Stops 4) t.now at result }
+{
+    let mut found = Items::new(alloc);
+    let mut to = at;
+    while let Some(op) = sum_op(t, to) {
+        let (e, next) = read_prod(alloc, t, to + 1)?;
+        found.push(SumTerm { op, e })?;
+        to = next;
+    }
+    Ok((found, to))
+}
+
+#[cycle(parser)]
+fn read_prod(alloc: Global, t: &[Token<'_>], at: usize) -> Result<(E, usize), Fail<Refused>>
+    requires { at ≤ length t.now }
+    ensures { Gives ProdE (Stops 3) t.now at result }
+{
+    let (first, mid) = read_sign(alloc, t, at)?;
+    let (others, to) = read_prods(alloc, t, mid)?;
+    Ok((product(alloc, first, others)?, to))
+}
+
+#[cycle(parser)]
+fn read_prods(
+    alloc: Global,
+    t: &[Token<'_>],
+    at: usize,
+) -> Result<(Items<ProdTerm>, usize), Fail<Refused>>
+    requires in_range { at ≤ length t.now }
+    requires stops { Stops 2 (from t.now at) }
+    ensures { Gives MoreProd (Stops 3) t.now at result }
+{
+    let mut found = Items::new(alloc);
+    let mut to = at;
+    while let Some(op) = prod_op(t, to) {
+        let (e, next) = read_sign(alloc, t, to + 1)?;
+        found.push(ProdTerm { op, e })?;
+        to = next;
+    }
+    Ok((found, to))
+}
+
+#[cycle(parser)]
+fn read_sign(alloc: Global, t: &[Token<'_>], at: usize) -> Result<(E, usize), Fail<Refused>>
+    requires { at ≤ length t.now }
+    ensures { Gives SignE (Stops 2) t.now at result }
+{
+    match behind_sign(t, at, Symbol::Sum(SumOp::Sub)) {
+        Some(behind) => {
+            let (e, to) = read_prim(alloc, t, behind)?;
+            Ok((signed(alloc, e)?, to))
+        }
+        None => read_prim(alloc, t, at),
+    }
+}
+
+#[cycle(parser)]
+fn read_prim(alloc: Global, t: &[Token<'_>], at: usize) -> Result<(E, usize), Fail<Refused>>
+    requires { at ≤ length t.now }
+    ensures { Gives PrimE (Stops 2) t.now at result }
+{
+    match form_at(t, at) {
+        Form::Name => read_name(alloc, t, at),
+        Form::Aggregate(agg) => read_agg(alloc, t, at + 1, agg),
+        Form::Other => Err(Fail::Cause(Refused::Syntax)),
+        form => {
+            let (e, to) = read_closed(alloc, t, at, form)?;
+            settled(t, to, 2)?;
+            Ok((e, to))
+        }
+    }
+}
+
+// A primary expression that neither a name nor an aggregate begins.
+#[cycle(parser)]
+fn read_closed(
+    alloc: Global,
+    t: &[Token<'_>],
+    at: usize,
+    form: Form,
+) -> Result<(E, usize), Fail<Refused>>
+    requires in_range { at + 1 ≤ length t.now }
+    requires begins { form ≡ spec_form (terminal_at (from t.now at)) }
+    requires closed { IsClosed form }
+    ensures { Gives PrimE Anywhere t.now at result }
+{
+    match form {
+        Form::Brackets => read_round(alloc, t, at),
+        Form::Case => read_case(alloc, t, at + 1),
+        Form::Cast => read_cast(alloc, t, at + 1),
+        Form::Round => read_rounded(alloc, t, at + 1),
+        Form::Call(call) => read_call(alloc, t, at + 1, call),
+        _ => read_leaf(alloc, t, at, form),
+    }
+}
+
+// A column, or a cell by its places.
+#[cycle(parser)]
+fn read_name(alloc: Global, t: &[Token<'_>], at: usize) -> Result<(E, usize), Fail<Refused>>
+    requires in_range { at ≤ length t.now }
+    requires begins { terminal_at (from t.now at) ≡ Terminal.Name }
+    ensures { Gives PrimE (Stops 2) t.now at result }
+{
+    let (path, mid) = read_path(alloc, t, at)?;
+    let Some(_) = behind_sign(t, mid, Symbol::OpenSquare) else {
+        settled(t, mid, 2)?;
+        return Ok((E::Name(path), mid));
+    };
+    let (places, to) = read_brackets(alloc, t, mid)?;
+    settled(t, to, 2)?;
+    Ok((E::Cell(path, places), to))
+}
+
+// An aggregate, behind its word.
+#[cycle(parser)]
+fn read_agg(
+    alloc: Global,
+    t: &[Token<'_>],
+    at: usize,
+    agg: Agg,
+) -> Result<(E, usize), Fail<Refused>>
+    requires { at ≤ length t.now }
+    ensures { Gives (Behind (Word (Keyword.Agg agg))) (Stops 2) t.now at result }
+{
+    match agg_head(t, at, agg) {
+        AggHead::All(to) => {
+            settled(t, to, 2)?;
+            Ok((E::CountAll, to))
+        }
+        AggHead::Cells(measure, cells) => {
+            let measure = Words::new(alloc, measure)?;
+            read_range(alloc, t, cells, agg, measure)
+        }
+        AggHead::Values => {
+            let (e, to) = read_round(alloc, t, at)?;
+            settled(t, to, 2)?;
+            Ok((aggregate(alloc, agg, e)?, to))
+        }
+    }
+}
+
+// The cells of an aggregate, from their bracket on.
+#[cycle(parser)]
+fn read_range(
+    alloc: Global,
+    t: &[Token<'_>],
+    at: usize,
+    agg: Agg,
+    measure: Words,
+) -> Result<(E, usize), Fail<Refused>>
+    requires in_range { at ≤ length t.now }
+    requires begins { terminal_at (from t.now at) ≡ Terminal.Sign Symbol.OpenSquare }
+    ensures { Gives (CellsOf agg measure) (Stops 2) t.now at result }
+{
+    let (places, to) = read_brackets(alloc, t, at)?;
+    settled(t, to, 2)?;
+    Ok((E::RangeAgg(agg, measure, places), to))
+}
+
+/// An expression between brackets.
+#[cycle(parser)]
+pub fn read_round(alloc: Global, t: &[Token<'_>], at: usize) -> Result<(E, usize), Fail<Refused>>
+    requires { at ≤ length t.now }
+    ensures { Gives RoundE Anywhere t.now at result }
+{
+    let open = pass_sign(t, at, Symbol::Open)?;
+    let (e, end) = read_expr(alloc, t, open)?;
+    let to = pass_sign(t, end, Symbol::Close)?;
+    Ok((e, to))
+}
+
+// A CAST, behind its word.
+#[cycle(parser)]
+fn read_cast(alloc: Global, t: &[Token<'_>], at: usize) -> Result<(E, usize), Fail<Refused>>
+    requires { at ≤ length t.now }
+    ensures { Gives (Behind (Word Keyword.Cast)) Anywhere t.now at result }
+{
+    let open = pass_sign(t, at, Symbol::Open)?;
+    let (e, end) = read_expr(alloc, t, open)?;
+    let (kind, to) = read_as_kind(t, end)?;
+    Ok((cast(alloc, e, kind)?, to))
+}
+
+// A ROUND, behind its word.
+#[cycle(parser)]
+fn read_rounded(alloc: Global, t: &[Token<'_>], at: usize) -> Result<(E, usize), Fail<Refused>>
+    requires { at ≤ length t.now }
+    ensures { Gives (Behind (Word Keyword.Round)) Anywhere t.now at result }
+{
+    let open = pass_sign(t, at, Symbol::Open)?;
+    let (e, end) = read_expr(alloc, t, open)?;
+    let (places, to) = read_to_scale(t, end)?;
+    Ok((rounded(alloc, e, scale_of(places))?, to))
+}
+
+// A call, behind its word.
+#[cycle(parser)]
+fn read_call(
+    alloc: Global,
+    t: &[Token<'_>],
+    at: usize,
+    call: Call,
+) -> Result<(E, usize), Fail<Refused>>
+    requires { at ≤ length t.now }
+    ensures { Gives (Behind (Word (word_of call))) Anywhere t.now at result }
+{
+    let (args, to) = read_tuple(alloc, t, at)?;
+    match called(alloc, call, args)? {
+        Some(e) => Ok((e, to)),
+        None => Err(Fail::Cause(Refused::Syntax)),
+    }
+}
+
+// A CASE, behind its word.
+#[cycle(parser)]
+fn read_case(alloc: Global, t: &[Token<'_>], at: usize) -> Result<(E, usize), Fail<Refused>>
+    requires { at ≤ length t.now }
+    ensures { Gives (Behind (Word Keyword.Case)) Anywhere t.now at result }
+{
+    let (subject, start) = read_subject(alloc, t, at)?;
+    let (arms, mid) = read_whens(alloc, t, start)?;
+    let (other, to) = read_else(alloc, t, mid)?;
+    Ok((E::Case(subject, arms, other), to))
+}
+
+// What stands between CASE and its first WHEN.
+#[cycle(parser)]
+fn read_subject(
+    alloc: Global,
+    t: &[Token<'_>],
+    at: usize,
+) -> Result<(Option<Boxed<E>>, usize), Fail<Refused>>
+    requires { at ≤ length t.now }
+    ensures { Gives CaseE AtWhen t.now at result }
+{
+    match behind_word(t, at, Keyword::When) {
+        Some(_) => Ok((None, at)),
+        None => {
+            let (e, to) = read_expr(alloc, t, at)?;
+            pass_word(t, to, Keyword::When)?;
+            Ok((Some(Boxed::new(alloc, e)?), to))
+        }
+    }
+}
+
+#[cycle(parser)]
+fn read_whens(
+    alloc: Global,
+    t: &[Token<'_>],
+    at: usize,
+) -> Result<(Items<Arm>, usize), Fail<Refused>>
+    requires { at ≤ length t.now }
+    ensures { Gives SomeWhens (Ends (Terminal.Word Keyword.When)) t.now at result }
+{
+    let mut found = Items::new(alloc);
+    let mut to = pass_word(t, at, Keyword::When)?;
+    loop {
+        let (test, end) = read_expr(alloc, t, to)?;
+        let mid = pass_word(t, end, Keyword::Then)?;
+        let (value, next) = read_expr(alloc, t, mid)?;
+        found.push(Arm { test, value })?;
+        match behind_word(t, next, Keyword::When) {
+            Some(behind) => to = behind,
+            None => return Ok((found, next)),
+        }
+    }
+}
+
+// What stands behind ELSE, and END.
+#[cycle(parser)]
+fn read_else(
+    alloc: Global,
+    t: &[Token<'_>],
+    at: usize,
+) -> Result<(Option<Boxed<E>>, usize), Fail<Refused>>
+    requires { at ≤ length t.now }
+    ensures { Gives ElseEnd Anywhere t.now at result }
+{
+    match behind_word(t, at, Keyword::Else) {
+        Some(behind) => {
+            let (e, end) = read_expr(alloc, t, behind)?;
+            let to = pass_word(t, end, Keyword::End)?;
+            Ok((Some(Boxed::new(alloc, e)?), to))
+        }
+        None => {
+            let to = pass_word(t, at, Keyword::End)?;
+            Ok((None, to))
+        }
+    }
+}
+
+// The places of a cell or a range, between square brackets.
+#[cycle(parser)]
+fn read_brackets(
+    alloc: Global,
+    t: &[Token<'_>],
+    at: usize,
+) -> Result<(Items<Place>, usize), Fail<Refused>>
+    requires { at ≤ length t.now }
+    ensures { Gives Brackets Anywhere t.now at result }
+{
+    let open = pass_sign(t, at, Symbol::OpenSquare)?;
+    let (first, mid) = read_place(alloc, t, open)?;
+    let (mut all, end) = read_places(alloc, t, mid)?;
+    let to = pass_sign(t, end, Symbol::CloseSquare)?;
+    all.put_first(first)?;
+    Ok((all, to))
+}
+
+#[cycle(parser)]
+fn read_places(
+    alloc: Global,
+    t: &[Token<'_>],
+    at: usize,
+) -> Result<(Items<Place>, usize), Fail<Refused>>
+    requires in_range { at ≤ length t.now }
+    requires stops { Stops 7 (from t.now at) }
+    ensures { Gives MorePlaces (Ends (Terminal.Sign Symbol.Comma)) t.now at result }
+{
+    let mut found = Items::new(alloc);
+    let mut to = at;
+    while let Some(behind) = behind_sign(t, to, Symbol::Comma) {
+        let (place, next) = read_place(alloc, t, behind)?;
+        found.push(place)?;
+        to = next;
+    }
+    Ok((found, to))
+}
+
+#[cycle(parser)]
+fn read_place(alloc: Global, t: &[Token<'_>], at: usize) -> Result<(Place, usize), Fail<Refused>>
+    requires { at ≤ length t.now }
+    ensures { Gives PlaceE (Stops 7) t.now at result }
+{
+    match behind_word(t, at, Keyword::Any) {
+        Some(to) => {
+            settled(t, to, 7)?;
+            Ok((Place::Any, to))
+        }
+        None => {
+            let (e, to) = read_expr(alloc, t, at)?;
+            Ok((Place::Expr(e), to))
+        }
+    }
+}
