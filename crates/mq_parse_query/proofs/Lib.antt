@@ -1,0 +1,8 @@
+pub mod ListLemmas
+pub mod RuleLemmas
+pub mod ModelLemmas
+pub mod HeadLemmas
+pub mod QueryLemmas
+pub mod PlainLemmas
+pub mod SourceLemmas
+pub mod OrderLemmas

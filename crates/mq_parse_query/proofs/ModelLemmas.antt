@@ -1,0 +1,193 @@
+-- Where the pieces of a MODEL clause and of a query read nothing, by their parts, and how they are put together.
+use Rattle.std.proofs.Common.{◌≡◌, ◌≢◌, ℕ, ◌+◌, ◌<◌, ◌≤◌, Bool, true, false, List, ◌∷◌, length, refl, sym, ap, ◌∙◌, subst, arith}
+use Rattle.std.specs.Prelude.{Option, Some, None, MatchOption}
+use Rattle.mq_lexer.specs.declared.sorts.Token.{Token}
+use Rattle.mq_ast.specs.declared.queries.Sel.{Sel}
+use Rattle.mq_ast.specs.declared.queries.Plain.{Plain}
+use Rattle.mq_ast.specs.declared.queries.Opt.{Opt}
+use Rattle.mq_ast.specs.declared.queries.Opt.TheVariants as opt
+use Rattle.mq_ast.specs.declared.queries.RefTree.{RefTree}
+use Rattle.mq_ast.specs.declared.terminals.Keyword.TheVariants as word
+use Rattle.mq_ast.specs.declared.terminals.Symbol.TheVariants as sign
+use Rattle.mq_ast.specs.declared.terminals.Terminal.{Terminal}
+use Rattle.mq_ast.specs.declared.terminals.Terminal.TheVariants as terminal
+use Rattle.mq_ast.specs.Tokens.{Tok, Word, Name, terminal_at, opener}
+use Rattle.mq_ast.specs.Continuing.{part, Not, Past}
+use Rattle.mq_ast.specs.GrammarLists.{NameE, name, ManyOf, many_end, many_more}
+use Rattle.mq_ast.specs.GrammarQuery.{Cols}
+use Rattle.mq_ast.specs.GrammarModel.{OptE, opt_ignore, opt_keep, opt_unique, ReturnE, return_none, return_all, return_updated, RefE, reference, ref_of, MainE, main_none, main_some, PartsE, parts_none, parts_some}
+use Rattle.mq_ast.proofs.Common.{Same, begin, cut}
+use Rattle.mq_ast.proofs.OneQuery.{plain_same, cols_same}
+use Rattle.mq_ast.proofs.OneModel.{refs_past}
+use Rattle.mq_parse_expr.specs.Reading.{from, Then, No, Anywhere}
+use Rattle.mq_parse_expr.proofs.TokenLemmas.{word_next}
+use Rattle.mq_parse_query.specs.RulePieces.{PlainEnd}
+use Rattle.mq_parse_query.specs.ModelPieces.{option_of, first_word, second_word, WhichE, which_all, which_updated, Returns, SourceE, source, DimsE, dims, AxesE, axes, Refers}
+
+-- options
+option_past : (x : Terminal) → option_of x ≡ None → 1 < part x
+option_past (terminal.Word word.Ignore) e = absurd cc
+option_past (terminal.Word word.Keep) e = absurd cc
+option_past (terminal.Word word.Unique) e = absurd cc
+option_past (terminal.Word (word.Agg _)) e = omega arith
+option_past (terminal.Sign (sign.Cmp _)) e = omega arith
+option_past (terminal.Sign (sign.Sum _)) e = omega arith
+option_past (terminal.Sign (sign.Prod _)) e = omega arith
+option_past _ e = omega arith
+
+option_word : (x : Terminal) (o : Opt) → Some o ≡ option_of x → x ≡ terminal.Word (first_word o)
+option_word (terminal.Word word.Ignore) o e = cc
+option_word (terminal.Word word.Keep) o e = cc
+option_word (terminal.Word word.Unique) o e = cc
+option_word _ o e = absurd cc
+
+pub option_found : (t : List Token) (at : ℕ) (x : Terminal) (r : Option Opt) → x ≡ terminal_at (from t at) → (x ≢ terminal.Nothing → at < length t) → r ≡ option_of x → MatchOption r (Past 1 (from t at)) (λ o. Then (Word (first_word o)) t at (at + 1))
+option_found t at x None k i e = let P : Terminal → Type 0 = λ y. 1 < part y in subst P k (option_past x (sym e))
+option_found t at x (Some o) k i e =
+    let w = option_word x o e in
+    let b : at < length t = i (λ z. cc) in
+    (refl, omega (arith, b), word_next t at (first_word o) (sym k ∙ w))
+
+pub option_no_second : (o : Opt) {ts : List Tok} → Not (terminal.Word (second_word o)) ts → No (ManyOf OptE) (Past 1) (Word (first_word o) ∷ ts)
+option_no_second opt.IgnoreNav n a to many_end s = absurd (omega arith)
+option_no_second opt.KeepNav n a to many_end s = absurd (omega arith)
+option_no_second opt.UniqueDimension n a to many_end s = absurd (omega arith)
+option_no_second opt.IgnoreNav n a to (many_more opt_ignore ds) s = n refl
+option_no_second opt.KeepNav n a to (many_more opt_keep ds) s = n refl
+option_no_second opt.UniqueDimension n a to (many_more opt_unique ds) s = n refl
+
+pub option_whole : (o : Opt) {ts : List Tok} → OptE o (Word (first_word o) ∷ Word (second_word o) ∷ ts) ts
+option_whole opt.IgnoreNav = opt_ignore
+option_whole opt.KeepNav = opt_keep
+option_whole opt.UniqueDimension = opt_unique
+
+-- RETURN (ALL | UPDATED) ROWS
+pub which_no_word : {ts : List Tok} → Not (terminal.Word word.All) ts → Not (terminal.Word word.Updated) ts → No WhichE Anywhere ts
+which_no_word m n a to which_all s = m refl
+which_no_word m n a to which_updated s = n refl
+
+pub rows_no_which : {ts : List Tok} → No WhichE Anywhere ts → No Returns (Past 2) ts
+rows_no_which h a to return_none s = absurd (omega arith)
+rows_no_which h a to return_all s = h _ _ which_all tt
+rows_no_which h a to return_updated s = h _ _ which_updated tt
+
+pub rows_no_rows : {b : Bool} {ts mid : List Tok} → WhichE b ts mid → Not (terminal.Word word.Rows) mid → No Returns (Past 2) ts
+rows_no_rows e n a to return_none s = absurd (omega arith)
+rows_no_rows which_all n a to return_all s = n refl
+rows_no_rows which_updated n a to return_updated s = n refl
+
+pub rows_no_end : {b : Bool} {ts mid : List Tok} (next : List Tok) → WhichE b ts mid → mid ≡ Word word.Rows ∷ next → part (terminal_at next) ≤ 2 → No Returns (Past 2) ts
+rows_no_end next e f l a to return_none s = absurd (omega arith)
+rows_no_end next which_all f l a to return_all s = let k = ap (λ x. part (terminal_at x)) (cut f) in absurd (omega arith)
+rows_no_end next which_updated f l a to return_updated s = let k = ap (λ x. part (terminal_at x)) (cut f) in absurd (omega arith)
+
+pub rows_whole : {b : Bool} {ts mid to : List Tok} → WhichE b ts mid → mid ≡ Word word.Rows ∷ to → Returns b ts to
+rows_whole {b} {ts} {mid} {to} which_all e = let P : List Tok → Type 0 = λ m. Returns false (Word word.All ∷ m) to in subst P (sym e) return_all
+rows_whole {b} {ts} {mid} {to} which_updated e = let P : List Tok → Type 0 = λ m. Returns true (Word word.Updated ∷ m) to in subst P (sym e) return_updated
+
+pub return_no_end : {ts : List Tok} → Not (terminal.Word word.Return) ts → part (terminal_at ts) ≤ 2 → No ReturnE (Past 2) ts
+return_no_end n l a to return_none s = absurd (omega arith)
+return_no_end n l a to return_all s = n refl
+return_no_end n l a to return_updated s = n refl
+
+-- REFERENCE
+pub source_no_name : {ts : List Tok} → No NameE Anywhere ts → No SourceE Anywhere ts
+source_no_name h a to (source d) s = h _ _ name tt
+
+pub source_no_on : {n : List ℕ} {ts : List Tok} → Not (terminal.Word word.On) ts → No SourceE Anywhere (Name n ∷ ts)
+source_no_on n a to (source d) s = n refl
+
+pub source_no_open : {n : List ℕ} {ts : List Tok} → Not (terminal.Sign sign.Open) ts → No SourceE Anywhere (Name n ∷ Word word.On ∷ ts)
+source_no_open n a to (source d) s = n refl
+
+pub source_no_plain : {n : List ℕ} {ts : List Tok} → No PlainEnd Anywhere ts → No SourceE Anywhere (Name n ∷ Word word.On ∷ opener ∷ ts)
+source_no_plain h a to (source d) s = h _ _ d tt
+
+source_same : {a b : List ℕ × Plain} {ts to to' : List Tok} → SourceE a ts to → SourceE b ts to' → Same a b to to'
+source_same (source d) (source d') = let p = plain_same d d' (omega arith) (omega arith) in (cc, cut p.1)
+
+-- DIMENSION BY cols MEASURES cols
+pub dims_no_dimension : {ts : List Tok} → Not (terminal.Word word.Dimension) ts → No DimsE Anywhere ts
+dims_no_dimension n a to (dims d) s = n refl
+
+pub dims_no_by : {ts : List Tok} → Not (terminal.Word word.By) ts → No DimsE Anywhere (Word word.Dimension ∷ ts)
+dims_no_by n a to (dims d) s = n refl
+
+pub dims_no_cols : {ts : List Tok} → No Cols Anywhere ts → No DimsE Anywhere (Word word.Dimension ∷ Word word.By ∷ ts)
+dims_no_cols h a to (dims d) s = h _ _ d tt
+
+pub dims_no_measures : {xs : List Sel} {ts mid : List Tok} → Cols xs ts mid → Not (terminal.Word word.Measures) mid → No DimsE Anywhere (Word word.Dimension ∷ Word word.By ∷ ts)
+dims_no_measures e n a to (dims d) s = let p = cols_same e d in n (ap terminal_at p.1)
+
+dims_same : {xs ys : List Sel} {ts to to' : List Tok} → DimsE xs ts to → DimsE ys ts to' → Same xs ys to to'
+dims_same (dims d) (dims d') = let p = cols_same d d' in (p.0, cut p.1)
+
+pub axes_no_dims : {ts : List Tok} → No DimsE Anywhere ts → No AxesE Anywhere ts
+axes_no_dims h a to (axes d m) s = h _ _ d tt
+
+pub axes_no_cols : {xs : List Sel} {ts mid : List Tok} → DimsE xs ts mid → No Cols Anywhere mid → No AxesE Anywhere ts
+axes_no_cols e h a to (axes d m) s = let p = dims_same e d in h _ _ (begin Cols p.1 m) tt
+
+pub axes_same : {a b : List Sel × List Sel} {ts to to' : List Tok} → AxesE a ts to → AxesE b ts to' → Same a b to to'
+axes_same (axes d m) (axes d' m') =
+    let p = dims_same d d' in
+    let q = cols_same m (begin Cols p.1 m') in
+    (cc, q.1)
+
+pub axes_past : {a : List Sel × List Sel} {ts to : List Tok} → AxesE a ts to → Past 5 ts
+axes_past (axes (dims d) m) = omega arith
+
+pub ref_no_source : {ts : List Tok} → No SourceE Anywhere ts → No Refers (Past 1) ts
+ref_no_source h a to (reference d c m o) s = h _ _ (source d) tt
+
+pub ref_no_axes : {x : List ℕ × Plain} {ts mid : List Tok} → SourceE x ts mid → No AxesE Anywhere mid → No Refers (Past 1) ts
+ref_no_axes e h a to (reference d c m o) s = let p = source_same e (source d) in h _ _ (begin AxesE p.1 (axes (dims c) m)) tt
+
+pub ref_no_opts : {x : List ℕ × Plain} {y : List Sel × List Sel} {ts mid next : List Tok} → SourceE x ts mid → AxesE y mid next → No (ManyOf OptE) (Past 1) next → No Refers (Past 1) ts
+ref_no_opts e f h a to (reference d c m o) s =
+    let p = source_same e (source d) in
+    let q = axes_same f (begin AxesE p.1 (axes (dims c) m)) in
+    h _ _ (begin (ManyOf OptE) q.1 o) s
+
+pub ref_whole : {x : List ℕ × Plain} {y : List Sel × List Sel} {os : List Opt} {ts mid next to : List Tok} → SourceE x ts mid → AxesE y mid next → ManyOf OptE os next to → Refers (ref_of x.0 x.1 y.0 y.1 os) ts to
+ref_whole (source d) (axes (dims c) m) o = reference d c m o
+
+refs_past_one : {rs : List RefTree} {ts to : List Tok} → ManyOf RefE rs ts to → Past 3 to → Past 1 ts
+refs_past_one d s = let h = refs_past d s in omega arith
+
+pub refs_no_ref : {ts : List Tok} → No Refers (Past 1) ts → No (ManyOf RefE) (Past 3) (Word word.Reference ∷ ts)
+refs_no_ref h a to many_end s = absurd (omega arith)
+refs_no_ref h a to (many_more d ds) s = h _ _ d (refs_past_one ds s)
+
+pub refs_no_end : {ts : List Tok} → Not (terminal.Word word.Reference) ts → part (terminal_at ts) ≤ 3 → No (ManyOf RefE) (Past 3) ts
+refs_no_end n l a to many_end s = absurd (omega arith)
+refs_no_end n l a to (many_more (reference d c m o) ds) s = n refl
+
+-- MAIN and PARTITION BY
+pub main_no_name : {ts : List Tok} → No NameE Anywhere ts → No MainE (Past 4) (Word word.Main ∷ ts)
+main_no_name h a to main_none s = absurd (omega arith)
+main_no_name h a to main_some s = h _ _ name tt
+
+pub main_no_end : {n : List ℕ} {ts : List Tok} → part (terminal_at ts) ≤ 4 → No MainE (Past 4) (Word word.Main ∷ Name n ∷ ts)
+main_no_end l a to main_none s = absurd (omega arith)
+main_no_end l a to main_some s = absurd (omega arith)
+
+pub main_no_word : {ts : List Tok} → Not (terminal.Word word.Main) ts → part (terminal_at ts) ≤ 4 → No MainE (Past 4) ts
+main_no_word n l a to main_none s = absurd (omega arith)
+main_no_word n l a to main_some s = n refl
+
+pub parts_no_by : {ts : List Tok} → Not (terminal.Word word.By) ts → No PartsE (Past 5) (Word word.Partition ∷ ts)
+parts_no_by n a to parts_none s = absurd (omega arith)
+parts_no_by n a to (parts_some d) s = n refl
+
+pub parts_no_cols : {ts : List Tok} → No Cols Anywhere ts → No PartsE (Past 5) (Word word.Partition ∷ Word word.By ∷ ts)
+parts_no_cols h a to parts_none s = absurd (omega arith)
+parts_no_cols h a to (parts_some d) s = h _ _ d tt
+
+pub parts_no_end : {xs : List Sel} {ts : List Tok} (mid : List Tok) → Cols xs ts mid → part (terminal_at mid) ≤ 5 → No PartsE (Past 5) (Word word.Partition ∷ Word word.By ∷ ts)
+parts_no_end mid e l a to parts_none s = absurd (omega arith)
+parts_no_end mid e l a to (parts_some d) s = let k = ap (λ x. part (terminal_at x)) (cols_same e d).1 in absurd (omega arith)
+
+pub parts_no_word : {ts : List Tok} → Not (terminal.Word word.Partition) ts → part (terminal_at ts) ≤ 5 → No PartsE (Past 5) ts
+parts_no_word n l a to parts_none s = absurd (omega arith)
+parts_no_word n l a to (parts_some d) s = n refl

@@ -1,0 +1,97 @@
+-- Where the plain part of a query reads nothing behind its columns and its items of FROM. All of it is about lists of tokens.
+use Rattle.std.proofs.Common.{◌≤◌, List, [], ◌∷◌, refl, ap, arith}
+use Rattle.std.specs.Prelude.{Option}
+use Rattle.mq_ast.specs.declared.expressions.Path.{Path}
+use Rattle.mq_ast.specs.declared.expressions.E.{E}
+use Rattle.mq_ast.specs.declared.queries.Sel.{Sel}
+use Rattle.mq_ast.specs.declared.queries.FromItem.{FromItem}
+use Rattle.mq_ast.specs.declared.terminals.Keyword.TheVariants as word
+use Rattle.mq_ast.specs.declared.terminals.Terminal.TheVariants as terminal
+use Rattle.mq_ast.specs.Tokens.{Tok, Word, terminal_at, star}
+use Rattle.mq_ast.specs.Continuing.{loose, Stops, Not}
+use Rattle.mq_ast.specs.GrammarNames.{PathE}
+use Rattle.mq_ast.specs.GrammarLists.{SomeOf}
+use Rattle.mq_ast.specs.GrammarExpression.{Expr}
+use Rattle.mq_ast.specs.GrammarQuery.{SelE, select_star, select_list, FromE, WhereE, where_none, where_some, GroupE, group_none, group_some, PlainE, plain, plain_of}
+use Rattle.mq_ast.proofs.Common.{begin, cut}
+use Rattle.mq_ast.proofs.OneExpression.{expr_same}
+use Rattle.mq_ast.proofs.OneQuery.{sels_same, sels_no_star, select_same, from_same, where_same, where_stop, group_stop, paths_same, ends_paths}
+use Rattle.mq_parse_expr.specs.Reading.{No, Anywhere}
+use Rattle.mq_parse_query.specs.declared.plain.Shown.{Shown}
+use Rattle.mq_parse_query.specs.declared.plain.Source.{Source}
+use Rattle.mq_parse_query.specs.Lists.{EndsList}
+use Rattle.mq_parse_query.specs.PlainPieces.{ShownE, shown, SourceE, source}
+
+-- [WHERE e]
+pub where_no_where : {ts : List Tok} → Not (terminal.Word word.Where) ts → loose (terminal_at ts) ≤ 10 → No WhereE (Stops 10) ts
+where_no_where n l a to where_none s = absurd (omega arith)
+where_no_where n l a to (where_some d) s = n refl
+
+pub where_no_expr : {ts : List Tok} → No Expr (Stops 7) ts → No WhereE (Stops 10) (Word word.Where ∷ ts)
+where_no_expr h a to where_none s = absurd (omega arith)
+where_no_expr h a to (where_some d) s = h _ _ d (omega arith)
+
+pub where_no_end : {x : E} {ts : List Tok} (mid : List Tok) → Expr x ts mid → Stops 7 mid → loose (terminal_at mid) ≤ 10 → No WhereE (Stops 10) (Word word.Where ∷ ts)
+where_no_end mid e r l a to where_none s = absurd (omega arith)
+where_no_end mid e r l a to (where_some d) s =
+    let p = expr_same e d r (omega arith) in let k = ap (λ x. loose (terminal_at x)) p.1 in absurd (omega arith)
+
+-- [GROUP BY path {, path}]
+pub group_no_group : {ts : List Tok} → Not (terminal.Word word.Group) ts → loose (terminal_at ts) ≤ 11 → No GroupE (Stops 11) ts
+group_no_group n l a to group_none s = absurd (omega arith)
+group_no_group n l a to (group_some d) s = n refl
+
+pub group_no_by : {ts : List Tok} → Not (terminal.Word word.By) ts → No GroupE (Stops 11) (Word word.Group ∷ ts)
+group_no_by n a to group_none s = absurd (omega arith)
+group_no_by n a to (group_some d) s = n refl
+
+pub group_no_paths : {ts : List Tok} → No (SomeOf PathE) (EndsList (Stops 1)) ts → No GroupE (Stops 11) (Word word.Group ∷ Word word.By ∷ ts)
+group_no_paths h a to group_none s = absurd (omega arith)
+group_no_paths h a to (group_some d) s = h _ _ d (ends_paths _ s)
+
+pub group_no_end : {xs : List Path} {ts : List Tok} (mid : List Tok) → SomeOf PathE xs ts mid → EndsList (Stops 1) mid → loose (terminal_at mid) ≤ 11 → No GroupE (Stops 11) (Word word.Group ∷ Word word.By ∷ ts)
+group_no_end mid e r l a to group_none s = absurd (omega arith)
+group_no_end mid e r l a to (group_some d) s =
+    let p = paths_same e d r (ends_paths _ s) in let k = ap (λ x. loose (terminal_at x)) p.1 in absurd (omega arith)
+
+-- (* | sel {, sel}) FROM
+pub shown_no_star : {ts : List Tok} → Not (terminal.Word word.From) ts → No ShownE Anywhere (star ∷ ts)
+shown_no_star n a to (shown select_star) s = n refl
+shown_no_star n a to (shown (select_list d)) s = absurd (sels_no_star d)
+
+pub shown_no_sels : {ts : List Tok} → Not (terminal_at (star ∷ [])) ts → No (SomeOf SelE) (EndsList (Stops 8)) ts → No ShownE Anywhere ts
+shown_no_sels n h a to (shown select_star) s = n refl
+shown_no_sels n h a to (shown (select_list d)) s = h _ _ d (omega arith, λ e. cc)
+
+pub shown_no_from : {xs : List Sel} {ts mid : List Tok} → Not (terminal_at (star ∷ [])) ts → SomeOf SelE xs ts mid → EndsList (Stops 8) mid → Not (terminal.Word word.From) mid → No ShownE Anywhere ts
+shown_no_from n e r m a to (shown select_star) s = n refl
+shown_no_from n e r m a to (shown (select_list d)) s = let p = sels_same e d r (omega arith, λ e. cc) in m (ap terminal_at p.1)
+
+-- from [WHERE e] [GROUP BY path {, path}]
+pub source_no_from : {ts : List Tok} → No FromE (Stops 9) ts → No SourceE (Stops 11) ts
+source_no_from h a to (source f w g) s = h _ _ f (where_stop w (group_stop g s))
+
+pub source_no_where : {fs : List FromItem} {ts mid : List Tok} → FromE fs ts mid → Stops 9 mid → No WhereE (Stops 10) mid → No SourceE (Stops 11) ts
+source_no_where e r h a to (source f w g) s =
+    let u = group_stop g s in
+    let p = from_same e f r (where_stop w u) in h _ _ (begin WhereE p.1 w) u
+
+pub source_no_group : {fs : List FromItem} {o : Option E} {ts mid last : List Tok} → FromE fs ts mid → Stops 9 mid → WhereE o mid last → Stops 10 last → No GroupE (Stops 11) last → No SourceE (Stops 11) ts
+source_no_group e r v q h a to (source f w g) s =
+    let u = group_stop g s in
+    let p = from_same e f r (where_stop w u) in
+    let k = where_same v (begin WhereE p.1 w) q u in h _ _ (begin GroupE k.1 g) s
+
+-- SELECT and both
+pub plain_no_select : {ts : List Tok} → Not (terminal.Word word.Select) ts → No PlainE (Stops 11) ts
+plain_no_select n a to (plain d f w g) s = n refl
+
+pub plain_no_shown : {ts : List Tok} → No ShownE Anywhere ts → No PlainE (Stops 11) (Word word.Select ∷ ts)
+plain_no_shown h a to (plain d f w g) s = h _ _ (shown d) tt
+
+pub plain_no_source : {x : Shown} {ts mid : List Tok} → ShownE x ts mid → No SourceE (Stops 11) mid → No PlainE (Stops 11) (Word word.Select ∷ ts)
+plain_no_source (shown e) h a to (plain d f w g) s =
+    let p = select_same e d (omega arith, λ e. cc) (omega arith, λ e. cc) in h _ _ (source (begin FromE (cut p.2) f) w g) s
+
+pub plain_whole : {x : Shown} {y : Source} {ts mid to : List Tok} → ShownE x ts mid → SourceE y mid to → PlainE (plain_of x.star x.sels y.froms y.filter y.group) (Word word.Select ∷ ts) to
+plain_whole (shown d) (source f w g) = plain d f w g

@@ -1,0 +1,32 @@
+use Rattle.std.proofs.Common.{arith}
+use Rattle.std.proofs.lemmas.Result.{err_from_is_err_and}
+use Rattle.mq_parse_expr.proofs.Steps.{exit}
+use Rattle.mq_parse_query.proofs.PlainLemmas.{bare_join, on_join, joins_no_bare, joins_no_on, joins_no_front}
+use Rattle.mq_parse_query.proofs.froms.JoinsRepeated.next.Goals as goal
+
+pub returns-in_err-read_item : goal.returns-in_err-read_item
+returns-in_err-read_item c =
+    let p = err_from_is_err_and c.from_residual.result c.from_residual.ensures.1 in
+    rw (p.1, p.2) (exit c.in_err-read_item.field-0.0 c.in_err-read_item.ensures (joins_no_bare c.in-Some.ensures.2))
+
+pub returns-in-Some : goal.returns-in-Some
+returns-in-Some c =
+    let f = c.in-Some.ensures in
+    let i = c.in_ok-read_item.ensures in
+    (omega (arith, f.0, i.0), i.1, bare_join f.2 i.2, i.3)
+
+pub returns-in_err-read_on_item : goal.returns-in_err-read_on_item
+returns-in_err-read_on_item c =
+    let p = err_from_is_err_and c.from_residual-in_err-read_on_item.result c.from_residual-in_err-read_on_item.ensures.1 in
+    rw (p.1, p.2) (exit c.in_err-read_on_item.field-0.0 c.in_err-read_on_item.ensures (joins_no_on c.in-Some-on_front.ensures.2))
+
+pub returns-in-Some-on_front : goal.returns-in-Some-on_front
+returns-in-Some-on_front c =
+    let f = c.in-Some-on_front.ensures in
+    let i = c.in_ok-read_on_item.ensures in
+    (omega (arith, f.0, i.0), i.1, on_join f.2 i.2, i.3)
+
+pub returns-in_err-settled : goal.returns-in_err-settled
+returns-in_err-settled c =
+    let p = err_from_is_err_and c.from_residual-in_err-settled.result c.from_residual-in_err-settled.ensures.1 in
+    rw (p.1, p.2) (exit c.in_err-settled.field-0.0 c.in_err-settled.ensures (joins_no_front c.in_default.ensures c.in_default-on_front.ensures))

@@ -1,0 +1,24 @@
+use Rattle.std.proofs.Common.{arith}
+use Rattle.std.proofs.lemmas.Result.{err_from_is_err_and}
+use Rattle.mq_ast.specs.Continuing.{Past}
+use Rattle.mq_ast.specs.GrammarLists.{ManyOf}
+use Rattle.mq_parse_expr.proofs.Steps.{exit, here, there}
+use Rattle.mq_parse_query.proofs.ModelLemmas.{refs_no_ref, refs_no_end}
+use Rattle.mq_ast.specs.GrammarModel.{RefE}
+use Rattle.mq_parse_query.proofs.heads.next_ref.Goals as goal
+
+pub returns-in_err-found-in-Some : goal.returns-in_err-found-in-Some
+returns-in_err-found-in-Some c =
+    let p = err_from_is_err_and c.from_residual.result c.from_residual.ensures.1 in
+    rw (p.1, p.2) (exit c.in_err-found-in-Some.field-0.0 c.in_err-found-in-Some.ensures (λ h. here (ManyOf RefE) (Past 3) c.in-Some.ensures.2 (refs_no_ref h)))
+
+pub returns-in_ok-found-in-Some : goal.returns-in_ok-found-in-Some
+returns-in_ok-found-in-Some c =
+    let s = c.in-Some.ensures in
+    let f = c.in_ok-found-in-Some.ensures in
+    (omega (arith, s.0, f.0), f.1, there RefE s.2 f.2, f.3)
+
+pub returns-in_err-past-in-None : goal.returns-in_err-past-in-None
+returns-in_err-past-in-None c =
+    let p = err_from_is_err_and c.from_residual-in_err-past-in-None.result c.from_residual-in_err-past-in-None.ensures.1 in
+    rw (p.1, p.2) (exit c.in_err-past-in-None.field-0.0 c.in_err-past-in-None.ensures (refs_no_end c.in-None.ensures))

@@ -1,0 +1,20 @@
+use Rattle.std.proofs.Common.{arith}
+use Rattle.std.proofs.lemmas.Result.{err_from_is_err_and}
+use Rattle.mq_ast.specs.Continuing.{Past}
+use Rattle.mq_parse_expr.proofs.Steps.{exit, here, there}
+use Rattle.mq_parse_query.proofs.HeadLemmas.{auto_no_order, auto_no_end}
+use Rattle.mq_parse_query.specs.HeadPieces.{AutoEnd, auto_end}
+use Rattle.mq_parse_query.proofs.heads.read_auto_end.Goals as goal
+
+pub returns-in_err-to : goal.returns-in_err-to
+returns-in_err-to c =
+    let p = err_from_is_err_and c.from_residual.result c.from_residual.ensures.1 in
+    rw (p.1, p.2) (exit c.in_err-to.field-0.0 c.in_err-to.ensures (auto_no_order))
+
+pub returns-in_err-past : goal.returns-in_err-past
+returns-in_err-past c =
+    let p = err_from_is_err_and c.from_residual-in_err-past.result c.from_residual-in_err-past.ensures.1 in
+    rw (p.1, p.2) (exit c.in_err-past.field-0.0 c.in_err-past.ensures (λ h. here (AutoEnd c.args.auto) (Past 7) c.in_ok-to.ensures.2 (auto_no_end h)))
+
+pub returns : goal.returns
+returns c = let e = c.in_ok-to.ensures in (omega (arith, e.0), e.1, there (AutoEnd c.args.auto) e.2 auto_end, c.in_ok-past.ensures)

@@ -1,0 +1,22 @@
+use Rattle.std.proofs.Common.{arith}
+use Rattle.std.proofs.lemmas.Result.{err_from_is_err_and}
+use Rattle.mq_parse_expr.proofs.Steps.{exit}
+use Rattle.mq_parse_query.proofs.ModelLemmas.{axes_no_dims, axes_no_cols}
+use Rattle.mq_parse_query.specs.ModelPieces.{axes}
+use Rattle.mq_parse_query.proofs.heads.read_axes.Goals as goal
+
+pub returns-in_err-dims : goal.returns-in_err-dims
+returns-in_err-dims c =
+    let p = err_from_is_err_and c.from_residual.result c.from_residual.ensures.1 in
+    rw (p.1, p.2) (exit c.in_err-dims.field-0.0 c.in_err-dims.ensures (axes_no_dims))
+
+pub returns-in_err-measures : goal.returns-in_err-measures
+returns-in_err-measures c =
+    let p = err_from_is_err_and c.from_residual-in_err-measures.result c.from_residual-in_err-measures.ensures.1 in
+    rw (p.1, p.2) (exit c.in_err-measures.field-0.0 c.in_err-measures.ensures (axes_no_cols c.in_ok-dims.ensures.2))
+
+pub returns : goal.returns
+returns c =
+    let d = c.in_ok-dims.ensures in
+    let m = c.in_ok-measures.ensures in
+    (omega (arith, d.0, m.0), m.1, axes d.2 m.2, tt)

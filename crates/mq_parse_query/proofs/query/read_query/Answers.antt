@@ -1,0 +1,22 @@
+use Rattle.std.proofs.Common.{arith}
+use Rattle.std.proofs.lemmas.Result.{err_from_is_err_and}
+use Rattle.mq_parse_expr.proofs.Steps.{exit, as_value}
+use Rattle.mq_parse_query.proofs.QueryLemmas.{query_no_plain, query_no_end, query_whole}
+use Rattle.mq_ast.specs.GrammarModel.{QueryE}
+use Rattle.mq_parse_query.proofs.query.read_query.Goals as goal
+
+pub returns-in_err-plain : goal.returns-in_err-plain
+returns-in_err-plain c =
+    let p = err_from_is_err_and c.from_residual.result c.from_residual.ensures.1 in
+    rw (p.1, p.2) (exit c.in_err-plain.field-0.0 c.in_err-plain.ensures (query_no_plain))
+
+pub returns-in_err-end : goal.returns-in_err-end
+returns-in_err-end c =
+    let p = err_from_is_err_and c.from_residual-in_err-end.result c.from_residual-in_err-end.ensures.1 in
+    rw (p.1, p.2) (exit c.in_err-end.field-0.0 c.in_err-end.ensures (query_no_end c.in_ok-plain.ensures.2 c.in_ok-plain.ensures.3))
+
+pub returns : goal.returns
+returns c =
+    let p = c.in_ok-plain.ensures in
+    let e = c.in_ok-end.ensures in
+    (omega (arith, p.0, e.0), e.1, as_value QueryE c.query_tree.ensures (query_whole p.2 e.2), e.3)

@@ -1,0 +1,5 @@
+pub mod Lists
+pub mod RulePieces
+pub mod HeadPieces
+pub mod ModelPieces
+pub mod PlainPieces

@@ -1,0 +1,105 @@
+//! Lists of columns (docs/LANGUAGE.md, "Queries").
+
+ghost use Rattle.std.specs.Prelude.{◌≡◌, ◌≤◌, length};
+ghost use Rattle.mq_ast.specs.Continuing.{Stops};
+ghost use Rattle.mq_ast.specs.GrammarLists.{SomeOf};
+ghost use Rattle.mq_ast.specs.GrammarQuery.{AliasE, Cols, SelE, sel_of};
+ghost use Rattle.mq_parse_expr.specs.Reading.{Anywhere, Gives};
+ghost use Rattle.mq_parse_query.specs.Lists.{EndsList};
+ghost use Rattle.mq_parse_query.specs.PlainPieces.{SomeName};
+
+use crate::lists::{Listed, read_list};
+use mq_ast::{E, Keyword, Sel, Symbol};
+use mq_lexer::Token;
+use mq_parse_expr::{behind_word, name_at, pass_sign, read_expr, read_name, settled};
+use mq_values::{Fail, Items, Refused, Words};
+use std::alloc::Global;
+
+/// The alias at a place, where one stands there.
+pub(crate) fn read_alias(
+    alloc: Global,
+    t: &[Token<'_>],
+    at: usize,
+) -> Result<(Option<Words>, usize), Fail<Refused>>
+    requires { at ≤ length t.now }
+    ensures { Gives AliasE (Stops 8) t.now at result }
+{
+    if let Some(behind) = behind_word(t, at, Keyword::As) {
+        return read_alias_name(alloc, t, behind);
+    }
+    if let Some(_) = name_at(t, at) {
+        return read_alias_name(alloc, t, at);
+    }
+    settled(t, at, 8)?;
+    Ok((None, at))
+}
+
+// The name of an alias.
+fn read_alias_name(
+    alloc: Global,
+    t: &[Token<'_>],
+    at: usize,
+) -> Result<(Option<Words>, usize), Fail<Refused>>
+    requires { at ≤ length t.now }
+    ensures { Gives SomeName (Stops 8) t.now at result }
+{
+    let (name, to) = read_name(alloc, t, at)?;
+    settled(t, to, 8)?;
+    Ok((Some(name), to))
+}
+
+impl Listed for Sel {
+    ghost use Rattle.mq_ast.specs.Continuing.{Stops};
+    ghost use Rattle.mq_ast.specs.GrammarQuery.{SelE};
+    ghost use Rattle.mq_ast.proofs.OneQuery.{sel_same};
+    ghost use Rattle.std.proofs.Common.{arith, rules};
+
+    type Tree = Sel;
+
+    ghost reads = { SelE };
+
+    ghost stop = { Stops 8 };
+
+    ghost one = { sel_same };
+
+    ghost before_comma = { Prim.search (arith, rules) };
+
+    fn read(alloc: Global, t: &[Token<'_>], at: usize) -> Result<(Sel, usize), Fail<Refused>> {
+        let (e, mid) = read_expr(alloc, t, at)?;
+        let (alias, to) = read_alias(alloc, t, mid)?;
+        Ok((sel_with(e, alias), to))
+    }
+}
+
+fn sel_with(e: E, alias: Option<Words>) -> Sel
+    ensures { result ≡ sel_of e alias }
+{
+    Sel { e, alias }
+}
+
+/// Columns with commas between them.
+pub(crate) fn read_sels(
+    alloc: Global,
+    t: &[Token<'_>],
+    at: usize,
+) -> Result<(Items<Sel>, usize), Fail<Refused>>
+    requires { at ≤ length t.now }
+    ensures { Gives (SomeOf SelE) (EndsList (Stops 8)) t.now at result }
+{
+    read_list::<Sel>(alloc, t, at)
+}
+
+/// Columns between brackets, with commas between them.
+pub(crate) fn read_cols(
+    alloc: Global,
+    t: &[Token<'_>],
+    at: usize,
+) -> Result<(Items<Sel>, usize), Fail<Refused>>
+    requires { at ≤ length t.now }
+    ensures { Gives Cols Anywhere t.now at result }
+{
+    let open = pass_sign(t, at, Symbol::Open)?;
+    let (cols, mid) = read_sels(alloc, t, open)?;
+    let to = pass_sign(t, mid, Symbol::Close)?;
+    Ok((cols, to))
+}

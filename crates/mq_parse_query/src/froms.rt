@@ -1,0 +1,157 @@
+//! The items of FROM (docs/LANGUAGE.md, "Queries").
+
+ghost use Rattle.std.specs.Prelude.{◌≡◌, ◌≤◌, List, Some, None, length, MatchOption};
+ghost use Rattle.mq_ast.specs.Tokens.{Tok};
+ghost use Rattle.mq_ast.specs.Continuing.{Stops};
+ghost use Rattle.mq_ast.specs.GrammarQuery.{FromE, ItemE, item_of};
+ghost use Rattle.mq_parse_expr.specs.Reading.{Gives, from};
+ghost use Rattle.mq_parse_query.specs.PlainPieces.{BareFront, ConditionE, JoinFront, Leads, OnE, OnFront};
+
+use crate::columns::read_alias;
+use crate::lists::{Repeated, read_many};
+use mq_ast::{E, FromItem, Keyword, Symbol};
+use mq_lexer::Token;
+use mq_parse_expr::{behind_sign, behind_word, pass_word, read_expr, read_name, settled};
+use mq_values::{Fail, Items, Refused, Words};
+use std::alloc::Global;
+
+// A table and its alias.
+fn read_item(alloc: Global, t: &[Token<'_>], at: usize) -> Result<(FromItem, usize), Fail<Refused>>
+    requires { at ≤ length t.now }
+    ensures { Gives (ItemE None) (Stops 8) t.now at result }
+{
+    let (table, mid) = read_name(alloc, t, at)?;
+    let (alias, to) = read_alias(alloc, t, mid)?;
+    Ok((bare_item(table, alias), to))
+}
+
+fn bare_item(table: Words, alias: Option<Words>) -> FromItem
+    ensures { result ≡ item_of table alias None }
+{
+    FromItem {
+        table,
+        alias,
+        on: None,
+    }
+}
+
+// ON and a condition.
+fn read_condition(alloc: Global, t: &[Token<'_>], at: usize) -> Result<(E, usize), Fail<Refused>>
+    requires { at ≤ length t.now }
+    ensures { Gives ConditionE (Stops 8) t.now at result }
+{
+    let behind = pass_word(t, at, Keyword::On)?;
+    let (e, to) = read_expr(alloc, t, behind)?;
+    settled(t, to, 8)?;
+    Ok((e, to))
+}
+
+// A table with its alias, and the condition behind it.
+fn read_on_item(
+    alloc: Global,
+    t: &[Token<'_>],
+    at: usize,
+) -> Result<(FromItem, usize), Fail<Refused>>
+    requires { at ≤ length t.now }
+    ensures { Gives OnE (Stops 8) t.now at result }
+{
+    let (bare, mid) = read_item(alloc, t, at)?;
+    let (e, to) = read_condition(alloc, t, mid)?;
+    Ok((with_condition(bare, e), to))
+}
+
+fn with_condition(bare: FromItem, e: E) -> FromItem
+    ensures { result ≡ item_of bare.table bare.alias (Some e) }
+{
+    FromItem {
+        table: bare.table,
+        alias: bare.alias,
+        on: Some(e),
+    }
+}
+
+// The place behind this word and JOIN.
+fn behind_join(t: &[Token<'_>], at: usize, word: Keyword) -> Option<usize>
+    ensures { MatchOption result ((us : List Tok) → JoinFront word (from t.now at) us → ⊥) (Leads (JoinFront word) t.now at) }
+{
+    match behind_word(t, at, word) {
+        Some(join) => behind_word(t, join, Keyword::Join),
+        None => None,
+    }
+}
+
+// The place behind a comma or CROSS JOIN.
+fn bare_front(t: &[Token<'_>], at: usize) -> Option<usize>
+    ensures { MatchOption result ((us : List Tok) → BareFront (from t.now at) us → ⊥) (Leads BareFront t.now at) }
+{
+    match behind_sign(t, at, Symbol::Comma) {
+        Some(to) => Some(to),
+        None => behind_join(t, at, Keyword::Cross),
+    }
+}
+
+// The place behind JOIN, alone or behind INNER.
+fn on_front(t: &[Token<'_>], at: usize) -> Option<usize>
+    ensures { MatchOption result ((us : List Tok) → OnFront (from t.now at) us → ⊥) (Leads OnFront t.now at) }
+{
+    match behind_word(t, at, Keyword::Join) {
+        Some(to) => Some(to),
+        None => behind_join(t, at, Keyword::Inner),
+    }
+}
+
+// The items of FROM behind the first.
+struct Joins;
+
+impl Repeated for Joins {
+    ghost use Rattle.mq_ast.specs.Continuing.{Stops};
+    ghost use Rattle.mq_ast.specs.GrammarQuery.{JoinE};
+    ghost use Rattle.mq_ast.proofs.OneQuery.{join_same, join_begins, join_not_stop};
+    ghost use Rattle.std.proofs.Common.{arith, rules};
+
+    type Tree = FromItem;
+
+    ghost reads = { JoinE };
+
+    ghost stop = { Stops 8 };
+
+    ghost end = { Stops 9 };
+
+    ghost one = { join_same };
+
+    ghost end_stops = { Prim.search (arith, rules) };
+
+    ghost next_stops = { join_begins };
+
+    ghost none_at_end = { join_not_stop };
+
+    fn next(
+        alloc: Global,
+        t: &[Token<'_>],
+        at: usize,
+    ) -> Result<Option<(FromItem, usize)>, Fail<Refused>> {
+        if let Some(behind) = bare_front(t, at) {
+            return Ok(Some(read_item(alloc, t, behind)?));
+        }
+        if let Some(behind) = on_front(t, at) {
+            return Ok(Some(read_on_item(alloc, t, behind)?));
+        }
+        settled(t, at, 9)?;
+        Ok(None)
+    }
+}
+
+/// The items of FROM.
+pub(crate) fn read_from(
+    alloc: Global,
+    t: &[Token<'_>],
+    at: usize,
+) -> Result<(Items<FromItem>, usize), Fail<Refused>>
+    requires { at ≤ length t.now }
+    ensures { Gives FromE (Stops 9) t.now at result }
+{
+    let (first, mid) = read_item(alloc, t, at)?;
+    let (mut all, to) = read_many::<Joins>(alloc, t, mid)?;
+    all.put_first(first)?;
+    Ok((all, to))
+}

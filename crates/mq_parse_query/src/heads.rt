@@ -1,0 +1,430 @@
+//! The parts of a MODEL clause before its rules (docs/LANGUAGE.md, "The MODEL clause").
+
+ghost use Rattle.std.specs.Prelude.{◌≡◌, ◌≢◌, ◌≤◌, ◌+◌, ◌∷◌, length, MatchOption};
+ghost use Rattle.mq_ast.specs.Tokens.{Word, terminal_at};
+ghost use Rattle.mq_ast.specs.Continuing.{Past};
+ghost use Rattle.mq_ast.specs.GrammarModel.{AutoE, MainE, OptE, PartsE, RefE, ReturnE, UntilE, ref_of};
+ghost use Rattle.std.proofs.Common.{arith};
+ghost use Rattle.mq_ast.proofs.OneModel.{opt_same, opt_not_past, ref_not_past, ref_past, ref_same};
+ghost use Rattle.mq_parse_expr.specs.Reading.{Anywhere, Gives, Then, from};
+ghost use Rattle.mq_parse_query.specs.Lists as lists;
+ghost use Rattle.mq_parse_query.specs.HeadPieces.{AutoEnd, Heading, Opens, RoundInt, Ruling, Turning, Iterates, head_of};
+ghost use Rattle.mq_parse_query.specs.ModelPieces.{AxesE, DimsE, Refers, Returns, SourceE, WhichE, first_word, option_of as spec_option, second_word as spec_second};
+
+use crate::columns::read_cols;
+use crate::left::read_plain_end;
+use crate::lists::{Repeated, read_many};
+use crate::rules::{past, read_mode};
+use mq_ast::{E, Keyword, Opt, Plain, RefTree, Sel, Symbol, Terminal};
+use mq_lexer::Token;
+use mq_parse_expr::{behind_word, pass_sign, pass_word, read_int, read_name, read_round, terminal};
+use mq_values::{Fail, Items, Mode, Num, Refused, Words};
+use std::alloc::Global;
+
+// The option that begins with this word.
+fn option_of(terminal: Terminal) -> Option<Opt>
+    ensures { result ≡ spec_option terminal }
+{
+    match terminal {
+        Terminal::Word(word) => match word {
+            Keyword::Ignore => Some(Opt::IgnoreNav),
+            Keyword::Keep => Some(Opt::KeepNav),
+            Keyword::Unique => Some(Opt::UniqueDimension),
+            _ => None,
+        },
+        _ => None,
+    }
+}
+
+// The second word of an option.
+fn second_word(opt: Opt) -> Keyword
+    ensures { result ≡ spec_second opt }
+{
+    match opt {
+        Opt::IgnoreNav | Opt::KeepNav => Keyword::Nav,
+        Opt::UniqueDimension => Keyword::Dimension,
+    }
+}
+
+// The option whose first word stands at a place.
+fn option_at(t: &[Token<'_>], at: usize) -> Option<Opt>
+    ensures { MatchOption result (Past 1 (from t.now at)) (λ o. Then (Word (first_word o)) t.now at (at + 1)) }
+{
+    option_of(terminal(t, at))
+}
+
+// The option at a place, and the place behind it, where one stands there.
+fn next_option(t: &[Token<'_>], at: usize) -> Result<Option<(Opt, usize)>, Fail<Refused>>
+    requires { at ≤ length t.now }
+    ensures { lists.Turns OptE Anywhere (Past 1) t.now at result }
+{
+    match option_at(t, at) {
+        Some(opt) => {
+            let to = pass_word(t, at + 1, second_word(opt))?;
+            Ok(Some((opt, to)))
+        }
+        None => Ok(None),
+    }
+}
+
+impl Repeated for Opt {
+    type Tree = Opt;
+
+    ghost reads = { OptE };
+
+    ghost stop = { Anywhere };
+
+    ghost end = { Past 1 };
+
+    fn next(
+        _alloc: Global,
+        t: &[Token<'_>],
+        at: usize,
+    ) -> Result<Option<(Opt, usize)>, Fail<Refused>> {
+        next_option(t, at)
+    }
+
+    ghost one = { opt_same };
+
+    ghost end_stops = { λ ts s. tt };
+
+    ghost next_stops = { λ a ts to d. tt };
+
+    ghost none_at_end = { opt_not_past };
+}
+
+// ALL or UPDATED.
+fn read_which(t: &[Token<'_>], at: usize) -> Result<(bool, usize), Fail<Refused>>
+    ensures { Gives WhichE Anywhere t.now at result }
+{
+    match behind_word(t, at, Keyword::All) {
+        Some(to) => Ok((false, to)),
+        None => {
+            let to = pass_word(t, at, Keyword::Updated)?;
+            Ok((true, to))
+        }
+    }
+}
+
+// RETURN, behind it.
+fn read_rows(t: &[Token<'_>], at: usize) -> Result<(bool, usize), Fail<Refused>>
+    ensures { Gives Returns (Past 2) t.now at result }
+{
+    let (updated, end) = read_which(t, at)?;
+    let to = pass_word(t, end, Keyword::Rows)?;
+    past(t, to, 2)?;
+    Ok((updated, to))
+}
+
+/// RETURN, where it stands there, and whether UPDATED stands in it.
+pub(crate) fn read_return(t: &[Token<'_>], at: usize) -> Result<(bool, usize), Fail<Refused>>
+    requires { at ≤ length t.now }
+    ensures { Gives ReturnE (Past 2) t.now at result }
+{
+    match behind_word(t, at, Keyword::Return) {
+        Some(behind) => read_rows(t, behind),
+        None => {
+            past(t, at, 2)?;
+            Ok((false, at))
+        }
+    }
+}
+
+// The name of a REFERENCE, and its query between brackets behind ON.
+fn read_source(
+    alloc: Global,
+    t: &[Token<'_>],
+    at: usize,
+) -> Result<((Words, Plain), usize), Fail<Refused>>
+    ensures { Gives SourceE Anywhere t.now at result }
+{
+    let (name, end) = read_name(alloc, t, at)?;
+    let on = pass_word(t, end, Keyword::On)?;
+    let open = pass_sign(t, on, Symbol::Open)?;
+    let (plain, to) = read_plain_end(alloc, t, open)?;
+    Ok(((name, plain), to))
+}
+
+// DIMENSION BY with its columns, and MEASURES.
+fn read_dims(
+    alloc: Global,
+    t: &[Token<'_>],
+    at: usize,
+) -> Result<(Items<Sel>, usize), Fail<Refused>>
+    ensures { Gives DimsE Anywhere t.now at result }
+{
+    let dimension = pass_word(t, at, Keyword::Dimension)?;
+    let by = pass_word(t, dimension, Keyword::By)?;
+    let (dims, end) = read_cols(alloc, t, by)?;
+    let to = pass_word(t, end, Keyword::Measures)?;
+    Ok((dims, to))
+}
+
+/// DIMENSION BY and MEASURES, with their columns.
+pub(crate) fn read_axes(
+    alloc: Global,
+    t: &[Token<'_>],
+    at: usize,
+) -> Result<((Items<Sel>, Items<Sel>), usize), Fail<Refused>>
+    ensures { Gives AxesE Anywhere t.now at result }
+{
+    let (dims, mid) = read_dims(alloc, t, at)?;
+    let (measures, to) = read_cols(alloc, t, mid)?;
+    Ok(((dims, measures), to))
+}
+
+fn ref_tree(source: (Words, Plain), axes: (Items<Sel>, Items<Sel>), opts: Items<Opt>) -> RefTree
+    ensures { result ≡ ref_of source.0 source.1 axes.0 axes.1 opts }
+{
+    let (name, query) = source;
+    let (dims, measures) = axes;
+    RefTree {
+        name,
+        query,
+        dims,
+        measures,
+        opts,
+    }
+}
+
+// A REFERENCE, behind its word.
+fn read_ref(alloc: Global, t: &[Token<'_>], at: usize) -> Result<(RefTree, usize), Fail<Refused>>
+    ensures { Gives Refers (Past 1) t.now at result }
+{
+    let (source, mid) = read_source(alloc, t, at)?;
+    let (axes, next) = read_axes(alloc, t, mid)?;
+    let (opts, to) = read_many::<Opt>(alloc, t, next)?;
+    Ok((ref_tree(source, axes, opts), to))
+}
+
+// The reference at a place, and the place behind it, where one stands there.
+fn next_ref(
+    alloc: Global,
+    t: &[Token<'_>],
+    at: usize,
+) -> Result<Option<(RefTree, usize)>, Fail<Refused>>
+    requires { at ≤ length t.now }
+    ensures { lists.Turns RefE (Past 1) (Past 3) t.now at result }
+{
+    match behind_word(t, at, Keyword::Reference) {
+        Some(behind) => {
+            let (found, to) = read_ref(alloc, t, behind)?;
+            Ok(Some((found, to)))
+        }
+        None => {
+            past(t, at, 3)?;
+            Ok(None)
+        }
+    }
+}
+
+impl Repeated for RefTree {
+    type Tree = RefTree;
+
+    ghost reads = { RefE };
+
+    ghost stop = { Past 1 };
+
+    ghost end = { Past 3 };
+
+    fn next(
+        alloc: Global,
+        t: &[Token<'_>],
+        at: usize,
+    ) -> Result<Option<(RefTree, usize)>, Fail<Refused>> {
+        next_ref(alloc, t, at)
+    }
+
+    ghost one = { ref_same };
+
+    ghost end_stops = { λ ts s. Prim.omega arith };
+
+    ghost next_stops = { ref_past };
+
+    ghost none_at_end = { ref_not_past };
+}
+
+/// The name behind MAIN, where it stands there.
+pub(crate) fn read_main(
+    alloc: Global,
+    t: &[Token<'_>],
+    at: usize,
+) -> Result<(Option<Words>, usize), Fail<Refused>>
+    requires { at ≤ length t.now }
+    ensures { Gives MainE (Past 4) t.now at result }
+{
+    match behind_word(t, at, Keyword::Main) {
+        Some(behind) => {
+            let (name, to) = read_name(alloc, t, behind)?;
+            past(t, to, 4)?;
+            Ok((Some(name), to))
+        }
+        None => {
+            past(t, at, 4)?;
+            Ok((None, at))
+        }
+    }
+}
+
+/// The columns of PARTITION BY, where it stands there.
+pub(crate) fn read_parts(
+    alloc: Global,
+    t: &[Token<'_>],
+    at: usize,
+) -> Result<(Items<Sel>, usize), Fail<Refused>>
+    requires { at ≤ length t.now }
+    ensures { Gives PartsE (Past 5) t.now at result }
+{
+    match behind_word(t, at, Keyword::Partition) {
+        Some(partition) => {
+            let by = pass_word(t, partition, Keyword::By)?;
+            let (parts, to) = read_cols(alloc, t, by)?;
+            past(t, to, 5)?;
+            Ok((parts, to))
+        }
+        None => {
+            past(t, at, 5)?;
+            Ok((Items::new(alloc), at))
+        }
+    }
+}
+
+// ORDER, behind AUTOMATIC or SEQUENTIAL.
+fn read_auto_end(t: &[Token<'_>], at: usize, auto: bool) -> Result<(bool, usize), Fail<Refused>>
+    ensures { Gives (AutoEnd auto) (Past 7) t.now at result }
+{
+    let to = pass_word(t, at, Keyword::Order)?;
+    past(t, to, 7)?;
+    Ok((auto, to))
+}
+
+// The order of the rules, where it stands there: whether it is AUTOMATIC.
+fn read_auto(t: &[Token<'_>], at: usize) -> Result<(bool, usize), Fail<Refused>>
+    requires { at ≤ length t.now }
+    ensures { Gives AutoE (Past 7) t.now at result }
+{
+    if let Some(behind) = behind_word(t, at, Keyword::Automatic) {
+        return read_auto_end(t, behind, true);
+    }
+    match behind_word(t, at, Keyword::Sequential) {
+        Some(behind) => read_auto_end(t, behind, false),
+        None => {
+            past(t, at, 7)?;
+            Ok((false, at))
+        }
+    }
+}
+
+// The condition of UNTIL, where it stands there.
+fn read_until(
+    alloc: Global,
+    t: &[Token<'_>],
+    at: usize,
+) -> Result<(Option<E>, usize), Fail<Refused>>
+    requires { at ≤ length t.now }
+    ensures { Gives UntilE (Past 9) t.now at result }
+{
+    match behind_word(t, at, Keyword::Until) {
+        Some(behind) => {
+            let (e, to) = read_round(alloc, t, behind)?;
+            past(t, to, 9)?;
+            Ok((Some(e), to))
+        }
+        None => {
+            past(t, at, 9)?;
+            Ok((None, at))
+        }
+    }
+}
+
+// A number without a point between brackets.
+fn read_round_int(t: &[Token<'_>], at: usize) -> Result<(Num, usize), Fail<Refused>>
+    ensures { Gives RoundInt Anywhere t.now at result }
+{
+    let open = pass_sign(t, at, Symbol::Open)?;
+    let (number, end) = read_int(t, open)?;
+    let to = pass_sign(t, end, Symbol::Close)?;
+    Ok((number, to))
+}
+
+// ITERATE, behind it.
+fn read_turns(
+    alloc: Global,
+    t: &[Token<'_>],
+    at: usize,
+) -> Result<((Option<Num>, Option<E>), usize), Fail<Refused>>
+    ensures { Gives Iterates (Past 9) t.now at result }
+{
+    let (number, mid) = read_round_int(t, at)?;
+    let (until, to) = read_until(alloc, t, mid)?;
+    Ok(((Some(number), until), to))
+}
+
+// ITERATE with its UNTIL, where it stands there.
+fn read_iterate(
+    alloc: Global,
+    t: &[Token<'_>],
+    at: usize,
+) -> Result<((Option<Num>, Option<E>), usize), Fail<Refused>>
+    requires { at ≤ length t.now }
+    ensures { Gives Turning (Past 9) t.now at result }
+{
+    match behind_word(t, at, Keyword::Iterate) {
+        Some(behind) => read_turns(alloc, t, behind),
+        None => {
+            past(t, at, 9)?;
+            Ok(((None, None), at))
+        }
+    }
+}
+
+/// What stands before the rules: the mode, whether their order is AUTOMATIC, ITERATE and UNTIL.
+#[derive(Drop)]
+pub(crate) struct Head {
+    pub(crate) mode: Option<Mode>,
+    pub(crate) auto: bool,
+    pub(crate) iterate: Option<Num>,
+    pub(crate) until: Option<E>,
+}
+
+fn head_from(mode: Option<Mode>, auto: bool, iterate: (Option<Num>, Option<E>)) -> Head
+    ensures { result ≡ head_of mode auto iterate }
+{
+    let (iterate, until) = iterate;
+    Head {
+        mode,
+        auto,
+        iterate,
+        until,
+    }
+}
+
+// RULES, behind it.
+fn read_ruling(alloc: Global, t: &[Token<'_>], at: usize) -> Result<(Head, usize), Fail<Refused>>
+    requires { at ≤ length t.now }
+    ensures { Gives Ruling Opens t.now at result }
+{
+    let (mode, mid) = read_mode(t, at)?;
+    let (auto, next) = read_auto(t, mid)?;
+    let (iterate, to) = read_iterate(alloc, t, next)?;
+    pass_sign(t, to, Symbol::Open)?;
+    Ok((head_from(mode, auto, iterate), to))
+}
+
+/// RULES, where it stands there, up to the opening bracket of the rules.
+pub(crate) fn read_head(
+    alloc: Global,
+    t: &[Token<'_>],
+    at: usize,
+) -> Result<(Head, usize), Fail<Refused>>
+    requires { at ≤ length t.now }
+    ensures { Gives Heading Opens t.now at result }
+{
+    match behind_word(t, at, Keyword::Rules) {
+        Some(behind) => read_ruling(alloc, t, behind),
+        None => {
+            pass_sign(t, at, Symbol::Open)?;
+            Ok((head_from(None, false, (None, None)), at))
+        }
+    }
+}

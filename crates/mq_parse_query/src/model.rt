@@ -1,0 +1,145 @@
+//! The MODEL clause (docs/LANGUAGE.md, "The MODEL clause").
+
+ghost use Rattle.std.specs.Prelude.{◌≡◌, ◌≤◌, length};
+ghost use Rattle.mq_ast.specs.Continuing.{Past};
+ghost use Rattle.mq_ast.specs.GrammarModel.{ModelE};
+ghost use Rattle.mq_parse_expr.specs.Reading.{Anywhere, Gives};
+ghost use Rattle.mq_parse_query.specs.ModelPieces.{BodyE, FrontE, Modelling, TailE, model_of};
+
+use crate::heads::{Head, read_axes, read_head, read_main, read_parts, read_return};
+use crate::lists::read_many;
+use crate::rules::read_rules;
+use mq_ast::{Keyword, ModelTree, Opt, RefTree, RuleTree, Sel};
+use mq_lexer::Token;
+use mq_parse_expr::behind_word;
+use mq_values::{Fail, Items, Refused, Words};
+use std::alloc::Global;
+
+/// The options of a MODEL clause, whether RETURN UPDATED stands there, and its references.
+#[derive(Drop)]
+pub(crate) struct Front {
+    pub(crate) opts: Items<Opt>,
+    pub(crate) updated: bool,
+    pub(crate) refs: Items<RefTree>,
+}
+
+/// The name behind MAIN, the columns of PARTITION BY, and those of DIMENSION BY and MEASURES.
+#[derive(Drop)]
+pub(crate) struct Body {
+    pub(crate) main: Option<Words>,
+    pub(crate) parts: Items<Sel>,
+    pub(crate) axes: (Items<Sel>, Items<Sel>),
+}
+
+/// The options behind MEASURES, and the rules with what stands before them.
+#[derive(Drop)]
+pub(crate) struct Tail {
+    pub(crate) opts: Items<Opt>,
+    pub(crate) head: Head,
+    pub(crate) rules: Items<RuleTree>,
+}
+
+fn read_front(alloc: Global, t: &[Token<'_>], at: usize) -> Result<(Front, usize), Fail<Refused>>
+    requires { at ≤ length t.now }
+    ensures { Gives FrontE (Past 3) t.now at result }
+{
+    let (opts, mid) = read_many::<Opt>(alloc, t, at)?;
+    let (updated, next) = read_return(t, mid)?;
+    let (refs, to) = read_many::<RefTree>(alloc, t, next)?;
+    Ok((
+        Front {
+            opts,
+            updated,
+            refs,
+        },
+        to,
+    ))
+}
+
+fn read_body(alloc: Global, t: &[Token<'_>], at: usize) -> Result<(Body, usize), Fail<Refused>>
+    requires { at ≤ length t.now }
+    ensures { Gives BodyE Anywhere t.now at result }
+{
+    let (main, mid) = read_main(alloc, t, at)?;
+    let (parts, next) = read_parts(alloc, t, mid)?;
+    let (axes, to) = read_axes(alloc, t, next)?;
+    Ok((Body { main, parts, axes }, to))
+}
+
+fn read_tail(alloc: Global, t: &[Token<'_>], at: usize) -> Result<(Tail, usize), Fail<Refused>>
+    requires { at ≤ length t.now }
+    ensures { Gives TailE Anywhere t.now at result }
+{
+    let (opts, mid) = read_many::<Opt>(alloc, t, at)?;
+    let (head, next) = read_head(alloc, t, mid)?;
+    let (rules, to) = read_rules(alloc, t, next)?;
+    Ok((Tail { opts, head, rules }, to))
+}
+
+fn model_tree(front: Front, body: Body, tail: Tail) -> ModelTree
+    ensures { result ≡ model_of front body tail }
+{
+    let Front {
+        opts,
+        updated,
+        refs,
+    } = front;
+    let Body { main, parts, axes } = body;
+    let (dims, measures) = axes;
+    let Tail {
+        opts: main_opts,
+        head,
+        rules,
+    } = tail;
+    let Head {
+        mode,
+        auto,
+        iterate,
+        until,
+    } = head;
+    ModelTree {
+        opts,
+        main_opts,
+        updated_only: updated,
+        refs,
+        main,
+        parts,
+        dims,
+        measures,
+        mode,
+        auto,
+        iterate,
+        until,
+        rules,
+    }
+}
+
+// A MODEL clause, behind its word.
+fn read_modelling(
+    alloc: Global,
+    t: &[Token<'_>],
+    at: usize,
+) -> Result<(ModelTree, usize), Fail<Refused>>
+    requires { at ≤ length t.now }
+    ensures { Gives Modelling Anywhere t.now at result }
+{
+    let (front, mid) = read_front(alloc, t, at)?;
+    let (body, next) = read_body(alloc, t, mid)?;
+    let (tail, to) = read_tail(alloc, t, next)?;
+    Ok((model_tree(front, body, tail), to))
+}
+
+/// A MODEL clause.
+pub(crate) fn read_model(
+    alloc: Global,
+    t: &[Token<'_>],
+    at: usize,
+) -> Result<(ModelTree, usize), Fail<Refused>>
+    requires { at ≤ length t.now }
+    ensures { Gives ModelE Anywhere t.now at result }
+{
+    match behind_word(t, at, Keyword::Model) {
+        Some(behind) => read_modelling(alloc, t, behind),
+        None => Err(Fail::Cause(Refused::Syntax)),
+    }
+}

@@ -1,0 +1,166 @@
+//! The plain part of a query (docs/LANGUAGE.md, "Queries").
+
+ghost use Rattle.std.specs.Prelude.{◌≡◌, ◌≤◌, true, false, [], length};
+ghost use Rattle.mq_ast.specs.Continuing.{Stops};
+ghost use Rattle.mq_ast.specs.GrammarQuery.{GroupE, PlainE, WhereE, plain_of};
+ghost use Rattle.mq_parse_expr.specs.Reading.{Anywhere, Gives};
+ghost use Rattle.mq_parse_query.specs.PlainPieces.{ShownE, SourceE, shown_of, source_of};
+
+use crate::columns::read_sels;
+use crate::froms::read_from;
+use crate::lists::{Listed, read_list};
+use mq_ast::{E, FromItem, Keyword, Path, Plain, Sel, Symbol};
+use mq_lexer::Token;
+use mq_parse_expr::{behind_sign, behind_word, pass_word, read_expr, read_path, settled};
+use mq_values::{Fail, Items, ProdOp, Refused};
+use std::alloc::Global;
+
+/// The condition behind WHERE, where one stands there.
+pub fn read_where(
+    alloc: Global,
+    t: &[Token<'_>],
+    at: usize,
+) -> Result<(Option<E>, usize), Fail<Refused>>
+    requires { at ≤ length t.now }
+    ensures { Gives WhereE (Stops 10) t.now at result }
+{
+    let Some(behind) = behind_word(t, at, Keyword::Where) else {
+        settled(t, at, 10)?;
+        return Ok((None, at));
+    };
+    let (e, to) = read_expr(alloc, t, behind)?;
+    settled(t, to, 10)?;
+    Ok((Some(e), to))
+}
+
+impl Listed for Path {
+    ghost use Rattle.mq_ast.specs.Continuing.{Stops};
+    ghost use Rattle.mq_ast.specs.GrammarNames.{PathE};
+    ghost use Rattle.mq_ast.proofs.OneQuery.{path_one};
+    ghost use Rattle.std.proofs.Common.{arith, rules};
+
+    type Tree = Path;
+
+    ghost reads = { PathE };
+
+    ghost stop = { Stops 1 };
+
+    ghost one = { path_one };
+
+    ghost before_comma = { Prim.search (arith, rules) };
+
+    fn read(alloc: Global, t: &[Token<'_>], at: usize) -> Result<(Path, usize), Fail<Refused>> {
+        read_path(alloc, t, at)
+    }
+}
+
+// The paths of GROUP BY, where it stands there.
+fn read_group(
+    alloc: Global,
+    t: &[Token<'_>],
+    at: usize,
+) -> Result<(Items<Path>, usize), Fail<Refused>>
+    requires { at ≤ length t.now }
+    ensures { Gives GroupE (Stops 11) t.now at result }
+{
+    let Some(group) = behind_word(t, at, Keyword::Group) else {
+        settled(t, at, 11)?;
+        return Ok((Items::new(alloc), at));
+    };
+    let by = pass_word(t, group, Keyword::By)?;
+    let (paths, to) = read_list::<Path>(alloc, t, by)?;
+    settled(t, to, 11)?;
+    Ok((paths, to))
+}
+
+/// What a query shows: all columns, or these.
+#[derive(Drop)]
+pub(crate) struct Shown {
+    pub(crate) star: bool,
+    pub(crate) sels: Items<Sel>,
+}
+
+fn all_columns(alloc: Global) -> Shown
+    ensures { result ≡ shown_of true [] }
+{
+    Shown {
+        star: true,
+        sels: Items::new(alloc),
+    }
+}
+
+fn these(sels: Items<Sel>) -> Shown
+    ensures { result ≡ shown_of false sels }
+{
+    Shown { star: false, sels }
+}
+
+// What stands between SELECT and FROM, with FROM.
+fn read_shown(alloc: Global, t: &[Token<'_>], at: usize) -> Result<(Shown, usize), Fail<Refused>>
+    requires { at ≤ length t.now }
+    ensures { Gives ShownE Anywhere t.now at result }
+{
+    if let Some(star) = behind_sign(t, at, Symbol::Prod(ProdOp::Mul)) {
+        let to = pass_word(t, star, Keyword::From)?;
+        return Ok((all_columns(alloc), to));
+    }
+    let (sels, mid) = read_sels(alloc, t, at)?;
+    let to = pass_word(t, mid, Keyword::From)?;
+    Ok((these(sels), to))
+}
+
+/// Which rows a query takes, and their groups.
+#[derive(Drop)]
+pub(crate) struct Source {
+    pub(crate) froms: Items<FromItem>,
+    pub(crate) filter: Option<E>,
+    pub(crate) group: Items<Path>,
+}
+
+fn source_with(froms: Items<FromItem>, filter: Option<E>, group: Items<Path>) -> Source
+    ensures { result ≡ source_of froms filter group }
+{
+    Source {
+        froms,
+        filter,
+        group,
+    }
+}
+
+// What stands behind FROM.
+fn read_source(alloc: Global, t: &[Token<'_>], at: usize) -> Result<(Source, usize), Fail<Refused>>
+    requires { at ≤ length t.now }
+    ensures { Gives SourceE (Stops 11) t.now at result }
+{
+    let (froms, mid) = read_from(alloc, t, at)?;
+    let (filter, last) = read_where(alloc, t, mid)?;
+    let (group, to) = read_group(alloc, t, last)?;
+    Ok((source_with(froms, filter, group), to))
+}
+
+fn plain_with(shown: Shown, source: Source) -> Plain
+    ensures { result ≡ plain_of shown.star shown.sels source.froms source.filter source.group }
+{
+    Plain {
+        star: shown.star,
+        sels: shown.sels,
+        froms: source.froms,
+        filter: source.filter,
+        group: source.group,
+    }
+}
+
+/// SELECT with FROM, WHERE and GROUP BY.
+pub(crate) fn read_plain(
+    alloc: Global,
+    t: &[Token<'_>],
+    at: usize,
+) -> Result<(Plain, usize), Fail<Refused>>
+    requires { at ≤ length t.now }
+    ensures { Gives PlainE (Stops 11) t.now at result }
+{
+    let select = pass_word(t, at, Keyword::Select)?;
+    let (shown, mid) = read_shown(alloc, t, select)?;
+    let (source, to) = read_source(alloc, t, mid)?;
+    Ok((plain_with(shown, source), to))
+}

@@ -1,0 +1,79 @@
+//! Whole queries (docs/LANGUAGE.md, "Queries").
+
+ghost use Rattle.std.specs.Prelude.{◌≡◌, ◌≤◌, length};
+ghost use Rattle.mq_ast.specs.Continuing.{Stops};
+ghost use Rattle.mq_ast.specs.GrammarQuery.{OrderE};
+ghost use Rattle.mq_ast.specs.GrammarModel.{QueryE, query_of};
+ghost use Rattle.mq_parse_expr.specs.Reading.{Gives};
+ghost use Rattle.mq_parse_query.specs.ModelPieces.{EndE};
+
+use crate::model::read_model;
+use crate::order::read_order;
+use crate::plain::read_plain;
+use mq_ast::{Keyword, ModelTree, OrderKey, Plain, Query};
+use mq_lexer::Token;
+use mq_parse_expr::{behind_word, settled};
+use mq_values::{Fail, Items, Refused};
+use std::alloc::Global;
+
+// The keys of ORDER BY, where it stands there, up to a place where no token stands that goes on.
+fn read_last(
+    alloc: Global,
+    t: &[Token<'_>],
+    at: usize,
+) -> Result<(Items<OrderKey>, usize), Fail<Refused>>
+    requires { at ≤ length t.now }
+    ensures { Gives OrderE (Stops 12) t.now at result }
+{
+    let (order, to) = read_order(alloc, t, at)?;
+    settled(t, to, 12)?;
+    Ok((order, to))
+}
+
+// What stands behind the plain part of a query.
+fn read_end(
+    alloc: Global,
+    t: &[Token<'_>],
+    at: usize,
+) -> Result<((Option<ModelTree>, Items<OrderKey>), usize), Fail<Refused>>
+    requires { at ≤ length t.now }
+    ensures { Gives EndE (Stops 12) t.now at result }
+{
+    match behind_word(t, at, Keyword::Model) {
+        Some(_) => {
+            let (model, mid) = read_model(alloc, t, at)?;
+            let (order, to) = read_last(alloc, t, mid)?;
+            Ok(((Some(model), order), to))
+        }
+        None => {
+            let (order, to) = read_last(alloc, t, at)?;
+            Ok(((None, order), to))
+        }
+    }
+}
+
+fn query_tree(plain: Plain, end: (Option<ModelTree>, Items<OrderKey>)) -> Query
+    ensures { result ≡ query_of plain end.0 end.1 }
+{
+    let (model, order) = end;
+    Query {
+        plain,
+        model,
+        order,
+    }
+}
+
+/// A query: its plain part, its MODEL clause and its ORDER BY, up to a place where no token stands that goes on.
+/// SYNTAX exactly where there is no such query.
+pub fn read_query(
+    alloc: Global,
+    t: &[Token<'_>],
+    at: usize,
+) -> Result<(Query, usize), Fail<Refused>>
+    requires { at ≤ length t.now }
+    ensures { Gives QueryE (Stops 12) t.now at result }
+{
+    let (plain, mid) = read_plain(alloc, t, at)?;
+    let (end, to) = read_end(alloc, t, mid)?;
+    Ok((query_tree(plain, end), to))
+}

@@ -1,0 +1,173 @@
+//! The rules of a MODEL clause (docs/LANGUAGE.md, "The MODEL clause").
+
+ghost use Rattle.std.specs.Prelude.{◌≡◌, ◌≤◌, ◌<◌, length, MatchResult};
+ghost use Rattle.mq_ast.specs.Tokens.{terminal_at};
+ghost use Rattle.mq_ast.specs.Continuing.{Past, Stops, part};
+ghost use Rattle.mq_ast.specs.GrammarRule.{MaybeMode, RuleE, RuleList, rule_of};
+ghost use Rattle.mq_parse_expr.specs.Reading.{Anywhere, Fails, Gives, from};
+ghost use Rattle.mq_parse_query.specs.RulePieces.{RuleFront, RuleRight, Upserts};
+ghost use Rattle.std.proofs.Common.{arith};
+ghost use Rattle.mq_ast.proofs.OneRule.{rule_same};
+
+use crate::left::{read_closed, read_left};
+use crate::lists::Listed;
+use crate::order::read_order;
+use mq_ast::{E, Keyword, LeftTree, OrderKey, RuleTree, Symbol, Terminal};
+use mq_lexer::Token;
+use mq_parse_expr::{behind_sign, behind_word, pass_sign, read_expr, read_name, terminal};
+use mq_values::{CmpOp, Fail, Items, Mode, Refused, Words};
+use std::alloc::Global;
+
+// The number of the part of a MODEL clause that begins so (docs/LANGUAGE.md, "The MODEL clause").
+fn part_of(terminal: Terminal) -> u8
+    ensures { result ≡ part terminal }
+{
+    match terminal {
+        Terminal::Word(word) => match word {
+            Keyword::Ignore | Keyword::Keep | Keyword::Unique => 1,
+            Keyword::Return => 2,
+            Keyword::Reference => 3,
+            Keyword::Main => 4,
+            Keyword::Partition => 5,
+            Keyword::Update | Keyword::Upsert | Keyword::All => 6,
+            Keyword::Automatic | Keyword::Sequential => 7,
+            Keyword::Iterate => 8,
+            Keyword::Until => 9,
+            _ => 10,
+        },
+        _ => 10,
+    }
+}
+
+/// Nothing, where no part of a MODEL clause up to this one begins at the place; else SYNTAX.
+pub(crate) fn past(t: &[Token<'_>], at: usize, last: u8) -> Result<(), Fail<Refused>>
+    ensures { MatchResult result (λ _. Past last (from t.now at)) (λ f. Fails f (part (terminal_at (from t.now at)) ≤ last)) }
+{
+    if part_of(terminal(t, at)) > last {
+        Ok(())
+    } else {
+        Err(Fail::Cause(Refused::Syntax))
+    }
+}
+
+// UPSERT with ALL or without it, behind UPSERT.
+fn read_upsert(t: &[Token<'_>], at: usize) -> Result<(Option<Mode>, usize), Fail<Refused>>
+    requires { at ≤ length t.now }
+    ensures { Gives Upserts (Past 6) t.now at result }
+{
+    match behind_word(t, at, Keyword::All) {
+        Some(to) => {
+            past(t, to, 6)?;
+            Ok((Some(Mode::UpsertAll), to))
+        }
+        None => {
+            past(t, at, 6)?;
+            Ok((Some(Mode::Upsert), at))
+        }
+    }
+}
+
+/// A mode, where one stands there.
+pub(crate) fn read_mode(t: &[Token<'_>], at: usize) -> Result<(Option<Mode>, usize), Fail<Refused>>
+    requires { at ≤ length t.now }
+    ensures { Gives MaybeMode (Past 6) t.now at result }
+{
+    if let Some(to) = behind_word(t, at, Keyword::Update) {
+        past(t, to, 6)?;
+        return Ok((Some(Mode::Update), to));
+    }
+    match behind_word(t, at, Keyword::Upsert) {
+        Some(behind) => read_upsert(t, behind),
+        None => {
+            past(t, at, 6)?;
+            Ok((None, at))
+        }
+    }
+}
+
+// The mode, the measure and the opening square bracket of a rule.
+fn read_front(
+    alloc: Global,
+    t: &[Token<'_>],
+    at: usize,
+) -> Result<((Option<Mode>, Words), usize), Fail<Refused>>
+    requires { at ≤ length t.now }
+    ensures { Gives RuleFront Anywhere t.now at result }
+{
+    let (mode, mid) = read_mode(t, at)?;
+    let (measure, end) = read_name(alloc, t, mid)?;
+    let to = pass_sign(t, end, Symbol::OpenSquare)?;
+    Ok(((mode, measure), to))
+}
+
+// The order and the right side of a rule, with the equal sign between them.
+fn read_right(
+    alloc: Global,
+    t: &[Token<'_>],
+    at: usize,
+) -> Result<((Items<OrderKey>, E), usize), Fail<Refused>>
+    requires { at ≤ length t.now }
+    ensures { Gives RuleRight (Stops 7) t.now at result }
+{
+    let (order, end) = read_order(alloc, t, at)?;
+    let behind = pass_sign(t, end, Symbol::Cmp(CmpOp::Eq))?;
+    let (right, to) = read_expr(alloc, t, behind)?;
+    Ok(((order, right), to))
+}
+
+fn rule_tree(front: (Option<Mode>, Words), left: LeftTree, right: (Items<OrderKey>, E)) -> RuleTree
+    ensures { result ≡ rule_of front.0 front.1 left right.0 right.1 }
+{
+    let (mode, measure) = front;
+    let (order, right) = right;
+    RuleTree {
+        mode,
+        measure,
+        left,
+        order,
+        right,
+    }
+}
+
+// A rule.
+fn read_rule(alloc: Global, t: &[Token<'_>], at: usize) -> Result<(RuleTree, usize), Fail<Refused>>
+    requires { at ≤ length t.now }
+    ensures { Gives RuleE (Stops 7) t.now at result }
+{
+    let (front, mid) = read_front(alloc, t, at)?;
+    let (left, next) = read_left(alloc, t, mid)?;
+    let (right, to) = read_right(alloc, t, next)?;
+    Ok((rule_tree(front, left, right), to))
+}
+
+impl Listed for RuleTree {
+    type Tree = RuleTree;
+
+    ghost reads = { RuleE };
+
+    ghost stop = { Stops 7 };
+
+    fn read(alloc: Global, t: &[Token<'_>], at: usize) -> Result<(RuleTree, usize), Fail<Refused>> {
+        read_rule(alloc, t, at)
+    }
+
+    ghost one = { rule_same };
+
+    ghost before_comma = { λ ts. Prim.omega arith };
+}
+
+/// The rules between brackets, with commas between them; the brackets may be empty.
+pub(crate) fn read_rules(
+    alloc: Global,
+    t: &[Token<'_>],
+    at: usize,
+) -> Result<(Items<RuleTree>, usize), Fail<Refused>>
+    requires { at ≤ length t.now }
+    ensures { Gives RuleList Anywhere t.now at result }
+{
+    let open = pass_sign(t, at, Symbol::Open)?;
+    match behind_sign(t, open, Symbol::Close) {
+        Some(to) => Ok((Items::new(alloc), to)),
+        None => read_closed::<RuleTree>(alloc, t, open, Symbol::Close),
+    }
+}
