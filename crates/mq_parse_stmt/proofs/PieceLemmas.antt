@@ -1,0 +1,154 @@
+-- Where a part of a statement reads nothing, by its parts.
+use Rattle.std.proofs.Common.{◌≡◌, ℕ, ◌≤◌, List, ◌∷◌, refl, ap, arith}
+use Rattle.std.specs.Prelude.{Option}
+use Rattle.mq_values.specs.declared.value.Kind.{Kind}
+use Rattle.mq_ast.specs.declared.expressions.E.{E}
+use Rattle.mq_ast.specs.declared.statements.ColDef.{ColDef}
+use Rattle.mq_ast.specs.declared.terminals.Keyword.{Keyword}
+use Rattle.mq_ast.specs.declared.terminals.Keyword.TheVariants as word
+use Rattle.mq_ast.specs.declared.terminals.Symbol.TheVariants as sign
+use Rattle.mq_values.specs.declared.operators.CmpOp.TheVariants as cmp
+use Rattle.mq_ast.specs.declared.terminals.Terminal.TheVariants as terminal
+use Rattle.mq_ast.specs.Tokens.{Tok, Word, Name, Text, terminal_at, opener, comma, equal}
+use Rattle.mq_ast.specs.Continuing.{loose, Stops, Not, EndsCols}
+use Rattle.mq_ast.specs.GrammarNames.{KindE}
+use Rattle.mq_ast.specs.GrammarLists.{SomeOf, some_of, MoreOf, more_end, more_comma, NameE, name}
+use Rattle.mq_ast.specs.GrammarExpression.{Expr}
+use Rattle.mq_ast.specs.GrammarQuery.{WhereE}
+use Rattle.mq_ast.specs.GrammarStatement.{NotNullE, null_may, null_not, ColE, col, NamesE, names, PrimaryE, primary_none, primary_some, names_none, names_some, SetE, set}
+use Rattle.mq_ast.proofs.Common.{begin}
+use Rattle.mq_ast.proofs.OneExpression.{kind_same}
+use Rattle.mq_ast.proofs.OneList.{names_same, stops_not}
+use Rattle.mq_ast.proofs.OneQuery.{where_same, where_stop}
+use Rattle.mq_ast.proofs.OneStatement.{col_same, cols_of_same, names_of_same, primary_ends, primary_same, sets_same}
+use Rattle.mq_parse_expr.specs.Names.{TextE, txt}
+use Rattle.mq_parse_expr.specs.Reading.{No, Anywhere}
+use Rattle.mq_parse_query.specs.Lists.{EndsList}
+use Rattle.mq_parse_stmt.specs.Pieces.{WordName, word_name, KeyEnd, KeyBehind, Body, body, NamesValues, Changes, changes}
+
+-- a name behind a word, and a text
+pub word_named : {k : Keyword} {n : List ℕ} {ts to : List Tok} → WordName k n ts to → ts ≡ Word k ∷ Name n ∷ to
+word_named word_name = refl
+
+pub texted : {z : List ℕ} {ts to : List Tok} → TextE z ts to → ts ≡ Text z ∷ to
+texted txt = refl
+
+pub word_name_no_word : {k : Keyword} {ts : List Tok} → Not (terminal.Word k) ts → No (WordName k) Anywhere ts
+word_name_no_word n a to word_name s = n refl
+
+pub word_name_no_name : {j k : Keyword} {ts : List Tok} → No NameE Anywhere ts → No (WordName k) Anywhere (Word j ∷ ts)
+word_name_no_name h a to word_name s = h _ _ name tt
+
+-- names between brackets
+pub names_no_open : {ts : List Tok} → Not (terminal.Sign sign.Open) ts → No NamesE Anywhere ts
+names_no_open n a to (names d) s = n refl
+
+pub names_no_list : {ts : List Tok} → No (SomeOf NameE) (EndsList Anywhere) ts → No NamesE Anywhere (opener ∷ ts)
+names_no_list h a to (names d) s = h _ _ d (tt, λ e. cc)
+
+pub names_no_close : {ns : List (List ℕ)} {ts mid : List Tok} → SomeOf NameE ns ts mid → EndsList Anywhere mid → Not (terminal.Sign sign.Close) mid → No NamesE Anywhere (opener ∷ ts)
+names_no_close e r n a to (names d) s = let p = names_same e d r.1 (λ e. cc) in n (ap terminal_at p.1)
+
+-- [NOT NULL]
+pub null_no_null : {ts : List Tok} → Not (terminal.Word word.Null) ts → No NotNullE (Stops 7) (Word word.Not ∷ ts)
+null_no_null n a to null_may s = absurd (omega arith)
+null_no_null n a to null_not s = n refl
+
+pub null_no_end : {ts : List Tok} → loose (terminal_at ts) ≤ 7 → No NotNullE (Stops 7) (Word word.Not ∷ Word word.Null ∷ ts)
+null_no_end l a to null_may s = absurd (omega arith)
+null_no_end l a to null_not s = absurd (omega arith)
+
+pub null_no_plain : {ts : List Tok} → Not (terminal.Word word.Not) ts → loose (terminal_at ts) ≤ 7 → No NotNullE (Stops 7) ts
+null_no_plain n l a to null_may s = absurd (omega arith)
+null_no_plain n l a to null_not s = n refl
+
+-- a column
+pub col_no_name : {ts : List Tok} → No NameE Anywhere ts → No ColE (Stops 7) ts
+col_no_name h a to (col k b) s = h _ _ name tt
+
+pub col_no_kind : {n : List ℕ} {ts : List Tok} → No KindE Anywhere ts → No ColE (Stops 7) (Name n ∷ ts)
+col_no_kind h a to (col k b) s = h _ _ k tt
+
+pub col_no_null : {n : List ℕ} {k : Kind} {ts mid : List Tok} → KindE k ts mid → No NotNullE (Stops 7) mid → No ColE (Stops 7) (Name n ∷ ts)
+col_no_null e h a to (col k b) s = let p = kind_same e k in h _ _ (begin NotNullE p.1 b) s
+
+-- columns, up to a comma before PRIMARY
+cols_stop : {cs : List ColDef} {from to : List Tok} → MoreOf ColE cs from to → EndsCols to → Stops 7 from
+cols_stop more_end s = s.0
+cols_stop (more_comma d ds) s = omega arith
+
+pub cols_no_first : {ts : List Tok} → No ColE (Stops 7) ts → No (SomeOf ColE) EndsCols ts
+cols_no_first h a to (some_of d ds) s = h _ _ d (cols_stop ds s)
+
+pub cols_no_others : {c : ColDef} {ts mid : List Tok} → ColE c ts mid → Stops 7 mid → No (MoreOf ColE) EndsCols mid → No (SomeOf ColE) EndsCols ts
+cols_no_others e r h a to (some_of d ds) s = let p = col_same _ _ _ _ _ e d r (cols_stop ds s) in h _ _ (begin (MoreOf ColE) p.1 ds) s
+
+pub cols_no_next : {ts : List Tok} → Not (terminal.Word word.Primary) ts → No ColE (Stops 7) ts → No (MoreOf ColE) EndsCols (comma ∷ ts)
+cols_no_next n h a to more_end s = n (s.1 refl)
+cols_no_next n h a to (more_comma d ds) s = h _ _ d (cols_stop ds s)
+
+pub cols_no_more : {c : ColDef} {ts mid : List Tok} → Not (terminal.Word word.Primary) ts → ColE c ts mid → Stops 7 mid → No (MoreOf ColE) EndsCols mid → No (MoreOf ColE) EndsCols (comma ∷ ts)
+cols_no_more n e r h a to more_end s = n (s.1 refl)
+cols_no_more n e r h a to (more_comma d ds) s = let p = col_same _ _ _ _ _ e d r (cols_stop ds s) in h _ _ (begin (MoreOf ColE) p.1 ds) s
+
+-- the key and the closing bracket
+pub key_no_close : {ts : List Tok} → Not (terminal.Sign sign.Comma) ts → Not (terminal.Sign sign.Close) ts → No KeyEnd Anywhere ts
+key_no_close m n a to primary_none s = n refl
+key_no_close m n a to (primary_some d) s = m refl
+
+pub key_no_primary : {ts : List Tok} → Not (terminal.Word word.Primary) ts → No KeyBehind Anywhere ts
+key_no_primary n a to (primary_some d) s = n refl
+
+pub key_no_key : {ts : List Tok} → Not (terminal.Word word.Key) ts → No KeyBehind Anywhere (Word word.Primary ∷ ts)
+key_no_key n a to (primary_some d) s = n refl
+
+pub key_no_names : {ts : List Tok} → No NamesE Anywhere ts → No KeyBehind Anywhere (Word word.Primary ∷ Word word.Key ∷ ts)
+key_no_names h a to (primary_some d) s = h _ _ d tt
+
+pub key_no_end : {ns : List (List ℕ)} {ts mid : List Tok} → NamesE ns ts mid → Not (terminal.Sign sign.Close) mid → No KeyBehind Anywhere (Word word.Primary ∷ Word word.Key ∷ ts)
+key_no_end e n a to (primary_some d) s = let p = names_of_same e d in n (ap terminal_at p.1)
+
+-- the columns and the key between brackets
+pub body_no_open : {ts : List Tok} → Not (terminal.Sign sign.Open) ts → No Body Anywhere ts
+body_no_open n a to (body d k) s = n refl
+
+pub body_no_cols : {ts : List Tok} → No (SomeOf ColE) EndsCols ts → No Body Anywhere (opener ∷ ts)
+body_no_cols h a to (body d k) s = h _ _ d (primary_ends k)
+
+pub body_no_key : {cs : List ColDef} {ts mid : List Tok} → SomeOf ColE cs ts mid → EndsCols mid → No KeyEnd Anywhere mid → No Body Anywhere (opener ∷ ts)
+body_no_key e r h a to (body d k) s = let p = cols_of_same e d r (primary_ends k) in h _ _ (begin PrimaryE p.1 k) tt
+
+pub body_same : {b b' : List ColDef × List (List ℕ)} {ts to to' : List Tok} → Body b ts to → Body b' ts to' → to ≡ to'
+body_same (body d k) (body d' k') = let p = cols_of_same d d' (primary_ends k) (primary_ends k') in (primary_same k (begin PrimaryE p.1 k')).1
+
+-- ['(' names ')'] VALUES
+pub values_no_names : {ts : List Tok} → Not (terminal.Word word.Values) ts → No NamesE Anywhere ts → No NamesValues Anywhere ts
+values_no_names n h a to names_none s = n refl
+values_no_names n h a to (names_some d) s = h _ _ d tt
+
+pub values_no_values : {ns : List (List ℕ)} {ts mid : List Tok} → NamesE ns ts mid → Not (terminal.Word word.Values) mid → No NamesValues Anywhere ts
+values_no_values e n a to names_none s = elim e [ ]
+values_no_values e n a to (names_some d) s = let p = names_of_same e d in n (ap terminal_at p.1)
+
+-- name '=' e
+pub set_no_name : {ts : List Tok} → No NameE Anywhere ts → No SetE (Stops 7) ts
+set_no_name h a to (set d) s = h _ _ name tt
+
+pub set_no_equal : {n : List ℕ} {ts : List Tok} → Not (terminal.Sign (sign.Cmp cmp.Eq)) ts → No SetE (Stops 7) (Name n ∷ ts)
+set_no_equal n a to (set d) s = n refl
+
+pub set_no_value : {n : List ℕ} {ts : List Tok} → No Expr (Stops 7) ts → No SetE (Stops 7) (Name n ∷ equal ∷ ts)
+set_no_value h a to (set d) s = h _ _ d s
+
+-- the new values and the condition
+pub where_ends : {o : Option E} {from to : List Tok} → WhereE o from to → Stops 10 to → EndsList (Stops 7) from
+where_ends w s = let r = where_stop w s in (omega (arith, r), stops_not 9 (terminal.Sign sign.Comma) _ (omega arith) r)
+
+pub changes_no_sets : {ts : List Tok} → No (SomeOf SetE) (EndsList (Stops 7)) ts → No Changes (Stops 10) ts
+changes_no_sets h a to (changes d w) s = h _ _ d (where_ends w s)
+
+pub changes_no_where : {xs : List (List ℕ × E)} {ts mid : List Tok} → SomeOf SetE xs ts mid → EndsList (Stops 7) mid → No WhereE (Stops 10) mid → No Changes (Stops 10) ts
+changes_no_where e r h a to (changes d w) s = let p = sets_same e d r (where_ends w s) in h _ _ (begin WhereE p.1 w) s
+
+pub changes_same : {c c' : List (List ℕ × E) × Option E} {ts to to' : List Tok} → Changes c ts to → Changes c' ts to' → Stops 10 to → Stops 10 to' → to ≡ to'
+changes_same (changes d w) (changes d' w') s s' = let p = sets_same d d' (where_ends w s) (where_ends w' s') in (where_same w (begin WhereE p.1 w') s s').1

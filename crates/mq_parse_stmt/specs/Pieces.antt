@@ -1,0 +1,34 @@
+-- Parts of statements that have readers of their own. R a from to: a reads the tokens of `from` before `to`.
+use Rattle.std.specs.Prelude.{ℕ, List, ◌∷◌, Option}
+use Rattle.mq_ast.specs.declared.expressions.E.{E}
+use Rattle.mq_ast.specs.declared.statements.ColDef.{ColDef}
+use Rattle.mq_ast.specs.declared.terminals.Keyword.{Keyword}
+use Rattle.mq_ast.specs.declared.terminals.Keyword.TheVariants as word
+use Rattle.mq_ast.specs.Tokens.{Tok, Word, Name, opener, closer, comma}
+use Rattle.mq_ast.specs.GrammarLists.{SomeOf}
+use Rattle.mq_ast.specs.GrammarQuery.{WhereE}
+use Rattle.mq_ast.specs.GrammarStatement.{ColE, PrimaryE, MaybeNames, SetE}
+
+-- this word and the name behind it
+pub data WordName : Keyword → List ℕ → List Tok → List Tok → Type 0 where
+  word_name : {k : Keyword} {n : List ℕ} {to : List Tok} → WordName k n (Word k ∷ Name n ∷ to) to
+
+-- [',' PRIMARY KEY '(' names ')'] ')'
+abbrev pub KeyEnd : List (List ℕ) → List Tok → List Tok → Type 0
+KeyEnd ks from to = PrimaryE ks from (closer ∷ to)
+
+-- the same, read from behind the comma on
+abbrev pub KeyBehind : List (List ℕ) → List Tok → List Tok → Type 0
+KeyBehind ks from to = KeyEnd ks (comma ∷ from) to
+
+-- '(' col {',' col} [',' PRIMARY KEY '(' names ')'] ')'
+pub data Body : List ColDef × List (List ℕ) → List Tok → List Tok → Type 0 where
+  body : {cs : List ColDef} {ks : List (List ℕ)} {from mid to : List Tok} → SomeOf ColE cs from mid → KeyEnd ks mid to → Body (cs, ks) (opener ∷ from) to
+
+-- ['(' names ')'] VALUES
+abbrev pub NamesValues : Option (List (List ℕ)) → List Tok → List Tok → Type 0
+NamesValues o from to = MaybeNames o from (Word word.Values ∷ to)
+
+-- name '=' e {',' name '=' e} [WHERE e]
+pub data Changes : List (List ℕ × E) × Option E → List Tok → List Tok → Type 0 where
+  changes : {xs : List (List ℕ × E)} {o : Option E} {from mid to : List Tok} → SomeOf SetE xs from mid → WhereE o mid to → Changes (xs, o) from to

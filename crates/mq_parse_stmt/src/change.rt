@@ -1,0 +1,161 @@
+//! INSERT, UPDATE, DELETE and LOAD (docs/LANGUAGE.md, "Statements").
+
+ghost use Rattle.std.specs.Prelude.{◌≡◌, ◌≢◌, ◌≤◌, ◌<◌, List, ◌∷◌, length};
+ghost use Rattle.mq_ast.specs.Tokens.{Tok, Word};
+ghost use Rattle.mq_ast.specs.Continuing.{Stops};
+ghost use Rattle.mq_ast.specs.GrammarExpression.{Tuple};
+ghost use Rattle.mq_ast.specs.GrammarStatement.{SetE};
+ghost use Rattle.mq_ast.proofs.OneList.{Whatever};
+ghost use Rattle.mq_ast.proofs.OneRule.{tuple_one};
+ghost use Rattle.mq_ast.proofs.OneStatement.{set_same};
+ghost use Rattle.mq_parse_expr.specs.Reading.{from, Anywhere, Gives};
+ghost use Rattle.mq_parse_stmt.specs.Pieces.{NamesValues, Changes};
+ghost use Rattle.mq_parse_stmt.specs.Parsing.{Whole};
+
+use crate::pieces::{ended, read_names, read_word_name};
+use mq_ast::{E, Keyword, Stmt, Symbol};
+use mq_lexer::Token;
+use mq_parse_expr::{
+    behind_word, pass_sign, pass_word, read_expr, read_name, read_text, read_tuple,
+};
+use mq_parse_query::{Listed, read_list, read_where};
+use mq_values::{CmpOp, Fail, Items, Refused, Words};
+use std::alloc::Global;
+
+// A row of values, as a part of lists.
+struct Row;
+
+impl Listed for Row {
+    type Tree = Items<E>;
+
+    ghost reads = { Tuple };
+
+    ghost stop = { Whatever };
+
+    ghost one = { tuple_one };
+
+    ghost before_comma = { λ ts. tt };
+
+    fn read(alloc: Global, t: &[Token<'_>], at: usize) -> Result<(Items<E>, usize), Fail<Refused>> {
+        read_tuple(alloc, t, at)
+    }
+}
+
+/// Rows put into a table, from behind INSERT on.
+pub(crate) fn read_insert(alloc: Global, t: &[Token<'_>], at: usize) -> Result<Stmt, Fail<Refused>>
+    requires { at ≤ length t.now }
+    ensures { Whole (Word Keyword.Insert ∷ from t.now at) result }
+{
+    let (name, mid) = read_word_name(alloc, t, at, Keyword::Into)?;
+    let (cols, values) = read_names_values(alloc, t, mid)?;
+    let (rows, to) = read_list::<Row>(alloc, t, values)?;
+    ended(t, to)?;
+    Ok(Stmt::Insert { name, cols, rows })
+}
+
+// The columns of the rows between brackets, where they are named, and VALUES.
+fn read_names_values(
+    alloc: Global,
+    t: &[Token<'_>],
+    at: usize,
+) -> Result<(Option<Items<Words>>, usize), Fail<Refused>>
+    requires { at ≤ length t.now }
+    ensures { Gives NamesValues Anywhere t.now at result }
+{
+    match behind_word(t, at, Keyword::Values) {
+        Some(to) => Ok((None, to)),
+        None => {
+            let (names, end) = read_names(alloc, t, at)?;
+            let to = pass_word(t, end, Keyword::Values)?;
+            Ok((Some(names), to))
+        }
+    }
+}
+
+/// Rows changed, from behind UPDATE on.
+pub(crate) fn read_update(alloc: Global, t: &[Token<'_>], at: usize) -> Result<Stmt, Fail<Refused>>
+    requires { at ≤ length t.now }
+    ensures { Whole (Word Keyword.Update ∷ from t.now at) result }
+{
+    let (name, mid) = read_name(alloc, t, at)?;
+    let set = pass_word(t, mid, Keyword::Set)?;
+    let (changes, to) = read_changes(alloc, t, set)?;
+    ended(t, to)?;
+    Ok(update(name, changes))
+}
+
+fn update(name: Words, changes: (Items<(Words, E)>, Option<E>)) -> Stmt
+    ensures { result ≡ Stmt.Update name changes.0 changes.1 }
+{
+    let (sets, filter) = changes;
+    Stmt::Update { name, sets, filter }
+}
+
+// The new values, with commas between them, and the condition behind WHERE, where one stands there.
+fn read_changes(
+    alloc: Global,
+    t: &[Token<'_>],
+    at: usize,
+) -> Result<((Items<(Words, E)>, Option<E>), usize), Fail<Refused>>
+    requires { at ≤ length t.now }
+    ensures { Gives Changes (Stops 10) t.now at result }
+{
+    let (sets, mid) = read_list::<Set>(alloc, t, at)?;
+    let (filter, to) = read_where(alloc, t, mid)?;
+    Ok(((sets, filter), to))
+}
+
+// A new value of a column, as a part of lists.
+struct Set;
+
+impl Listed for Set {
+    ghost use Rattle.std.proofs.Common.{arith, rules};
+
+    type Tree = (Words, E);
+
+    ghost reads = { SetE };
+
+    ghost stop = { Stops 7 };
+
+    ghost one = { set_same };
+
+    ghost before_comma = { Prim.search (arith, rules) };
+
+    fn read(
+        alloc: Global,
+        t: &[Token<'_>],
+        at: usize,
+    ) -> Result<((Words, E), usize), Fail<Refused>> {
+        read_set(alloc, t, at)
+    }
+}
+
+fn read_set(alloc: Global, t: &[Token<'_>], at: usize) -> Result<((Words, E), usize), Fail<Refused>>
+    ensures { Gives SetE (Stops 7) t.now at result }
+{
+    let (name, mid) = read_name(alloc, t, at)?;
+    let value = pass_sign(t, mid, Symbol::Cmp(CmpOp::Eq))?;
+    let (e, to) = read_expr(alloc, t, value)?;
+    Ok(((name, e), to))
+}
+
+/// Rows taken out of a table, from behind DELETE on.
+pub(crate) fn read_delete(alloc: Global, t: &[Token<'_>], at: usize) -> Result<Stmt, Fail<Refused>>
+    ensures { Whole (Word Keyword.Delete ∷ from t.now at) result }
+{
+    let (name, mid) = read_word_name(alloc, t, at, Keyword::From)?;
+    let (filter, to) = read_where(alloc, t, mid)?;
+    ended(t, to)?;
+    Ok(Stmt::Delete { name, filter })
+}
+
+/// The rows of a file put into a table, from behind LOAD on.
+pub(crate) fn read_load(alloc: Global, t: &[Token<'_>], at: usize) -> Result<Stmt, Fail<Refused>>
+    ensures { Whole (Word Keyword.Load ∷ from t.now at) result }
+{
+    let (name, mid) = read_word_name(alloc, t, at, Keyword::Into)?;
+    let text = pass_word(t, mid, Keyword::From)?;
+    let (file, to) = read_text(alloc, t, text)?;
+    ended(t, to)?;
+    Ok(Stmt::Load { name, file })
+}

@@ -1,0 +1,222 @@
+//! CREATE and DROP (docs/LANGUAGE.md, "Statements").
+
+ghost use Rattle.std.specs.Prelude.{◌≡◌, ◌≢◌, ◌≤◌, List, ◌∷◌, length, MatchOption};
+ghost use Rattle.mq_ast.specs.Tokens.{Tok, Word, comma, terminal_at, rest_of};
+ghost use Rattle.mq_ast.specs.Continuing.{Stops, EndsCols, Not};
+ghost use Rattle.mq_ast.specs.GrammarLists.{SomeOf, MoreOf};
+ghost use Rattle.mq_ast.specs.GrammarStatement.{ColE, NotNullE, col_of};
+ghost use Rattle.mq_parse_expr.specs.Reading.{from, Then, Anywhere, Gives};
+ghost use Rattle.mq_parse_stmt.specs.Pieces.{Body, KeyEnd, KeyBehind};
+ghost use Rattle.mq_parse_stmt.specs.Parsing.{Whole};
+
+use crate::pieces::{ended, read_names, read_word_name};
+use mq_ast::{ColDef, Keyword, Stmt, Symbol, Terminal};
+use mq_lexer::Token;
+use mq_parse_expr::{
+    behind_sign, behind_word, pass_sign, pass_word, read_kind, read_name, settled,
+};
+use mq_parse_query::read_query;
+use mq_values::{Fail, Items, Kind, Refused, Words};
+use std::alloc::Global;
+
+/// A statement that begins with CREATE, from behind it on.
+pub(crate) fn read_create(alloc: Global, t: &[Token<'_>], at: usize) -> Result<Stmt, Fail<Refused>>
+    requires { at ≤ length t.now }
+    ensures { Whole (Word Keyword.Create ∷ from t.now at) result }
+{
+    match behind_word(t, at, Keyword::Table) {
+        Some(table) => read_table(alloc, t, table),
+        None => read_view(alloc, t, at),
+    }
+}
+
+// A new table, from behind TABLE on.
+fn read_table(alloc: Global, t: &[Token<'_>], at: usize) -> Result<Stmt, Fail<Refused>>
+    requires { at ≤ length t.now }
+    ensures { Whole (Word Keyword.Create ∷ Word Keyword.Table ∷ from t.now at) result }
+{
+    let (name, mid) = read_name(alloc, t, at)?;
+    let (body, to) = read_body(alloc, t, mid)?;
+    ended(t, to)?;
+    Ok(table(name, body))
+}
+
+fn table(name: Words, body: (Items<ColDef>, Items<Words>)) -> Stmt
+    ensures { result ≡ Stmt.CreateTable name body.0 body.1 }
+{
+    let (cols, key) = body;
+    Stmt::CreateTable { name, cols, key }
+}
+
+// A new view, from behind CREATE on.
+fn read_view(alloc: Global, t: &[Token<'_>], at: usize) -> Result<Stmt, Fail<Refused>>
+    requires in_range { at ≤ length t.now }
+    requires no_table { Not (Terminal.Word Keyword.Table) (from t.now at) }
+    ensures { Whole (Word Keyword.Create ∷ from t.now at) result }
+{
+    let (name, mid) = read_word_name(alloc, t, at, Keyword::View)?;
+    let text = pass_word(t, mid, Keyword::As)?;
+    let (query, to) = read_query(alloc, t, text)?;
+    ended(t, to)?;
+    Ok(Stmt::CreateView { name, query })
+}
+
+/// A statement that begins with DROP, from behind it on.
+pub(crate) fn read_drop(alloc: Global, t: &[Token<'_>], at: usize) -> Result<Stmt, Fail<Refused>>
+    ensures { Whole (Word Keyword.Drop ∷ from t.now at) result }
+{
+    match behind_word(t, at, Keyword::Table) {
+        Some(table) => read_drop_table(alloc, t, table),
+        None => read_drop_view(alloc, t, at),
+    }
+}
+
+// A table dropped, from behind TABLE on.
+fn read_drop_table(alloc: Global, t: &[Token<'_>], at: usize) -> Result<Stmt, Fail<Refused>>
+    ensures { Whole (Word Keyword.Drop ∷ Word Keyword.Table ∷ from t.now at) result }
+{
+    let (name, to) = read_name(alloc, t, at)?;
+    ended(t, to)?;
+    Ok(Stmt::DropTable { name })
+}
+
+// A view dropped, from behind DROP on.
+fn read_drop_view(alloc: Global, t: &[Token<'_>], at: usize) -> Result<Stmt, Fail<Refused>>
+    requires { Not (Terminal.Word Keyword.Table) (from t.now at) }
+    ensures { Whole (Word Keyword.Drop ∷ from t.now at) result }
+{
+    let (name, to) = read_word_name(alloc, t, at, Keyword::View)?;
+    ended(t, to)?;
+    Ok(Stmt::DropView { name })
+}
+
+// The columns of a table and its key, between brackets.
+fn read_body(
+    alloc: Global,
+    t: &[Token<'_>],
+    at: usize,
+) -> Result<((Items<ColDef>, Items<Words>), usize), Fail<Refused>>
+    ensures { Gives Body Anywhere t.now at result }
+{
+    let open = pass_sign(t, at, Symbol::Open)?;
+    let (cols, mid) = read_cols(alloc, t, open)?;
+    let (key, to) = read_key_end(alloc, t, mid)?;
+    Ok(((cols, key), to))
+}
+
+// The columns of a table, up to a place where no other begins.
+fn read_cols(
+    alloc: Global,
+    t: &[Token<'_>],
+    at: usize,
+) -> Result<(Items<ColDef>, usize), Fail<Refused>>
+    ensures { Gives (SomeOf ColE) EndsCols t.now at result }
+{
+    let (first, mid) = read_col(alloc, t, at)?;
+    let (mut all, to) = read_more_cols(alloc, t, mid)?;
+    all.put_first(first)?;
+    Ok((all, to))
+}
+
+// The columns behind the first.
+fn read_more_cols(
+    alloc: Global,
+    t: &[Token<'_>],
+    at: usize,
+) -> Result<(Items<ColDef>, usize), Fail<Refused>>
+    requires in_range { at ≤ length t.now }
+    requires stops { Stops 7 (from t.now at) }
+    ensures { Gives (MoreOf ColE) EndsCols t.now at result }
+{
+    let mut found = Items::new(alloc);
+    let mut to = at;
+    while let Some(behind) = behind_comma(t, to) {
+        let (col, next) = read_col(alloc, t, behind)?;
+        found.push(col)?;
+        to = next;
+    }
+    Ok((found, to))
+}
+
+// The place behind a comma that PRIMARY does not follow.
+fn behind_comma(t: &[Token<'_>], at: usize) -> Option<usize>
+    ensures { MatchOption result (terminal_at (from t.now at) ≡ Terminal.Sign Symbol.Comma → terminal_at (rest_of (from t.now at)) ≡ Terminal.Word Keyword.Primary) (λ next. Then comma t.now at next × Not (Terminal.Word Keyword.Primary) (from t.now next)) }
+{
+    match behind_sign(t, at, Symbol::Comma) {
+        Some(next) => match behind_word(t, next, Keyword::Primary) {
+            Some(_) => None,
+            None => Some(next),
+        },
+        None => None,
+    }
+}
+
+// A column: its name, its kind, and NOT NULL where it stands there.
+fn read_col(alloc: Global, t: &[Token<'_>], at: usize) -> Result<(ColDef, usize), Fail<Refused>>
+    ensures { Gives ColE (Stops 7) t.now at result }
+{
+    let (name, mid) = read_name(alloc, t, at)?;
+    let (kind, next) = read_kind(t, mid)?;
+    let (not_null, to) = read_not_null(t, next)?;
+    Ok((column(name, kind, not_null), to))
+}
+
+fn column(name: Words, kind: Kind, not_null: bool) -> ColDef
+    ensures { result ≡ col_of name kind not_null }
+{
+    ColDef {
+        name,
+        kind,
+        not_null,
+    }
+}
+
+// Whether NOT NULL stands at a place, and the place behind it.
+fn read_not_null(t: &[Token<'_>], at: usize) -> Result<(bool, usize), Fail<Refused>>
+    requires { at ≤ length t.now }
+    ensures { Gives NotNullE (Stops 7) t.now at result }
+{
+    match behind_word(t, at, Keyword::Not) {
+        Some(not) => {
+            let to = pass_word(t, not, Keyword::Null)?;
+            settled(t, to, 7)?;
+            Ok((true, to))
+        }
+        None => {
+            settled(t, at, 7)?;
+            Ok((false, at))
+        }
+    }
+}
+
+// The key, where a comma stands before it, and the closing bracket behind it.
+fn read_key_end(
+    alloc: Global,
+    t: &[Token<'_>],
+    at: usize,
+) -> Result<(Items<Words>, usize), Fail<Refused>>
+    ensures { Gives KeyEnd Anywhere t.now at result }
+{
+    match behind_sign(t, at, Symbol::Comma) {
+        Some(behind) => read_key(alloc, t, behind),
+        None => {
+            let to = pass_sign(t, at, Symbol::Close)?;
+            Ok((Items::new(alloc), to))
+        }
+    }
+}
+
+// The key, from behind its comma on, and the closing bracket behind it.
+fn read_key(
+    alloc: Global,
+    t: &[Token<'_>],
+    at: usize,
+) -> Result<(Items<Words>, usize), Fail<Refused>>
+    ensures { Gives KeyBehind Anywhere t.now at result }
+{
+    let primary = pass_word(t, at, Keyword::Primary)?;
+    let key = pass_word(t, primary, Keyword::Key)?;
+    let (names, end) = read_names(alloc, t, key)?;
+    let to = pass_sign(t, end, Symbol::Close)?;
+    Ok((names, to))
+}
