@@ -73,8 +73,8 @@ impl Listed for Naming {
     ghost before_comma = { λ ts. tt };
 }
 
-// Lists of expressions between brackets, as the parts of a list.
-struct Row;
+/// Lists of expressions between brackets, as the parts of a list.
+pub struct Row;
 
 impl Listed for Row {
     type Tree = Items<E>;

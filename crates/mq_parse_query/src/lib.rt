@@ -14,7 +14,7 @@ mod plain;
 mod query;
 mod rules;
 
-pub use left::Naming;
+pub use left::{Naming, Row};
 pub use lists::{Listed, read_list};
 pub use plain::read_where;
 pub use query::read_query;

@@ -3,10 +3,7 @@
 ghost use Rattle.std.specs.Prelude.{◌≡◌, ◌≢◌, ◌≤◌, ◌<◌, List, ◌∷◌, length};
 ghost use Rattle.mq_ast.specs.Tokens.{Tok, Word};
 ghost use Rattle.mq_ast.specs.Continuing.{Stops};
-ghost use Rattle.mq_ast.specs.GrammarExpression.{Tuple};
 ghost use Rattle.mq_ast.specs.GrammarStatement.{SetE};
-ghost use Rattle.mq_ast.proofs.OneList.{Whatever};
-ghost use Rattle.mq_ast.proofs.OneRule.{tuple_one};
 ghost use Rattle.mq_ast.proofs.OneStatement.{set_same};
 ghost use Rattle.mq_parse_expr.specs.Reading.{from, Anywhere, Gives};
 ghost use Rattle.mq_parse_stmt.specs.Pieces.{NamesValues, Changes};
@@ -15,31 +12,10 @@ ghost use Rattle.mq_parse_stmt.specs.Parsing.{Whole};
 use crate::pieces::{ended, read_names, read_word_name};
 use mq_ast::{E, Keyword, Stmt, Symbol};
 use mq_lexer::Token;
-use mq_parse_expr::{
-    behind_word, pass_sign, pass_word, read_expr, read_name, read_text, read_tuple,
-};
-use mq_parse_query::{Listed, read_list, read_where};
+use mq_parse_expr::{behind_word, pass_sign, pass_word, read_expr, read_name, read_text};
+use mq_parse_query::{Listed, Row, read_list, read_where};
 use mq_values::{CmpOp, Fail, Items, Refused, Words};
 use std::alloc::Global;
-
-// A row of values, as a part of lists.
-struct Row;
-
-impl Listed for Row {
-    type Tree = Items<E>;
-
-    ghost reads = { Tuple };
-
-    ghost stop = { Whatever };
-
-    ghost one = { tuple_one };
-
-    ghost before_comma = { λ ts. tt };
-
-    fn read(alloc: Global, t: &[Token<'_>], at: usize) -> Result<(Items<E>, usize), Fail<Refused>> {
-        read_tuple(alloc, t, at)
-    }
-}
 
 /// Rows put into a table, from behind INSERT on.
 pub(crate) fn read_insert(alloc: Global, t: &[Token<'_>], at: usize) -> Result<Stmt, Fail<Refused>>

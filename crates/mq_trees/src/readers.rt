@@ -7,7 +7,7 @@ use mq_parse_expr::{
     read_expr, read_exprs, read_int, read_kind, read_name, read_path, read_round, read_text,
     read_tuple,
 };
-use mq_parse_query::{Naming, read_list, read_query, read_where};
+use mq_parse_query::{Naming, Row, read_list, read_query, read_where};
 use mq_parse_stmt::parse;
 use mq_values::{Fail, Items, Kind, Memory, Num, Refused, Words};
 use std::alloc::Global;
@@ -32,6 +32,7 @@ pub(crate) fn read(reader: &str, text: &str, out: &mut Notation) -> Result<Outco
         "query" => answer_of::<OfQuery>(t, out),
         "where" => answer_of::<OfWhere>(t, out),
         "names" => answer_of::<OfNames>(t, out),
+        "rows" => answer_of::<OfRows>(t, out),
         "expression" => answer_of::<OfExpression>(t, out),
         "expressions" => answer_of::<OfExpressions>(t, out),
         "tuple" => answer_of::<OfTuple>(t, out),
@@ -113,6 +114,16 @@ impl Reader for OfNames {
 
     fn read(alloc: Global, t: &[Token<'_>]) -> Found<Items<Words>> {
         read_list::<Naming>(alloc, t, 0)
+    }
+}
+
+struct OfRows;
+
+impl Reader for OfRows {
+    type Tree = Items<Items<E>>;
+
+    fn read(alloc: Global, t: &[Token<'_>]) -> Found<Items<Items<E>>> {
+        read_list::<Row>(alloc, t, 0)
     }
 }
 
