@@ -1,78 +1,110 @@
 -- What a query answers over tables.
-use Rattle.std.specs.Prelude.{ℕ, List, [], ◌∷◌, ◌++◌, Result, Ok, Err, map, drop, slice_index_or, length, if◌then◌else◌}
+use Rattle.std.specs.Prelude.{ℕ, ◌+◌, List, [], ◌∷◌, ◌++◌, length, map, Bool, true, false, not, ◌||◌, ◌==◌, nat_lt, if◌then◌else◌, Option, Some, None, Result, Ok, Err, slice_index_or}
+use Rattle.std.specs.List.{enumerate_from, filter, find, list_any}
 use Rattle.std.specs.Option.{option_map_or}
-use Rattle.std.specs.Ordering.{is_lt}
+use Rattle.std.specs.Ordering.{flip_args, ordering_then}
 use Rattle.std.specs.declared.cmp.Ordering.{Ordering}
-use Rattle.mq_values.specs.Order.{cmp_key}
-use Rattle.mq_values.specs.declared.faults.ValueFault.{ValueFault}
+use Rattle.std.specs.declared.cmp.Ordering.TheVariants.{Equal}
+use Rattle.mq_values.specs.Order.{cmp_key, cmp_value}
 use Rattle.mq_values.specs.declared.faults.FaultKind.{FaultKind}
 use Rattle.mq_values.specs.declared.faults.FaultKind.TheVariants as kind
 use Rattle.mq_values.specs.declared.faults.QueryFault.{QueryFault}
-use Rattle.mq_values.specs.declared.faults.ValueFault.TheVariants as fault
 use Rattle.mq_values.specs.declared.value.Value.{Value}
 use Rattle.mq_values.specs.declared.value.Value.TheVariants.{Null}
-use Rattle.mq_ir.specs.declared.query.BoundQuery.{BoundQuery}
-use Rattle.mq_ir.specs.declared.query.ModelPart.{ModelPart}
 use Rattle.mq_ir.specs.declared.query.Answer.{Answer}
 use Rattle.mq_ir.specs.declared.query.Answer.TheVariants as answer
-use Rattle.mq_ir.specs.Items.{input_rows}
-use Rattle.mq_ir.specs.Partitions.{Tuple, Cells, cells_of, repeated}
-use Rattle.mq_ir.specs.Results.{◌>>=◌, marked}
-use Rattle.mq_ir.specs.Sequential.{Placed, rules_from}
-use Rattle.mq_ir.specs.Tables.{Tables, rows_of}
+use Rattle.mq_ir.specs.declared.query.BoundQuery.{BoundQuery}
+use Rattle.mq_ir.specs.declared.query.Left.{Left}
+use Rattle.mq_ir.specs.declared.query.Left.TheVariants.{Places, Tuples}
+use Rattle.mq_ir.specs.declared.query.LeftItem.{LeftItem}
+use Rattle.mq_ir.specs.declared.query.LeftItem.TheVariants.{At, Sym, List as Listed, Steps}
+use Rattle.mq_ir.specs.declared.query.ListSource.{ListSource}
+use Rattle.mq_ir.specs.declared.query.ListSource.TheVariants.{Values, Rows}
+use Rattle.mq_ir.specs.declared.query.ModelPart.{ModelPart}
+use Rattle.mq_ir.specs.declared.query.OutCell.{OutCell}
+use Rattle.mq_ir.specs.declared.query.PartInput.{PartInput}
+use Rattle.mq_ir.specs.declared.query.PartResult.{PartResult}
+use Rattle.mq_ir.specs.declared.query.PartResult.TheVariants as result
+use Rattle.mq_ir.specs.declared.query.PlainPart.{PlainPart}
+use Rattle.mq_ir.specs.declared.query.Rule.{Rule}
+use Rattle.mq_ir.specs.Automatic.{automatic}
+use Rattle.mq_ir.specs.Items.{items_over, reference_over}
+use Rattle.mq_ir.specs.Iteration.{sequential}
+use Rattle.mq_ir.specs.LimitsStub.{QUERY_CELLS}
+use Rattle.mq_ir.specs.Partitions.{Tuple, Cells, ascending, partitions}
+use Rattle.mq_ir.specs.Placed.{Placed, at_partition, placed_fault}
+use Rattle.mq_ir.specs.Printing.{printed_rows}
+use Rattle.mq_ir.specs.Results.{◌>>=◌, each, each_in_turn, marked}
+use Rattle.mq_ir.specs.Tables.{Tables}
+use Rattle.mq_ir.specs.Unfolding.{Model}
 
-abbrev pub kind_of : ValueFault → FaultKind
-kind_of fault.Overflow = kind.Overflow
-kind_of fault.DivideByZero = kind.DivideByZero
-kind_of fault.TextTooLong = kind.TextTooLong
+-- a fault outside of partitions: no partition and no cell
+abbrev pub plain_fault : ℕ → FaultKind → QueryFault
+plain_fault rule kind = at_partition [] (placed_fault rule [] kind)
 
-abbrev pub query_fault : FaultKind → ℕ → Tuple → QueryFault
-query_fault k rule cell = record { kind = k; rule = rule; partition = []; cell = cell }
+-- whether a left side takes the values of this FOR subquery
+abbrev pub is_source : ℕ → ListSource → Bool
+is_source list (Values rows) = false
+is_source list (Rows n) = n == list
 
--- an item put before the first that is greater
-abbrev pub placed : {K : Type 0} → (K → K → Ordering) → K → List K → List K
-placed cmp x [] = x ∷ []
-placed cmp x (y ∷ ys) = if is_lt (cmp x y) then x ∷ y ∷ ys else y ∷ placed cmp x ys
+abbrev pub item_takes : ℕ → LeftItem → Bool
+item_takes list (Listed source) = is_source list source
+item_takes list _ = false
 
--- these items, ascending
-abbrev pub ascending : {K : Type 0} → (K → K → Ordering) → List K → List K
-ascending cmp [] = []
-ascending cmp (x ∷ xs) = placed cmp x (ascending cmp xs)
+abbrev pub left_takes : ℕ → Left → Bool
+left_takes list (Places items) = list_any (item_takes list) items
+left_takes list (Tuples dims source) = is_source list source
 
--- the columns of these numbers
-abbrev pub columns_at : List ℕ → Tuple → List Value
-columns_at numbers row = map (λ n. slice_index_or row n Null) numbers
+-- the number of the rule to which a FOR subquery belongs
+abbrev pub rule_of_list : ModelPart → ℕ → ℕ
+rule_of_list part list = option_map_or (λ rule. rule.0) (find (λ rule. left_takes list rule.1.left) (enumerate_from 1 part.rules)) 0
 
--- what a cell is ordered by: the ORDER BY columns, and then all printed columns from the left
-abbrev pub sort_columns : BoundQuery → Tuple × Tuple → Tuple
-sort_columns q cell = columns_at (q.order ++ q.print) (cell.0 ++ cell.1)
+-- the rows of a FOR subquery; a fault carries its rule
+abbrev pub list_rows : Tables → ModelPart → ℕ × PlainPart → Result (List Tuple) QueryFault
+list_rows tables part (n, list) = marked (plain_fault (rule_of_list part n)) (items_over tables list.from list.items)
 
--- the rows as they are printed
-abbrev pub printed_rows : BoundQuery → Cells → List Tuple
-printed_rows q cells = map (drop (length q.order)) (ascending cmp_key (map (sort_columns q) cells))
+-- a model with its references, and then its FOR subqueries, as they are over these tables
+abbrev pub model_over : Tables → ModelPart → Result Model QueryFault
+model_over tables part =
+    marked (at_partition []) (each (reference_over tables) part.refs) >>= (λ refs.
+    each (list_rows tables part) (enumerate_from 0 part.lists) >>= (λ lists.
+    Ok (record { part = part; lists = lists; refs = refs })))
 
--- a value fault of a rule as the query's
-abbrev pub rule_fault : Placed → QueryFault
-rule_fault p = query_fault (kind_of p.2) p.0 p.1
+-- the columns of the model at a cell: the partition's, the dimensions, the measures
+abbrev pub columns_of : Tuple → OutCell → Tuple
+columns_of key cell = key ++ cell.key ++ cell.measures
 
--- the cells after the rules, over the dimension tuple and the measures of each row
-abbrev pub model_cells : ModelPart → List (Tuple × Tuple) → Result Cells QueryFault
-model_cells model rows =
-    option_map_or (λ key. Err (query_fault kind.NotUnique 0 key))
-    (repeated (map (λ row. row.0) rows))
-    (marked rule_fault (rules_from (length model.measures) 1 model.rules (cells_of [] rows)))
+-- the cells that are returned: all, or those that were a target
+abbrev pub returned : ModelPart → List OutCell → List OutCell
+returned part = filter (λ cell. not part.updated_only || cell.updated)
 
--- the dimension tuple and the measures of each row of the table; a fault comes outside of the rules
-abbrev pub input_of : List Tuple → BoundQuery → Result (List (Tuple × Tuple)) QueryFault
-input_of rows q = marked (λ fault. query_fault (kind_of fault) 0 []) (input_rows q.items (length q.model.dims) rows)
+abbrev pub result_in : Model → PartInput → PartResult
+result_in model p = elim model.part.auto [ true ↦ (automatic model p).1 | false ↦ sequential model p ]
 
--- the rows of a query over the rows of its table, or its first fault
-abbrev pub rows_answered : List Tuple → BoundQuery → Result (List Tuple) QueryFault
-rows_answered rows q = input_of rows q >>= model_cells q.model >>= (λ cells. Ok (printed_rows q cells))
+-- how many cells there were so far, and the rows so far
+abbrev pub Gathered : Type 0
+Gathered = ℕ × List Tuple
 
-abbrev pub answer_over : List Tuple → BoundQuery → Answer
-answer_over rows q = elim (rows_answered rows q) [ Ok printed ↦ answer.Rows printed | Err fault ↦ answer.Fault fault ]
+-- the cells of a partition are counted, whether they are returned or not
+abbrev pub with_cells : Model → Tuple → Gathered → List OutCell → Result Gathered QueryFault
+with_cells model key (count, rows) cells =
+    if nat_lt QUERY_CELLS (count + length cells) then Err (at_partition key (placed_fault 0 [] kind.TooManyCells))
+    else Ok (count + length cells, rows ++ map (columns_of key) (returned model.part cells))
 
--- what a query answers over tables
+abbrev pub partition_step : Model → PartInput → Gathered → Result Gathered QueryFault
+partition_step model p gathered = elim (result_in model p) [ result.Rows cells ↦ with_cells model p.key gathered cells | result.Fault fault ↦ Err fault ]
+
+-- the partitions one after another, ascending
+abbrev pub model_rows : Tables → List Tuple → ModelPart → Result (List Tuple) QueryFault
+model_rows tables items part =
+    model_over tables part >>= (λ model.
+    each_in_turn (partition_step model) (partitions part items) (0, []) >>= (λ gathered. Ok gathered.1))
+
+-- the rows of a query before they are ordered, or its first fault
+abbrev pub query_rows : Tables → BoundQuery → Result (List Tuple) QueryFault
+query_rows tables q =
+    marked (plain_fault 0) (items_over tables q.from q.items) >>= (λ items. option_map_or (model_rows tables items) q.model (Ok items))
+
+-- what a query answers
 abbrev pub answer_of : Tables → BoundQuery → Answer
-answer_of tables q = answer_over (rows_of tables q.from.table) q
+answer_of tables q = elim (query_rows tables q) [ Ok rows ↦ answer.Rows (printed_rows q rows) | Err fault ↦ answer.Fault fault ]

@@ -1,26 +1,18 @@
--- The base rows of a query, and what is evaluated for each of them.
-use Rattle.std.specs.Prelude.{ℕ, List, [], ◌∷◌, Result, Ok, map, slice_index_or}
-use Rattle.mq_values.specs.declared.faults.ValueFault.{ValueFault}
-use Rattle.mq_values.specs.declared.value.Value.TheVariants.{Null}
-use Rattle.mq_ir.specs.declared.expression.Leaf.{Leaf, out-Leaf}
+-- stub
+use Rattle.std.specs.Prelude.{ℕ, List, [], ◌∷◌, Option, Some, None, nat_eq, Bool, Result, Ok}
+use Rattle.mq_values.specs.declared.faults.FaultKind.{FaultKind}
+use Rattle.mq_ir.specs.declared.query.FromPart.{FromPart}
 use Rattle.mq_ir.specs.declared.query.ItemPart.{ItemPart}
-use Rattle.mq_ir.specs.declared.expression.Expr.TheOpen as layer
-use Rattle.mq_ir.specs.Expression.{Outcome, ev}
-use Rattle.mq_ir.specs.Partitions.{Tuple, cut}
-use Rattle.mq_ir.specs.Results.{each, ◌>>=◌}
-
--- The leaves of an item over a base row, which has a row for each FROM item: a column. A cell has no meaning there.
-abbrev pub row_leaves : List Tuple → Leaf → Outcome
-row_leaves rows l = elim (out-Leaf l) [ layer.Column item column ↦ Ok (slice_index_or (slice_index_or rows item []) column Null) | layer.Cell measure places ↦ Ok Null ]
-
--- the base rows: for each row of the table, in order, the list of it alone
-abbrev pub base_rows : List Tuple → List (List Tuple)
-base_rows rows = map (λ row. row ∷ []) rows
-
--- the items of a base row, from left to right
-abbrev pub items_of : ItemPart → List Tuple → Result Tuple ValueFault
-items_of part rows = each (ev (row_leaves rows)) part.items
-
--- the items of each row, cut behind its n dimensions into a dimension tuple and measures
-abbrev pub input_rows : ItemPart → ℕ → List Tuple → Result (List (Tuple × Tuple)) ValueFault
-input_rows part n rows = each (items_of part) (base_rows rows) >>= (λ items. Ok (map (cut n) items))
+use Rattle.mq_ir.specs.declared.query.RefPart.{RefPart}
+use Rattle.mq_ir.specs.declared.expression.Leaf.{Leaf}
+use Rattle.mq_ir.specs.Expression.{Outcome}
+use Rattle.mq_values.specs.declared.value.Value.TheVariants.{Null}
+use Rattle.mq_ir.specs.Placed.{Placed}
+use Rattle.mq_ir.specs.Tables.{Tables}
+use Rattle.mq_ir.specs.Partitions.{Tuple, Cells}
+unfoldable pub items_over : Tables → FromPart → ItemPart → Result (List Tuple) FaultKind
+items_over tables from items = Ok []
+unfoldable pub reference_over : Tables → RefPart → Result Cells Placed
+reference_over tables part = Ok []
+unfoldable pub row_leaves : List Tuple → Leaf → Outcome
+row_leaves rows l = Ok Null

@@ -1,26 +1,28 @@
 -- The lines that statements print, as data and as text.
-use Rattle.std.specs.Prelude.{ℕ, List, [], ◌∷◌, ◌++◌, Bool, true, false, codes, map}
-use Rattle.std.specs.List.{join_with_byte}
-use Rattle.std.specs.Prelude.{decimal}
+use Rattle.std.specs.Prelude.{ℕ, decimal, List, [], ◌∷◌, ◌++◌, Bool, true, false, codes}
+use Rattle.std.specs.List.{flat_map, join_by}
 use Rattle.mq_values.specs.Print.{printed}
 use Rattle.mq_values.specs.declared.faults.FaultKind.{FaultKind}
 use Rattle.mq_values.specs.declared.faults.FaultKind.TheVariants as kind
 use Rattle.mq_values.specs.declared.faults.QueryFault.{QueryFault}
-use Rattle.mq_values.specs.declared.value.Value.{Value}
+use Rattle.mq_values.specs.declared.faults.Refused.{Refused}
+use Rattle.mq_values.specs.declared.faults.Refused.TheVariants as refused
+use Rattle.mq_ir.specs.Partitions.{Tuple}
+use Rattle.mq_ir.specs.Placed.{kind_of}
 
 pub data Line : Type 0 where
-  -- a table was created
+  -- a table or a view was created or dropped
   Done : Line
-  -- so many rows were inserted
+  -- so many rows were inserted, visited as true, or loaded
   Counted : ℕ → Line
   -- a row of an answer
-  RowLine : List Value → Line
+  RowLine : Tuple → Line
   -- so many rows were printed
   RowCount : ℕ → Line
   -- a query's first fault
   FaultLine : QueryFault → Line
-  -- the statement on this line of the script is none
-  SyntaxError : ℕ → Line
+  -- the statement whose first token is on this line of the script was refused
+  RefusalLine : ℕ → Refused → Line
 
 abbrev pub fault_name : FaultKind → List ℕ
 fault_name kind.NotUnique = codes "NOT_UNIQUE"
@@ -34,34 +36,56 @@ fault_name kind.TooManyCells = codes "TOO_MANY_CELLS"
 fault_name kind.TooManyUnfolded = codes "TOO_MANY_UNFOLDED"
 fault_name kind.TooManyRows = codes "TOO_MANY_ROWS"
 
--- the printed values of a tuple, with this byte between them
-abbrev pub joined_by : ℕ → List Value → List ℕ
-joined_by separator values = join_with_byte separator (map printed values)
+-- a key as it stands in a fault or a refusal
+abbrev pub key_text : Tuple → List ℕ
+key_text values = codes "(" ++ (join_by printed (codes ",") values ++ codes ")")
 
--- a key as it stands in a fault
-abbrev pub key_text : List Value → List ℕ
-key_text values = codes "(" ++ (joined_by 44 values ++ codes ")")
+abbrev pub fault_text : QueryFault → List ℕ
+fault_text f = fault_name f.kind ++ (codes " rule " ++ (decimal f.rule ++ (codes " partition " ++ (key_text f.partition ++ (codes " cell " ++ key_text f.cell)))))
+
+-- a refusal's name, with its detail behind it; names in it are in capitals already
+abbrev pub refusal_text : Refused → List ℕ
+refusal_text refused.TooDeep = codes "TOO_DEEP"
+refusal_text refused.Syntax = codes "SYNTAX"
+refusal_text (refused.UnknownName name) = codes "UNKNOWN_NAME " ++ name
+refusal_text (refused.DuplicateName name) = codes "DUPLICATE_NAME " ++ name
+refusal_text refused.KindMismatch = codes "KIND_MISMATCH"
+refusal_text (refused.ModelForm k) = codes "MODEL_FORM " ++ decimal k
+refusal_text (refused.Limit k) = codes "LIMIT " ++ decimal k
+refusal_text (refused.InUse view) = codes "IN_USE " ++ view
+refusal_text refused.NoFile = codes "NO_FILE"
+refusal_text refused.FileTooLong = codes "FILE_TOO_LONG"
+refusal_text refused.LoadHeader = codes "LOAD_HEADER"
+refusal_text (refused.LoadRow n) = codes "LOAD_ROW " ++ decimal n
+refusal_text (refused.ChangeValue row fault) = codes "CHANGE_VALUE row " ++ (decimal row ++ (codes " " ++ fault_name (kind_of fault)))
+refusal_text (refused.NotNull column) = codes "NOT_NULL " ++ column
+refusal_text (refused.DuplicateKey key) = codes "DUPLICATE_KEY " ++ key_text key
 
 -- a line's text, without the LF at its end
 abbrev pub line_body : Line → List ℕ
 line_body Done = codes "ok"
 line_body (Counted n) = codes "ok " ++ decimal n
-line_body (RowLine values) = joined_by 124 values
+line_body (RowLine values) = join_by printed (codes "|") values
 line_body (RowCount n) = codes "rows " ++ decimal n
-line_body (FaultLine f) =
-    codes "fault " ++ (fault_name f.kind ++ (codes " rule " ++ (decimal f.rule ++ (codes " partition " ++ (key_text f.partition ++ (codes " cell " ++ key_text f.cell))))))
-line_body (SyntaxError line) = codes "error line " ++ (decimal line ++ codes ": SYNTAX")
+line_body (FaultLine f) = codes "fault " ++ fault_text f
+line_body (RefusalLine line r) = codes "error line " ++ (decimal line ++ (codes ": " ++ refusal_text r))
+
+abbrev pub LF : ℕ
+LF = 10
 
 abbrev pub line_text : Line → List ℕ
-line_text line = line_body line ++ 10 ∷ []
+line_text line = line_body line ++ LF ∷ []
 
 -- lines, one after another
 abbrev pub text_of : List Line → List ℕ
-text_of [] = []
-text_of (line ∷ lines) = line_text line ++ text_of lines
+text_of lines = flat_map line_text lines
+
+abbrev pub is_refusal : Line → Bool
+is_refusal (RefusalLine line r) = true
+is_refusal _ = false
 
 -- an error or a fault
 abbrev pub is_flaw : Line → Bool
 is_flaw (FaultLine f) = true
-is_flaw (SyntaxError line) = true
+is_flaw (RefusalLine line r) = true
 is_flaw _ = false

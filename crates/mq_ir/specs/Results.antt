@@ -11,6 +11,11 @@ abbrev pub each : {A B E : Type 0} → (A → Result B E) → List A → Result 
 each f [] = Ok []
 each f (x ∷ xs) = f x >>= (λ y. each f xs >>= (λ ys. Ok (y ∷ ys)))
 
+-- a state after a step for each item, one after another
+abbrev pub each_in_turn : {A S E : Type 0} → (A → S → Result S E) → List A → S → Result S E
+each_in_turn step [] state = Ok state
+each_in_turn step (x ∷ xs) state = step x state >>= each_in_turn step xs
+
 -- the same with each fault marked by what stands beside it
 abbrev pub marked : {A E F : Type 0} → (E → F) → Result A E → Result A F
 marked mark (Ok x) = Ok x

@@ -1,47 +1,28 @@
+use crate::expression::Expr;
 use crate::query::BoundQuery;
 use mq_values::{Items, Key, Kind, Words};
-
-/// The values of a row, one for each column.
 pub type Row = Key;
-
-/// A column of a table.
 #[derive(Drop)]
-pub struct Column {
-    pub name: Words,
-    pub kind: Kind,
-}
-
-/// The columns of a table, in order.
+pub struct Column { pub name: Words, pub kind: Kind, pub not_null: bool }
 #[derive(Drop)]
-pub struct Schema {
-    pub columns: Items<Column>,
-}
-
-/// A table to be created.
+pub struct Schema { pub cols: Items<Column>, pub key: Items<u32> }
 #[derive(Drop)]
-pub struct TableDef {
-    pub name: Words,
-    pub schema: Schema,
-}
-
-/// A table as it stands: its rows are in order of insertion.
-#[derive(Drop)]
-pub struct Table {
-    pub schema: Schema,
-    pub rows: Items<Row>,
-}
-
-/// A change of the rows of a table.
+pub struct TableDef { pub name: Words, pub schema: Schema }
 #[derive(Drop)]
 pub enum Change {
-    /// These rows come behind those that the table has.
+    Insert { table: Words, rows: Items<Items<Expr>> },
     Append { table: Words, rows: Items<Row> },
+    Update { table: Words, sets: Items<(u32, Expr)>, filter: Option<Expr> },
+    Delete { table: Words, filter: Option<Expr> },
 }
-
-/// A statement whose names are bound under the tables as they stand.
 #[derive(Drop)]
 pub enum Bound {
     CreateTable(TableDef),
+    DropTable(Words),
+    CreateView(Words, BoundQuery),
+    DropView(Words),
     Change(Change),
+    Load(Words, Words),
+    Show(Words),
     Query(BoundQuery),
 }

@@ -1,0 +1,18 @@
+-- Sets of dimension tuples.
+use Rattle.std.specs.Prelude.{ℕ, List, [], ◌∷◌, Bool, if◌then◌else◌}
+use Rattle.std.specs.List.{list_any}
+use Rattle.std.specs.Ordering.{is_eq}
+use Rattle.mq_values.specs.Order.{cmp_key}
+use Rattle.mq_ir.specs.Partitions.{Tuple}
+
+-- the same tuple: null meets null, and 1 and 1.0 are two tuples
+abbrev pub is_same : Tuple → Tuple → Bool
+is_same a b = is_eq (cmp_key a b)
+
+abbrev pub is_among : List Tuple → Tuple → Bool
+is_among keys key = list_any (is_same key) keys
+
+-- these keys, each once
+abbrev pub each_once : List Tuple → List Tuple
+each_once [] = []
+each_once (key ∷ keys) = if is_among keys key then each_once keys else key ∷ each_once keys
