@@ -1,23 +1,17 @@
 -- What a query answers over tables.
-use Rattle.std.specs.Prelude.{ℕ, ◌+◌, List, [], ◌∷◌, ◌++◌, length, map, Bool, true, false, not, ◌||◌, ◌==◌, nat_lt, if◌then◌else◌, Option, Some, None, Result, Ok, Err, slice_index_or}
+use Rattle.std.specs.Prelude.{ℕ, ◌+◌, List, [], ◌++◌, length, map, Bool, true, false, not, ◌||◌, ◌==◌, nat_lt, if◌then◌else◌, Result, Ok, Err}
 use Rattle.std.specs.List.{enumerate_from, filter, find, list_any}
 use Rattle.std.specs.Option.{option_map_or}
-use Rattle.std.specs.Ordering.{flip_args, ordering_then}
-use Rattle.std.specs.declared.cmp.Ordering.{Ordering}
-use Rattle.std.specs.declared.cmp.Ordering.TheVariants.{Equal}
-use Rattle.mq_values.specs.Order.{cmp_key, cmp_value}
 use Rattle.mq_values.specs.declared.faults.FaultKind.{FaultKind}
 use Rattle.mq_values.specs.declared.faults.FaultKind.TheVariants as kind
 use Rattle.mq_values.specs.declared.faults.QueryFault.{QueryFault}
-use Rattle.mq_values.specs.declared.value.Value.{Value}
-use Rattle.mq_values.specs.declared.value.Value.TheVariants.{Null}
 use Rattle.mq_ir.specs.declared.query.Answer.{Answer}
 use Rattle.mq_ir.specs.declared.query.Answer.TheVariants as answer
 use Rattle.mq_ir.specs.declared.query.BoundQuery.{BoundQuery}
 use Rattle.mq_ir.specs.declared.query.Left.{Left}
 use Rattle.mq_ir.specs.declared.query.Left.TheVariants.{Places, Tuples}
 use Rattle.mq_ir.specs.declared.query.LeftItem.{LeftItem}
-use Rattle.mq_ir.specs.declared.query.LeftItem.TheVariants.{At, Sym, List as Listed, Steps}
+use Rattle.mq_ir.specs.declared.query.LeftItem.TheVariants.{List as Listed}
 use Rattle.mq_ir.specs.declared.query.ListSource.{ListSource}
 use Rattle.mq_ir.specs.declared.query.ListSource.TheVariants.{Values, Rows}
 use Rattle.mq_ir.specs.declared.query.ModelPart.{ModelPart}
@@ -26,13 +20,12 @@ use Rattle.mq_ir.specs.declared.query.PartInput.{PartInput}
 use Rattle.mq_ir.specs.declared.query.PartResult.{PartResult}
 use Rattle.mq_ir.specs.declared.query.PartResult.TheVariants as result
 use Rattle.mq_ir.specs.declared.query.PlainPart.{PlainPart}
-use Rattle.mq_ir.specs.declared.query.Rule.{Rule}
 use Rattle.mq_ir.specs.Automatic.{automatic}
 use Rattle.mq_ir.specs.Items.{items_over, reference_over}
 use Rattle.mq_ir.specs.Iteration.{sequential}
 use Rattle.mq_ir.specs.LimitsStub.{QUERY_CELLS}
-use Rattle.mq_ir.specs.Partitions.{Tuple, Cells, ascending, partitions}
-use Rattle.mq_ir.specs.Placed.{Placed, at_partition, placed_fault}
+use Rattle.mq_ir.specs.Partitions.{Tuple, partitions}
+use Rattle.mq_ir.specs.Placed.{at_partition, placed_fault}
 use Rattle.mq_ir.specs.Printing.{printed_rows}
 use Rattle.mq_ir.specs.Results.{◌>>=◌, each, each_in_turn, marked}
 use Rattle.mq_ir.specs.Tables.{Tables}

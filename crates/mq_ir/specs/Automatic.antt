@@ -1,12 +1,11 @@
 -- What a model in automatic order makes of a partition.
-use Rattle.std.specs.Prelude.{ℕ, ◌-◌, List, [], ◌∷◌, length, map, Bool, not, Option, Some, None, Result, Ok, Err, slice_get}
+use Rattle.std.specs.Prelude.{ℕ, ◌-◌, List, length, map, Bool, not, Option, Some, None, Result, Ok, Err, slice_get}
 use Rattle.std.specs.List.{filter, filter_map, find, list_any, range_with_len}
 use Rattle.std.specs.Map.{keys_of}
 use Rattle.std.specs.Option.{option_and_then, option_map, option_map_or}
 use Rattle.std.specs.Result.{result_unwrap_or}
 use Rattle.mq_values.specs.declared.faults.FaultKind.TheVariants as kind
 use Rattle.mq_values.specs.declared.value.Value.TheVariants.{Null}
-use Rattle.mq_ir.specs.declared.query.CellName.{CellName}
 use Rattle.mq_ir.specs.declared.query.Look.{Look}
 use Rattle.mq_ir.specs.declared.query.Look.TheVariants.{Measure, Presence}
 use Rattle.mq_ir.specs.declared.query.OutCell.{OutCell}

@@ -1,11 +1,10 @@
 -- What a change makes of the rows of its table, and why it is refused.
 use Rattle.std.specs.Prelude.{ℕ, ◌+◌, ◌*◌, List, [], ◌∷◌, ◌++◌, length, map, sum_by, Bool, true, false, ◌&&◌, not, nat_lt, if◌then◌else◌, Option, Some, None, Result, Ok, Err, slice_index_or, slice_set, slice_get}
-use Rattle.std.specs.List.{enumerate_from, filter, filter_map, fold, zip}
-use Rattle.std.specs.Option.{option_map, option_map_or, option_or}
+use Rattle.std.specs.List.{enumerate_from, filter, fold, zip}
+use Rattle.std.specs.Option.{option_map, option_map_or}
 use Rattle.mq_values.specs.Aggregate.{is_value}
 use Rattle.mq_values.specs.declared.faults.Refused.{Refused}
 use Rattle.mq_values.specs.declared.faults.Refused.TheVariants as refused
-use Rattle.mq_values.specs.declared.faults.ValueFault.{ValueFault}
 use Rattle.mq_values.specs.declared.value.Value.{Value}
 use Rattle.mq_values.specs.declared.value.Value.TheVariants.{Null}
 use Rattle.mq_ir.specs.declared.expression.Expr.{Expr}
@@ -20,8 +19,15 @@ use Rattle.mq_ir.specs.Keys.{is_among}
 use Rattle.mq_ir.specs.LimitsStub.{TABLE_ROWS, ALL_VALUES}
 use Rattle.mq_ir.specs.Partitions.{Tuple}
 use Rattle.mq_ir.specs.Results.{◌>>=◌, each, marked}
-use Rattle.mq_ir.specs.Tables.{Table, Tables, is_name, table_at}
+use Rattle.mq_ir.specs.Tables.{Table, Tables}
 use Rattle.mq_ir.specs.Unfolding.{converted}
+
+-- the table that a change is of
+abbrev pub table_of : Change → List ℕ
+table_of (Insert name rows) = name
+table_of (Append name rows) = name
+table_of (Update name sets filter) = name
+table_of (Delete name filter) = name
 
 -- the value of a column in the row of this number, over the row as it was: evaluated, converted, and asked for null
 abbrev pub column_value : List Tuple → ℕ → Column → Expr → Result Value Refused

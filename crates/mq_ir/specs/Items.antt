@@ -1,5 +1,5 @@
 -- stub
-use Rattle.std.specs.Prelude.{ℕ, List, [], ◌∷◌, Option, Some, None, nat_eq, Bool, Result, Ok}
+use Rattle.std.specs.Prelude.{List, [], Result, Ok}
 use Rattle.mq_values.specs.declared.faults.FaultKind.{FaultKind}
 use Rattle.mq_ir.specs.declared.query.FromPart.{FromPart}
 use Rattle.mq_ir.specs.declared.query.ItemPart.{ItemPart}

@@ -4,7 +4,9 @@ pub mod Automatic
 pub mod CatalogStub
 pub mod Changes
 pub mod Expression
+pub mod Fits
 pub mod FitsExpression
+pub mod FitsStatement
 pub mod Items
 pub mod Iteration
 pub mod Keys

@@ -1,5 +1,5 @@
 -- What the right side of a rule looks at.
-use Rattle.std.specs.Prelude.{ℕ, List, [], ◌∷◌, ◌++◌, Option, Some, None, Result, Ok, Err, map}
+use Rattle.std.specs.Prelude.{List, [], ◌∷◌, ◌++◌, Option, Result, Ok, Err, map}
 use Rattle.std.specs.List.{flat_map}
 use Rattle.std.specs.Option.{option_map_or}
 use Rattle.mq_values.specs.declared.faults.ValueFault.{ValueFault}
@@ -12,7 +12,6 @@ use Rattle.mq_ir.specs.declared.expression.Leaf.{Leaf, out-Leaf}
 use Rattle.mq_ir.specs.declared.expression.Test.{Test}
 use Rattle.mq_ir.specs.declared.query.Look.{Look}
 use Rattle.mq_ir.specs.declared.query.Look.TheVariants.{Measure, Presence}
-use Rattle.mq_ir.specs.Partitions.{Tuple}
 use Rattle.mq_ir.specs.Reads.{Site, cell_named, range_named}
 
 -- the leaves of an expression

@@ -1,12 +1,11 @@
 -- What the leaves of a right side are worth.
-use Rattle.std.specs.Prelude.{ℕ, pos, List, [], ◌∷◌, Bool, true, false, ◌&&◌, if◌then◌else◌, not, Option, Some, None, Result, Ok, map, slice_get, slice_index_or, length, take, drop}
+use Rattle.std.specs.Prelude.{ℕ, pos, List, [], Bool, ◌&&◌, if◌then◌else◌, not, Result, Ok, map, slice_get, slice_index_or, length, take, drop}
 use Rattle.std.specs.Option.{option_map_or}
 use Rattle.std.specs.List.{filter, zip}
 use Rattle.mq_values.specs.Aggregate.{aggregate, is_value}
 use Rattle.mq_values.specs.Convert.{cast_of}
 use Rattle.mq_values.specs.declared.faults.ValueFault.{ValueFault}
 use Rattle.mq_values.specs.declared.operators.Agg.{Agg}
-use Rattle.mq_values.specs.declared.operators.DimTest.{DimTest}
 use Rattle.mq_values.specs.declared.value.Kind.{Kind}
 use Rattle.mq_values.specs.declared.value.Kind.TheVariants as kind
 use Rattle.mq_values.specs.declared.value.Value.{Value}

@@ -1,27 +1,21 @@
 -- What the rules of a model do to the cells of a partition in sequential order.
-use Rattle.std.specs.Prelude.{ℕ, zero, suc, ◌+◌, List, [], ◌∷◌, length, map, replicate, slice_set, Bool, true, false, ◌&&◌, not, ◌==◌, nat_lt, if◌then◌else◌, Option, Some, None, Result, Ok, Err}
+use Rattle.std.specs.Prelude.{ℕ, List, [], ◌∷◌, length, replicate, slice_set, Bool, false, ◌&&◌, not, ◌==◌, nat_lt, if◌then◌else◌, Option, Some, None, Result, Ok, Err}
 use Rattle.std.specs.List.{enumerate_from, find, fold, list_any}
 use Rattle.std.specs.Map.{keys_of}
-use Rattle.std.specs.Option.{option_map, option_map_or, option_or}
+use Rattle.std.specs.Option.{option_map, option_map_or}
 use Rattle.mq_values.specs.declared.faults.FaultKind.TheVariants as kind
 use Rattle.mq_values.specs.declared.value.Value.{Value}
 use Rattle.mq_values.specs.declared.value.Value.TheVariants.{Null}
-use Rattle.mq_ir.specs.declared.expression.Expr.{Expr}
 use Rattle.mq_ir.specs.declared.query.Look.{Look}
 use Rattle.mq_ir.specs.declared.query.Look.TheVariants.{Measure, Presence}
-use Rattle.mq_ir.specs.declared.query.OutCell.{OutCell}
-use Rattle.mq_ir.specs.declared.query.PartInput.{PartInput}
-use Rattle.mq_ir.specs.declared.query.PartResult.{PartResult}
-use Rattle.mq_ir.specs.declared.query.PartResult.TheVariants.{Rows, Fault}
 use Rattle.mq_ir.specs.declared.query.Rule.{Rule}
 use Rattle.mq_ir.specs.declared.query.SingleLeft.{SingleLeft}
-use Rattle.mq_ir.specs.Expression.{holds}
 use Rattle.mq_ir.specs.Keys.{is_among, is_same}
 use Rattle.mq_ir.specs.LimitsStub.{PARTITION_CELLS}
 use Rattle.mq_ir.specs.Looks.{looks_of}
 use Rattle.mq_ir.specs.Partitions.{Tuple, Cells, cell_at, with_cell}
-use Rattle.mq_ir.specs.Placed.{Placed, at_partition, placed_fault, value_fault}
-use Rattle.mq_ir.specs.Reads.{Site, measure_at, read_until, right_value}
+use Rattle.mq_ir.specs.Placed.{Placed, placed_fault, value_fault}
+use Rattle.mq_ir.specs.Reads.{Site, measure_at, right_value}
 use Rattle.mq_ir.specs.Results.{◌>>=◌, each_in_turn, marked}
 use Rattle.mq_ir.specs.Targets.{is_symbolic, targets}
 use Rattle.mq_ir.specs.Unfolding.{Model, unfold_rule}

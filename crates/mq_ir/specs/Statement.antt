@@ -1,5 +1,5 @@
 -- What a statement does to the tables and views, and what it prints.
-use Rattle.std.specs.Prelude.{ℕ, List, [], ◌∷◌, ◌++◌, length, map, Bool, not, nat_lt, if◌then◌else◌, Option, Some, None, Result, Ok, Err}
+use Rattle.std.specs.Prelude.{ℕ, List, [], ◌∷◌, ◌++◌, length, map, not, nat_lt, if◌then◌else◌, Option, Result, Ok, Err}
 use Rattle.std.specs.List.{filter, find, flat_map, list_any}
 use Rattle.std.specs.Option.{ok_or, option_map, option_map_or}
 use Rattle.mq_values.specs.declared.faults.Refused.{Refused}
@@ -11,10 +11,10 @@ use Rattle.mq_ir.specs.declared.query.ModelPart.{ModelPart}
 use Rattle.mq_ir.specs.declared.statement.Bound.{Bound}
 use Rattle.mq_ir.specs.declared.statement.Bound.TheVariants as bound
 use Rattle.mq_ir.specs.declared.statement.Change.{Change}
-use Rattle.mq_ir.specs.declared.statement.Change.TheVariants.{Insert, Append, Update, Delete}
+use Rattle.mq_ir.specs.declared.statement.Change.TheVariants.{Append}
 use Rattle.mq_ir.specs.declared.statement.Schema.{Schema}
 use Rattle.mq_ir.specs.Answer.{answer_of}
-use Rattle.mq_ir.specs.Changes.{Changed, key_fault, rows_added, rows_changed, size_fault}
+use Rattle.mq_ir.specs.Changes.{Changed, key_fault, rows_added, rows_changed, size_fault, table_of}
 use Rattle.mq_ir.specs.LimitsStub.{FILE_BYTES}
 use Rattle.mq_ir.specs.Lines.{Line, Counted, Done, FaultLine, RefusalLine, RowCount, RowLine}
 use Rattle.mq_ir.specs.Partitions.{Tuple}
@@ -62,12 +62,6 @@ staged tables table change =
     unless_refused (size_fault tables table (rows_added change)) (
     rows_changed table change >>= (λ changed. unless_refused (key_fault table.schema changed.0) (Ok changed)))
 
-abbrev pub table_changed : Change → List ℕ
-table_changed (Insert name rows) = name
-table_changed (Append name rows) = name
-table_changed (Update name sets filter) = name
-table_changed (Delete name filter) = name
-
 abbrev pub with_rows : Tables → List ℕ → List Tuple → Tables
 with_rows tables name rows = map (λ (t : Table). if is_name name t.name then record t { rows = rows } else t) tables
 
@@ -77,7 +71,7 @@ Printed = State × List Line
 
 abbrev pub change_step : State → Change → Result Printed Refused
 change_step state change =
-    ok_or (table_at state.tables (table_changed change)) (refused.UnknownName (table_changed change)) >>= (λ table.
+    ok_or (table_at state.tables (table_of change)) (refused.UnknownName (table_of change)) >>= (λ table.
     staged state.tables table change >>= (λ changed.
     Ok (record state { tables = with_rows state.tables table.name changed.0 }, Counted changed.1 ∷ [])))
 

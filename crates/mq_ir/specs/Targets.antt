@@ -1,5 +1,5 @@
 -- stub
-use Rattle.std.specs.Prelude.{ℕ, List, [], ◌∷◌, Bool, true, false}
+use Rattle.std.specs.Prelude.{List, [], Bool, true, false}
 use Rattle.mq_values.specs.declared.operators.DimTest.{DimTest}
 use Rattle.mq_values.specs.declared.operators.Mode.{Mode}
 use Rattle.mq_ir.specs.declared.query.SingleLeft.{SingleLeft}

@@ -1,5 +1,5 @@
 -- stub
-use Rattle.std.specs.Prelude.{ℕ, List, [], ◌∷◌, Result, Ok, map, Option, Some, None, Bool, true, false, pos}
+use Rattle.std.specs.Prelude.{ℕ, List, [], Result, Ok}
 use Rattle.mq_values.specs.declared.faults.ValueFault.{ValueFault}
 use Rattle.mq_values.specs.declared.faults.FaultKind.{FaultKind}
 use Rattle.mq_values.specs.declared.operators.DimTest.{DimTest}

@@ -1,0 +1,62 @@
+-- Statements that are bound under a catalog.
+use Rattle.std.specs.Prelude.{ℕ, List, [], ◌∷◌, length, Bool, true, false, ◌&&◌, ◌||◌, not, ◌==◌, nat_lt, nat_le}
+use Rattle.std.specs.List.{list_all, zip}
+use Rattle.std.specs.Option.{option_map_or}
+use Rattle.mq_values.specs.Aggregate.{is_value}
+use Rattle.mq_values.specs.Laws.{is_of}
+use Rattle.mq_ir.specs.declared.statement.Bound.{Bound}
+use Rattle.mq_ir.specs.declared.statement.Bound.TheVariants as bound
+use Rattle.mq_ir.specs.declared.statement.Change.{Change}
+use Rattle.mq_ir.specs.declared.statement.Change.TheVariants.{Insert, Append, Update, Delete}
+use Rattle.mq_ir.specs.declared.statement.Column.{Column}
+use Rattle.mq_ir.specs.declared.statement.Schema.{Schema}
+use Rattle.mq_ir.specs.declared.expression.Expr.{Expr}
+use Rattle.mq_values.specs.declared.value.Value.{Value}
+use Rattle.mq_ir.specs.CatalogStub.{Catalog}
+use Rattle.mq_ir.specs.Changes.{table_of}
+use Rattle.mq_ir.specs.Fits.{fits_if_there, is_table, is_view, query_fits, row_scope, schema_of}
+use Rattle.mq_ir.specs.FitsExpression.{expression_fits, kind_fits}
+use Rattle.mq_ir.specs.LimitsStub.{COLUMNS, TABLES, VIEWS}
+use Rattle.mq_ir.specs.Partitions.{Tuple}
+
+abbrev pub schema_fits : Schema → Bool
+schema_fits schema =
+    nat_le (length schema.cols) COLUMNS && list_all (λ col. kind_fits col.kind) schema.cols && list_all (λ c. nat_lt c (length schema.cols)) schema.key
+
+-- each value is null or of the column's kind, and it is not null where the column is NOT NULL
+abbrev pub value_fits : Column × Value → Bool
+value_fits (col, v) = is_of col.kind v && (is_value v || not col.not_null)
+
+-- one value for each column
+abbrev pub is_row_of : Schema → Tuple → Bool
+is_row_of schema row = (length row == length schema.cols) && list_all value_fits (zip schema.cols row)
+
+abbrev pub inserts_fit : Schema → List Expr → Bool
+inserts_fit schema es = (length es == length schema.cols) && list_all (expression_fits (row_scope [])) es
+
+abbrev pub set_fits : Schema → ℕ × Expr → Bool
+set_fits schema (c, e) = nat_lt c (length schema.cols) && expression_fits (row_scope (length schema.cols ∷ [])) e
+
+-- a change of a table with these columns
+abbrev pub change_fits_schema : Schema → Change → Bool
+change_fits_schema schema (Insert name rows) = list_all (inserts_fit schema) rows
+change_fits_schema schema (Append name rows) = list_all (is_row_of schema) rows
+change_fits_schema schema (Update name sets filter) = list_all (set_fits schema) sets && fits_if_there (row_scope (length schema.cols ∷ [])) filter
+change_fits_schema schema (Delete name filter) = fits_if_there (row_scope (length schema.cols ∷ [])) filter
+
+abbrev pub change_fits : Catalog → Change → Bool
+change_fits catalog change = option_map_or (λ schema. change_fits_schema schema change) (schema_of catalog (table_of change)) false
+
+-- a name that is there already, as a table or as a view
+abbrev pub is_taken : Catalog → List ℕ → Bool
+is_taken catalog name = is_table catalog name || is_view catalog name
+
+abbrev pub fits : Catalog → Bound → Bool
+fits catalog (bound.CreateTable def) = not (is_taken catalog def.name) && nat_lt (length catalog.tables) TABLES && schema_fits def.schema
+fits catalog (bound.DropTable name) = is_table catalog name
+fits catalog (bound.CreateView name q) = not (is_taken catalog name) && nat_lt (length catalog.views) VIEWS && query_fits catalog q
+fits catalog (bound.DropView name) = is_view catalog name
+fits catalog (bound.Change change) = change_fits catalog change
+fits catalog (bound.Load table file) = is_table catalog table
+fits catalog (bound.Show name) = true
+fits catalog (bound.Query q) = query_fits catalog q
