@@ -3,6 +3,7 @@ pub mod Answer
 pub mod Automatic
 pub mod CatalogStub
 pub mod Changes
+pub mod Conditions
 pub mod Expression
 pub mod Fits
 pub mod FitsExpression
@@ -13,6 +14,7 @@ pub mod Keys
 pub mod LimitsStub
 pub mod Lines
 pub mod Looks
+pub mod Operators
 pub mod Partitions
 pub mod Placed
 pub mod Printing
@@ -26,3 +28,4 @@ pub mod Statement
 pub mod Tables
 pub mod Targets
 pub mod Unfolding
+pub mod Worth

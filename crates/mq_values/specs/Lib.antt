@@ -2,6 +2,7 @@ pub mod Aggregate
 pub mod Answers
 pub mod Arithmetic
 pub mod Convert
+pub mod DimTests
 pub mod Laws
 pub mod Number
 pub mod NumberLaws
@@ -13,5 +14,6 @@ pub mod Print
 pub mod Shared
 pub mod Tally
 pub mod Text
+pub mod Truth
 pub mod Words
 pub mod formers
