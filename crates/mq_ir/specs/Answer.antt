@@ -21,7 +21,8 @@ use Rattle.mq_ir.specs.declared.query.PartResult.{PartResult}
 use Rattle.mq_ir.specs.declared.query.PartResult.TheVariants as result
 use Rattle.mq_ir.specs.declared.query.PlainPart.{PlainPart}
 use Rattle.mq_ir.specs.Automatic.{automatic}
-use Rattle.mq_ir.specs.Items.{items_over, reference_over}
+use Rattle.mq_ir.specs.Items.{items_over}
+use Rattle.mq_ir.specs.References.{reference_over}
 use Rattle.mq_ir.specs.Iteration.{sequential}
 use Rattle.mq_ir.specs.LimitsStub.{QUERY_CELLS}
 use Rattle.mq_ir.specs.Partitions.{Tuple, partitions}

@@ -1,9 +1,13 @@
 -- Sets of dimension tuples.
-use Rattle.std.specs.Prelude.{List, [], ◌∷◌, Bool, if◌then◌else◌}
-use Rattle.std.specs.List.{list_any}
+use Rattle.std.specs.Prelude.{List, [], ◌∷◌, Bool, not, if◌then◌else◌}
+use Rattle.std.specs.List.{filter, list_any}
 use Rattle.std.specs.Ordering.{is_eq}
 use Rattle.mq_values.specs.Order.{cmp_key}
-use Rattle.mq_ir.specs.Partitions.{Tuple}
+use Rattle.mq_values.specs.declared.value.Value.{Value}
+
+-- the values of a row, of a dimension tuple, of a partition key, or of the measures of a cell
+abbrev pub Tuple : Type 0
+Tuple = List Value
 
 -- the same tuple: null meets null, and 1 and 1.0 are two tuples
 abbrev pub is_same : Tuple → Tuple → Bool
@@ -16,3 +20,8 @@ is_among keys key = list_any (is_same key) keys
 abbrev pub each_once : List Tuple → List Tuple
 each_once [] = []
 each_once (key ∷ keys) = if is_among keys key then each_once keys else key ∷ each_once keys
+
+-- these keys, each once, in order of their first
+abbrev pub each_first : List Tuple → List Tuple
+each_first [] = []
+each_first (key ∷ keys) = key ∷ filter (λ k. not (is_same key k)) (each_first keys)

@@ -1,6 +1,7 @@
 pub mod Affected
 pub mod Answer
 pub mod Automatic
+pub mod BaseRows
 pub mod CatalogStub
 pub mod Changes
 pub mod Conditions
@@ -19,6 +20,7 @@ pub mod Partitions
 pub mod Placed
 pub mod Printing
 pub mod Reads
+pub mod References
 pub mod Results
 pub mod Rounds
 pub mod Sequential

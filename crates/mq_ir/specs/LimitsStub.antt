@@ -33,3 +33,9 @@ abbrev pub SCALE : ℕ
 SCALE = 12
 abbrev pub REFERENCES : ℕ
 REFERENCES = 2
+abbrev pub BASE_ROWS : ℕ
+BASE_ROWS = 100000
+abbrev pub REFERENCE_CELLS : ℕ
+REFERENCE_CELLS = 10000
+abbrev pub SINGLE_LEFT_SIDES : ℕ
+SINGLE_LEFT_SIDES = 10000
