@@ -1,6 +1,6 @@
 -- The base rows of a query: tuples of row places, one place for each FROM item.
 use Rattle.std.specs.Prelude.{ℕ, ◌+◌, Bool, true, false, List, [], ◌∷◌, ◌++◌, length, map, nat_lt, slice_index_or, Option, Some, None, Result, Ok, Err, if◌then◌else◌}
-use Rattle.std.specs.List.{filter_map, flat_map, range_with_len, zip}
+use Rattle.std.specs.List.{filter_map, range_with_len, zip}
 use Rattle.std.specs.Option.{option_map_or, option_to_list}
 use Rattle.mq_values.specs.Truth.{is_true}
 use Rattle.mq_values.specs.declared.faults.FaultKind.{FaultKind}
@@ -11,6 +11,7 @@ use Rattle.mq_ir.specs.declared.expression.Expr.{Expr}
 use Rattle.mq_ir.specs.declared.expression.Expr.TheOpen as layer
 use Rattle.mq_ir.specs.declared.expression.Leaf.{Leaf, out-Leaf}
 use Rattle.mq_ir.specs.declared.query.FromPart.{FromPart}
+use Rattle.mq_ir.specs.Combinations.{combinations}
 use Rattle.mq_ir.specs.Expression.{Outcome, holds}
 use Rattle.mq_ir.specs.LimitsStub.{BASE_ROWS}
 use Rattle.mq_ir.specs.Partitions.{Tuple}
@@ -24,8 +25,7 @@ Places = List ℕ
 
 -- all tuples of places in items of so many rows, the first item turning slowest
 abbrev pub all_places : List ℕ → List Places
-all_places [] = [] ∷ []
-all_places (count ∷ counts) = flat_map (λ place. map (λ rest. place ∷ rest) (all_places counts)) (range_with_len 0 count)
+all_places counts = combinations (map (range_with_len 0) counts)
 
 -- the rows that stand at these places of the items
 abbrev pub rows_at : List (List Tuple) → Places → List Tuple

@@ -4,6 +4,7 @@ pub mod Automatic
 pub mod BaseRows
 pub mod CatalogStub
 pub mod Changes
+pub mod Combinations
 pub mod Conditions
 pub mod Expression
 pub mod Fits
@@ -29,5 +30,6 @@ pub mod Slots
 pub mod Statement
 pub mod Tables
 pub mod Targets
+pub mod Tests
 pub mod Unfolding
 pub mod Worth
