@@ -6,4 +6,5 @@ pub mod Rounding
 pub mod Steps
 pub mod Tallies
 pub mod Tens
+pub mod TruthLemmas
 pub mod Written

@@ -2,6 +2,7 @@ pub mod Aggregate
 pub mod Answers
 pub mod Arithmetic
 pub mod Convert
+pub mod DimTestLaws
 pub mod DimTests
 pub mod Laws
 pub mod Number

@@ -7,6 +7,9 @@ mod arithmetic;
 mod boxed;
 mod convert;
 mod digits;
+#[cfg(test)]
+mod dim_test_tests;
+mod dim_tests;
 mod faults;
 mod items;
 mod laws;
@@ -29,6 +32,7 @@ mod words;
 pub use arithmetic::{add, div, mul, sub};
 pub use boxed::Boxed;
 pub use convert::{cast, concat, length};
+pub use dim_tests::{compare, truth_and, truth_not, truth_or};
 pub use faults::{FaultKind, QueryFault, Refused, ValueFault};
 pub use items::Items;
 pub use laws::{
