@@ -3,6 +3,7 @@
 //! `specs/Tokens.antt` defines the tokens of a text, and `specs/Statements.antt` its statements.
 #![tactic(auto)]
 
+mod keywords;
 mod laws;
 mod pieces;
 mod scanner;
@@ -10,6 +11,7 @@ mod script;
 mod sorts;
 mod words;
 
+pub use keywords::{Keyword, RESERVED, Reserved, reserved_word};
 pub use laws::{
     gaps_are_blanks_and_comments, lines_are_counted_by_lf, pieces_give_the_text_back,
     readable_tokens_hold_no_blank, statements_hold_the_tokens, tokens_are_the_longest,

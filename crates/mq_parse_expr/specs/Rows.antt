@@ -1,12 +1,8 @@
--- The reserved words by their first letter, and what may be a text.
-use Rattle.std.specs.Prelude.{ℕ, ◌+◌, Bool, false, ◌==◌, ◌&&◌, nat_le, List, length, filter, slice_index, Option, Some, None}
+-- What may be a text.
+use Rattle.std.specs.Prelude.{ℕ, ◌+◌, Bool, false, ◌==◌, ◌&&◌, nat_le, List, length, Option, Some, None}
 use Rattle.std.specs.List.{list_all}
 use Rattle.mq_values.specs.Text.{is_plain, is_text}
-use Rattle.mq_ast.specs.declared.terminals.Keyword.{Keyword}
-use Rattle.mq_ast.specs.Spelling.{keywords, unquoted}
-
-unfoldable pub reserved_row : ℕ → List (List ℕ × Keyword)
-reserved_row b = filter (λ w. slice_index w.0 0 == b) keywords
+use Rattle.mq_ast.specs.Spelling.{unquoted}
 
 abbrev pub may_be_text : Option (List ℕ) → Bool
 may_be_text None = false

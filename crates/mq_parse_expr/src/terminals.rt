@@ -1,18 +1,16 @@
 //! What stands at a place of a list of tokens.
 
 ghost use Rattle.std.specs.Prelude.{◌≡◌, ◌≢◌, ◌<◌, ◌≤◌, ◌+◌, [], ◌∷◌, length, MatchOption, MatchResult};
-ghost use Rattle.mq_ast.specs.declared.terminals.Keyword.{Keyword};
+ghost use Rattle.mq_lexer.specs.declared.keywords.Keyword.{Keyword};
 ghost use Rattle.mq_ast.specs.declared.terminals.Symbol.{Symbol};
 ghost use Rattle.mq_ast.specs.Tokens.{Word, Sign, terminal_at};
 ghost use Rattle.mq_ast.specs.Spelling.{tok_of};
 ghost use Rattle.mq_ast.specs.Continuing.{loose, Stops, Not};
 ghost use Rattle.mq_parse_expr.specs.Reading.{from, Then, Fails};
 
-use crate::keywords::keyword;
-use crate::ranks::same_word;
 use crate::spelling::{is_text, number, symbol};
 use mq_ast::{Keyword, Symbol, Terminal};
-use mq_lexer::{Sort, Token};
+use mq_lexer::{Reserved, Sort, Token, reserved_word};
 use mq_values::{Fail, Refused};
 
 /// What a token is for the grammar (docs/LANGUAGE.md, "Tokens").
@@ -20,8 +18,9 @@ pub fn terminal_of(token: &Token<'_>) -> Terminal
     ensures { result ≡ terminal_at (tok_of token.now ∷ []) }
 {
     match token.sort {
-        Sort::Word => match keyword(token.text) {
-            Some(word) => Terminal::Word(word),
+        Sort::Word => match reserved_word(token.text) {
+            Some(Reserved::Word(word)) => Terminal::Word(word),
+            Some(Reserved::Aggregate(agg)) => Terminal::Aggregate(agg),
             None => Terminal::Name,
         },
         Sort::Sign => match symbol(token.text) {
@@ -87,7 +86,7 @@ pub fn behind_word(t: &[Token<'_>], at: usize, word: Keyword) -> Option<usize>
     ensures { MatchOption result (Not (Terminal.Word word) (from t.now at)) (Then (Word word) t.now at) }
 {
     match word_at(t, at) {
-        Some(found) if same_word(found, word) => Some(at + 1),
+        Some(found) if found == word => Some(at + 1),
         _ => None,
     }
 }
@@ -163,7 +162,11 @@ pub fn looseness(terminal: Terminal) -> u8
         Terminal::Word(word) => looseness_of_word(word),
         Terminal::Sign(sign) => looseness_of_sign(sign),
         Terminal::Name => 8,
-        Terminal::Number | Terminal::Text | Terminal::Bad | Terminal::Nothing => 13,
+        Terminal::Aggregate(_)
+        | Terminal::Number
+        | Terminal::Text
+        | Terminal::Bad
+        | Terminal::Nothing => 13,
     }
 }
 
