@@ -32,7 +32,7 @@ stops_path (terminal.Sign sign.Point) n = absurd (n refl)
 stops_path (terminal.Sign (sign.Cmp _)) n = omega arith
 stops_path (terminal.Sign (sign.Sum _)) n = omega arith
 stops_path (terminal.Sign (sign.Prod _)) n = omega arith
-stops_path (terminal.Aggregate _) n = omega arith
+stops_path (terminal.Word word.Abs) n = omega arith
 stops_path _ n = omega arith
 
 pub path_no_name : {ts : List Tok} → No NameE Anywhere ts → No PathE (Stops 1) ts

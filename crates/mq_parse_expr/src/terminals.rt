@@ -1,6 +1,6 @@
 //! What stands at a place of a list of tokens.
 
-ghost use Rattle.std.specs.Prelude.{◌≡◌, ◌≢◌, ◌<◌, ◌≤◌, ◌+◌, [], ◌∷◌, length, MatchOption, MatchResult};
+ghost use Rattle.std.specs.Prelude.{◌≡◌, ◌≢◌, ◌↔◌, ◌<◌, ◌≤◌, ◌+◌, [], ◌∷◌, length, IsTrue, MatchOption, MatchResult};
 ghost use Rattle.mq_lexer.specs.declared.keywords.Keyword.{Keyword};
 ghost use Rattle.mq_ast.specs.declared.terminals.Symbol.{Symbol};
 ghost use Rattle.mq_ast.specs.Tokens.{Word, Sign, terminal_at};
@@ -80,13 +80,20 @@ fn sign_at(t: &[Token<'_>], at: usize) -> Option<Symbol>
     }
 }
 
+// Whether two keywords are the same.
+fn same_word(a: Keyword, b: Keyword) -> bool
+    ensures { IsTrue result ↔ (a ≡ b) }
+{
+    a == b
+}
+
 /// The place behind this reserved word, where it stands at a place.
 #[tactic(auto, using(crate::proofs::TokenLemmas::word_next))]
 pub fn behind_word(t: &[Token<'_>], at: usize, word: Keyword) -> Option<usize>
     ensures { MatchOption result (Not (Terminal.Word word) (from t.now at)) (Then (Word word) t.now at) }
 {
     match word_at(t, at) {
-        Some(found) if found == word => Some(at + 1),
+        Some(found) if same_word(found, word) => Some(at + 1),
         _ => None,
     }
 }

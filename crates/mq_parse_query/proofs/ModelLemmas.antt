@@ -29,7 +29,7 @@ option_past : (x : Terminal) → option_of x ≡ None → 1 < part x
 option_past (terminal.Word word.Ignore) e = absurd cc
 option_past (terminal.Word word.Keep) e = absurd cc
 option_past (terminal.Word word.Unique) e = absurd cc
-option_past (terminal.Aggregate _) e = omega arith
+option_past (terminal.Word word.Abs) e = omega arith
 option_past (terminal.Sign (sign.Cmp _)) e = omega arith
 option_past (terminal.Sign (sign.Sum _)) e = omega arith
 option_past (terminal.Sign (sign.Prod _)) e = omega arith
