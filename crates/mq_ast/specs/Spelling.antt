@@ -1,15 +1,15 @@
 -- How a token of the lexer becomes a token of the grammar.
 use Rattle.std.specs.Prelude.{ℕ, ◌&&◌, nat_le, Bool, true, false, if◌then◌else◌, ◌==◌, pos, List, [], ◌∷◌, length, map, codes, Option, Some, None}
-use Rattle.std.specs.List.{fold}
 use Rattle.std.specs.Option.{option_map}
 use Rattle.mq_values.specs.declared.operators.CmpOp.TheVariants as cmp
 use Rattle.mq_values.specs.declared.operators.SumOp.TheVariants as sum
 use Rattle.mq_values.specs.declared.operators.ProdOp.TheVariants as prod
+use Rattle.mq_values.specs.Number.{Number}
 use Rattle.mq_values.specs.Text.{is_text}
 use Rattle.mq_lexer.specs.declared.sorts.Sort.{Sort}
 use Rattle.mq_lexer.specs.declared.sorts.Sort.TheVariants as sort
 use Rattle.mq_lexer.specs.declared.sorts.Token.{Token}
-use Rattle.mq_lexer.specs.Tokens.{with_digit, is_small}
+use Rattle.mq_lexer.specs.Numbers.{number_of}
 use Rattle.mq_lexer.specs.declared.keywords.Reserved.{Reserved}
 use Rattle.mq_lexer.specs.declared.keywords.Reserved.TheVariants as reserved
 use Rattle.mq_lexer.specs.Words.{spelled, reserved_of}
@@ -40,17 +40,9 @@ abbrev pub sign_tok : Option Symbol → Tok
 sign_tok None = Bad
 sign_tok (Some s) = Sign s
 
--- how many digits stand behind the point
-abbrev pub places : List ℕ → ℕ
-places [] = 0
-places (b ∷ z) = if b == 46 then length z else places z
-
--- a number's digits are its mantissa, those behind the point its scale
-abbrev pub number_tok : List ℕ → Tok
-number_tok z =
-    if nat_le (places z) 12 && is_small z
-    then Num (record { mant = pos (fold with_digit 0 z); scale = places z })
-    else Bad
+abbrev pub number_tok : Option Number → Tok
+number_tok None = Bad
+number_tok (Some n) = Num n
 
 -- What stands behind the first quote of a text, with each doubled quote as one; None where it is not spelled as a text.
 -- `behind_quote`: a quote stands right before, which is the closing one at the end and else the first of two.
@@ -74,7 +66,7 @@ text_tok z = content_tok (content_of z)
 
 abbrev pub tok : Sort → List ℕ → Tok
 tok sort.Word z = word_tok z (reserved_of z)
-tok sort.Number z = number_tok z
+tok sort.Number z = number_tok (number_of z)
 tok sort.Text z = text_tok z
 tok sort.Sign z = sign_tok (symbol_of z)
 tok sort.Bad z = Bad

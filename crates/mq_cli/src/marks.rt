@@ -2,14 +2,13 @@
 
 ghost use Rattle.std.specs.Prelude.{◌≡◌, ◌+◌, ◌<◌, ◌≤◌, length, map, drop, IfSome, IfOk};
 ghost use Rattle.std.specs.Bool.{OnTrue};
-ghost use Rattle.std.specs.Str.{str_to_ascii_uppercase};
 ghost use Rattle.mq_lexer.specs.Lexemes.{lexeme};
 ghost use Rattle.mq_cli.specs.Marks.{marks, whole_of, whole_in};
 ghost use Rattle.mq_cli.specs.Reading.{Front, Passes, Reads, past_word, past_sign, has_word, has_sign, has_whole, read_name, read_whole};
 
 use crate::tree::Whole;
-use mq_lexer::{Sort, Token, is_name, is_sign, is_word};
-use mq_values::{Fail, Memory, Words};
+use mq_lexer::{Sort, Token, folded, is_name, is_sign, is_word};
+use mq_values::{Fail, Words};
 use std::alloc::Global;
 
 /// The tokens are no statement.
@@ -90,14 +89,6 @@ pub fn name(
         }
         _ => Err(Fail::Cause(NoStatement)),
     }
-}
-
-// The text in capital letters.
-fn folded(alloc: Global, text: &str) -> Result<Words, Memory>
-    ensures { IfOk result (λ w. w ≡ str_to_ascii_uppercase text.now) }
-{
-    let capitals = text.to_ascii_uppercase(alloc)?;
-    Words::new(alloc, capitals.as_str())
 }
 
 /// The whole number at a place.

@@ -1,7 +1,7 @@
 pub mod CommentLemmas
 pub mod Cuts
 pub mod LawLemmas
-pub mod Numbers
+pub mod NumberLemmas
 pub mod Places
 pub mod Quotes
 pub mod Scans

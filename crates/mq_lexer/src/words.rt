@@ -1,16 +1,26 @@
 //! Words by their spelling, the reserved words, names and signs. docs/LANGUAGE.md, "Tokens", lists the reserved words.
 
-ghost use Rattle.std.specs.Prelude.{◌≡◌};
+ghost use Rattle.std.specs.Prelude.{◌≡◌, IfOk};
 ghost use Rattle.mq_lexer.specs.Lexemes.{lexeme};
 ghost use Rattle.mq_lexer.specs.Words as spec;
 
 use crate::keywords::reserved_word;
 use crate::sorts::{Sort, Token};
+use mq_values::{Memory, Words};
+use std::alloc::Global;
 
 fn same_word(a: &str, b: &str) -> bool
     ensures { result ≡ spec.same_word a.now b.now }
 {
     a.eq_ignore_ascii_case(b)
+}
+
+/// The text with its ASCII letters as capital letters: names are told apart so (docs/LANGUAGE.md, "Tokens").
+pub fn folded(alloc: Global, text: &str) -> Result<Words, Memory>
+    ensures { IfOk result (λ w. w ≡ spec.folded text.now) }
+{
+    let capitals = text.to_ascii_uppercase(alloc)?;
+    Words::new(alloc, capitals.as_str())
 }
 
 /// Whether a word is reserved, in capital or small letters. A reserved word is never a name.

@@ -10,17 +10,6 @@ use Rattle.mq_values.specs.Text.{is_plain}
 use Rattle.mq_ast.specs.Spelling.{unquoted}
 use Rattle.mq_parse_expr.specs.Rows.{fits, is_quote}
 
--- more digits make no smaller number
-with_digit_grows : (n b : ℕ) → n ≤ with_digit n b
-with_digit_grows n b = grind arith
-
-fold_grows : (n : ℕ) (z : List ℕ) → n ≤ fold with_digit n z
-fold_grows n [] = omega arith
-fold_grows n (b ∷ z) = omega (arith, with_digit_grows n b, fold_grows (with_digit n b) z)
-
-pub fold_above : (n limit : ℕ) (z : List ℕ) → limit < n → limit < fold with_digit n z
-fold_above n limit z h = omega (arith, fold_grows n z)
-
 -- one byte more of a text
 pub fits_more : (n b : ℕ) (o : Option (List ℕ)) → is_plain b ≡ true → fits n (option_map (λ c. b ∷ c) o) ≡ fits (n + 1) o
 fits_more n b None e = refl
@@ -64,14 +53,6 @@ split_case b z false h ih e =
 pub unquoted_split : (z : List ℕ) → Splits z
 unquoted_split [] e = absurd (omega arith)
 unquoted_split (b ∷ z) e = split_case b z (b == 39) refl (unquoted_split z) e
-
--- a digit more makes the number too great
-pub digit_above : (v limit : ℕ) (z : List ℕ) → 1 ≤ length z → is_ascii_digit (get_or z 0 0) ≡ true → limit < v * 10 + (get_or z 0 0 - 48) → limit < fold with_digit v z
-digit_above v limit [] l d h = absurd (omega arith)
-digit_above v limit (b ∷ z) l d h =
-    let e : with_digit v b ≡ v * 10 + (b - 48) = rw d refl in
-    let g = fold_grows (with_digit v b) z in
-    omega arith
 
 -- a piece of a text up to a doubled quote, and behind it
 joined : (x y : List ℕ) (o : Option (List ℕ)) → option_map (λ c. ((x ++ y) ++ 39 ∷ []) ++ c) o ≡ option_map (λ c. x ++ c) (option_map (λ c. y ++ c) (option_map (λ c. 39 ∷ c) o))

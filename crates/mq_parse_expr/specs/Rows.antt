@@ -1,6 +1,7 @@
 -- What may be a text.
 use Rattle.std.specs.Prelude.{ℕ, ◌+◌, Bool, false, ◌==◌, ◌&&◌, nat_le, List, length, Option, Some, None}
 use Rattle.std.specs.List.{list_all}
+use Rattle.mq_values.specs.declared.limits.TheConstants.{MAX_TEXT_BYTES}
 use Rattle.mq_values.specs.Text.{is_plain, is_text}
 use Rattle.mq_ast.specs.Spelling.{unquoted}
 
@@ -14,7 +15,7 @@ is_quote b = b == 39
 -- whether so many bytes and these make a text
 abbrev pub fits : ℕ → Option (List ℕ) → Bool
 fits n None = false
-fits n (Some z) = nat_le (n + length z) 256 && list_all is_plain z
+fits n (Some z) = nat_le (n + length z) MAX_TEXT_BYTES && list_all is_plain z
 
 abbrev pub fits_next : Option ℕ → Option (List ℕ) → Bool
 fits_next None o = false

@@ -8,9 +8,9 @@ ghost use Rattle.mq_ast.specs.Spelling.{tok_of};
 ghost use Rattle.mq_ast.specs.Continuing.{loose, Stops, Not};
 ghost use Rattle.mq_parse_expr.specs.Reading.{from, Then, Fails};
 
-use crate::spelling::{is_text, number, symbol};
+use crate::spelling::{is_text, symbol};
 use mq_ast::{Keyword, Symbol, Terminal};
-use mq_lexer::{Reserved, Sort, Token, reserved_word};
+use mq_lexer::{Reserved, Sort, Token, read_number, reserved_word};
 use mq_values::{Fail, Refused};
 
 /// What a token is for the grammar (docs/LANGUAGE.md, "Tokens").
@@ -27,7 +27,7 @@ pub fn terminal_of(token: &Token<'_>) -> Terminal
             Some(sign) => Terminal::Sign(sign),
             None => Terminal::Bad,
         },
-        Sort::Number => match number(token.text) {
+        Sort::Number => match read_number(token.text) {
             Some(_) => Terminal::Number,
             None => Terminal::Bad,
         },

@@ -1,6 +1,6 @@
 use Rattle.std.proofs.Common.{◌≡◌, length}
-use Rattle.mq_ast.specs.Spelling.{places}
-use Rattle.mq_parse_expr.proofs.spelling.places.Given as goal
+use Rattle.mq_lexer.specs.Numbers.{places}
+use Rattle.mq_lexer.proofs.numbers.places.Given as goal
 
 abbrev pub invariant-loop-number : goal.invariant-loop-number
 invariant-loop-number l = places l.number ≡ places l.initial.number
