@@ -1,5 +1,5 @@
 -- How a token of the lexer becomes a token of the grammar.
-use Rattle.std.specs.Prelude.{ℕ, ◌&&◌, nat_le, Bool, true, false, if◌then◌else◌, ◌==◌, pos, List, [], ◌∷◌, length, map, codes, Option, Some, None}
+use Rattle.std.specs.Prelude.{ℕ, Bool, true, false, if◌then◌else◌, ◌==◌, List, [], ◌∷◌, map, codes, Option, Some, None}
 use Rattle.std.specs.Option.{option_map}
 use Rattle.mq_values.specs.declared.operators.CmpOp.TheVariants as cmp
 use Rattle.mq_values.specs.declared.operators.SumOp.TheVariants as sum
@@ -9,10 +9,10 @@ use Rattle.mq_values.specs.Text.{is_text}
 use Rattle.mq_lexer.specs.declared.sorts.Sort.{Sort}
 use Rattle.mq_lexer.specs.declared.sorts.Sort.TheVariants as sort
 use Rattle.mq_lexer.specs.declared.sorts.Token.{Token}
-use Rattle.mq_lexer.specs.Numbers.{number_of}
 use Rattle.mq_lexer.specs.declared.keywords.Reserved.{Reserved}
 use Rattle.mq_lexer.specs.declared.keywords.Reserved.TheVariants as reserved
 use Rattle.mq_lexer.specs.Words.{spelled, reserved_of}
+use Rattle.mq_lexer.specs.Numbers.{number_of}
 use Rattle.mq_ast.specs.declared.terminals.Symbol.{Symbol}
 use Rattle.mq_ast.specs.declared.terminals.Symbol.TheVariants as sign
 use Rattle.mq_ast.specs.Tokens.{Tok, Word, Aggregate, Sign, Name, Num, Text, Bad}

@@ -12,10 +12,6 @@ fold_grows : (n : ℕ) (z : Text) → n ≤ fold with_digit n z
 fold_grows n [] = omega arith
 fold_grows n (b ∷ z) = omega (arith, with_digit_grows n b, fold_grows (with_digit n b) z)
 
--- more digits make no smaller number
-pub fold_above : (n limit : ℕ) (z : Text) → limit < n → limit < fold with_digit n z
-fold_above n limit z h = omega (arith, fold_grows n z)
-
 -- a digit more makes the number too great
 pub digit_above : (v limit : ℕ) (z : Text) → 1 ≤ length z → is_ascii_digit (get_or z 0 0) ≡ true → limit < v * 10 + (get_or z 0 0 - 48) → limit < fold with_digit v z
 digit_above v limit [] l d h = absurd (omega arith)

@@ -1,4 +1,4 @@
-//! The reserved words. docs/LANGUAGE.md, "Words", lists them.
+//! The reserved words. docs/LANGUAGE.md, "Tokens", lists them.
 
 ghost use Rattle.std.specs.Prelude.{◌≡◌, map, slice_index};
 ghost use Rattle.std.specs.Str.{bytes_eq};
@@ -106,7 +106,7 @@ pub enum Reserved {
     Aggregate(Agg),
 }
 
-/// The reserved words by their spelling, in the order of the alphabet (docs/LANGUAGE.md, "Words").
+/// The reserved words by their spelling, in the order of the alphabet (docs/LANGUAGE.md, "Tokens").
 pub const RESERVED: [(&str, Reserved); 93] = [
     ("ABS", Reserved::Word(Keyword::Abs)),
     ("ALL", Reserved::Word(Keyword::All)),
@@ -264,7 +264,7 @@ fn initial(word: &[u8]) -> u8
 }
 
 /// The reserved word that is spelled so, in capital or small letters; none where the word is a name
-/// (docs/LANGUAGE.md, "Words").
+/// (docs/LANGUAGE.md, "Tokens").
 pub fn reserved_word(word: &str) -> Option<Reserved>
     ensures { result ≡ spec.reserved_of word.now }
 {

@@ -9,7 +9,7 @@ ghost use Rattle.mq_ast.specs.Spelling as spec;
 ghost use Rattle.mq_parse_expr.specs.Rows.{fits, fits_behind, fits_next, is_quote, may_be_text};
 
 use mq_ast::Symbol;
-use mq_values::{CmpOp, Memory, ProdOp, SumOp, Text};
+use mq_values::{CmpOp, MAX_TEXT_BYTES, Memory, ProdOp, SumOp, Text};
 use std::alloc::{AllocError, Global};
 
 // The sign of one byte.
@@ -121,17 +121,14 @@ pub(crate) fn content(alloc: Global, spelling: &str) -> Result<Option<Text>, Mem
     }
 }
 
-/// How many bytes a text may have.
-const MAX_CONTENT: usize = 256;
-
 // How many bytes a content has with one more; none where it is too long or the byte is a control character.
 #[tactic(auto, using(crate::proofs::SpellingLemmas::fits_more, crate::proofs::SpellingLemmas::fits_full, crate::proofs::SpellingLemmas::fits_bad))]
 fn with_byte(count: usize, b: u8) -> Option<usize>
-    requires { count ≤ 256 }
+    requires { count ≤ MAX_TEXT_BYTES }
     ensures value { (o : Option (List ℕ)) → fits count (option_map (λ c. b ∷ c) o) ≡ fits_next result o }
-    ensures within { IfSome result (λ n. n ≤ 256) }
+    ensures within { IfSome result (λ n. n ≤ MAX_TEXT_BYTES) }
 {
-    if count == MAX_CONTENT {
+    if count == MAX_TEXT_BYTES {
         return None;
     }
     if b < b' ' || b == 127 {
@@ -143,9 +140,9 @@ fn with_byte(count: usize, b: u8) -> Option<usize>
 // What is known of a text behind one more byte: how many bytes its content has, and whether a quote stands right
 // before. None where the text is not spelled so or too long.
 fn behind_byte(count: usize, at_quote: bool, b: u8) -> Option<(usize, bool)>
-    requires { count ≤ 256 }
+    requires { count ≤ MAX_TEXT_BYTES }
     ensures value { (z : List ℕ) → fits count (spec.unquoted at_quote (b ∷ z)) ≡ fits_behind result z }
-    ensures within { IfSome result (λ p. p.0 ≤ 256) }
+    ensures within { IfSome result (λ p. p.0 ≤ MAX_TEXT_BYTES) }
 {
     if b == b'\'' {
         if at_quote {

@@ -13,7 +13,7 @@ pub enum ValueFault {
     TextTooLong,
 }
 
-/// Why a query has no rows (docs/LANGUAGE.md, "Faults").
+/// Why a query has no rows (docs/LANGUAGE.md, "The MODEL clause").
 #[derive(Clone, Copy, Debug, PartialEq, Eq)]
 pub enum FaultKind {
     NotUnique,

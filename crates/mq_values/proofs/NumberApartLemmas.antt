@@ -7,7 +7,7 @@ use Rattle.std.specs.Str.Parse.{digits_value}
 use Rattle.mq_values.specs.Number.{fixed_digits, fraction_text, sign_text, text_of_number}
 use Rattle.mq_values.specs.NumberOrder.{ten_pos}
 use Rattle.mq_values.specs.NumberLaws.{PrintsApart}
-use Rattle.mq_values.proofs.NumberTexts.{length-fixed, mantissa_small}
+use Rattle.mq_values.proofs.NumberTextLemmas.{length-fixed, mantissa_small}
 
 -- two texts that end in parts of one length are equal part by part
 parts : (xs zs ys ws : List ℕ) → length ys ≡ length ws → xs ++ ys ≡ zs ++ ws → (xs ≡ zs) × (ys ≡ ws)

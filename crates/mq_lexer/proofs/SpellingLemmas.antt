@@ -16,8 +16,8 @@ use Rattle.mq_lexer.specs.Numbers.{digits_len, fraction_len, is_small, number}
 use Rattle.mq_lexer.specs.Pieces.{is_word_byte, word_len, word, sign_len, sign_of, sign_or_bad, front, is_blank}
 use Rattle.mq_lexer.specs.Quotes.{closing, content, is_content, is_plain, text_of, quoted}
 use Rattle.mq_lexer.specs.Spelling.{SpellsWord, SpellsFraction, doubled, SpellsText, signs, Spells, NoneLonger, IsTokenOf, begins_gap}
-use Rattle.mq_lexer.proofs.Quotes.{closing_bounds}
-use Rattle.mq_lexer.proofs.Cuts.{word-cut, number-cut, sign-within}
+use Rattle.mq_lexer.proofs.QuoteLemmas.{closing_bounds}
+use Rattle.mq_lexer.proofs.CutLemmas.{word-cut, number-cut, sign-within}
 
 -- ---- fronts of lists
 

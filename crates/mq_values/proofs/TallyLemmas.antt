@@ -12,7 +12,7 @@ use Rattle.mq_values.specs.declared.faults.ValueFault.TheVariants.{Overflow}
 use Rattle.mq_values.specs.declared.tally.Tally.TheVariants as tally
 use Rattle.mq_values.specs.declared.value.Value.{Value}
 use Rattle.mq_values.specs.declared.value.Value.TheVariants as value
-use Rattle.mq_values.proofs.Ranges.{unfit_mantissa}
+use Rattle.mq_values.proofs.RangeLemmas.{unfit_mantissa}
 
 then_then : {A B C E : Type 0} (r : Result A E) (f : A → Result B E) (g : B → Result C E) → result_and_then (result_and_then r f) g ≡ result_and_then r (λ x. result_and_then (f x) g)
 then_then (Ok x) f g = refl

@@ -14,7 +14,7 @@ use Rattle.mq_lexer.specs.Fronts.{Text}
 use Rattle.mq_lexer.specs.Numbers.{digits_len, fraction_len, number}
 use Rattle.mq_lexer.specs.Pieces.{is_word_byte, word_len, word, is_not_lf, line_comment, comment_end, comment_of, block_comment, sign_len, is_continuation, char_len, sign_of, sign_or_bad, front, is_blank}
 use Rattle.mq_lexer.specs.Quotes.{closing, text_of, quoted}
-use Rattle.mq_lexer.proofs.Quotes.{closing_ends, closing_bounds}
+use Rattle.mq_lexer.proofs.QuoteLemmas.{closing_ends, closing_bounds}
 
 pub record Cut (z : Text) (n : ℕ) : Type 0 where
   pub some : 1 ≤ n

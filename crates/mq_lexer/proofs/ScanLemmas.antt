@@ -10,7 +10,7 @@ use Rattle.mq_lexer.specs.Lexemes.{lexeme}
 use Rattle.mq_lexer.specs.Fronts.{Text}
 use Rattle.mq_lexer.specs.Pieces.{front}
 use Rattle.mq_lexer.specs.Tokens.{line_after, piece, pieces_from, token_at, token_of, pieces, tokens}
-use Rattle.mq_lexer.proofs.Cuts.{front-cut}
+use Rattle.mq_lexer.proofs.CutLemmas.{front-cut}
 
 pub record Scans (text : Text) (found : List Token) (line : ℕ) (rest : Text) : Type 0 where
   pub so_far : map lexeme found ++ filter_map token_of (pieces_from 0 line rest) ≡ tokens text
@@ -51,7 +51,3 @@ scans_next text found more line next rest taken after f scans some is taken-is a
     let step : map lexeme more ++ filter_map token_of (pieces_from 0 next after) ≡ map lexeme found ++ filter_map token_of (pieces_from 0 line rest) =
     rw (more-is, next-is, taken-is, after-is, is, whole) (split_option (map lexeme found) _ _) in
     record { so_far = step ∙ scans.so_far; utf8 = subst IsUtf8 (sym (after-is ∙ ap (λ n. drop n rest) len)) (IsUtf8-drop rest n scans.utf8 (cut.splits scans.utf8)) }
-
-pub scans_last : (text : Text) (found : List Token) (line : ℕ) (rest : Text) → Scans text found line rest → length rest ≡ 0 → map lexeme found ≡ tokens text
-scans_last text found line [] scans none = sym (append-nil (map lexeme found)) ∙ scans.so_far
-scans_last text found line (b ∷ rest) scans none = absurd (omega arith)

@@ -7,7 +7,7 @@ use Rattle.std.proofs.Math.Nat.{div-lt_iff_lt-mul, le-mul_of_pos_right}
 use Rattle.mq_values.specs.Number.{Number, is_mantissa, fitting, mant_at}
 use Rattle.mq_values.specs.NumberOrder.{ten_pos}
 use Rattle.mq_values.specs.Arithmetic.{in_range, half_up, rounded, difference_of, product_of, quotient_of, quotient_scale, dividend_of}
-use Rattle.mq_values.proofs.Ranges.{Fitting_some, Fitting_true, fits_mantissa, unfit_mantissa}
+use Rattle.mq_values.proofs.RangeLemmas.{Fitting_some, Fitting_true, fits_mantissa, unfit_mantissa}
 use Rattle.mq_values.specs.declared.faults.ValueFault.TheVariants.{Overflow}
 
 not_zero : (z : ℤ) → z ≢ pos 0 → int_eq z (pos 0) ≡ false

@@ -10,8 +10,8 @@ use Rattle.mq_values.specs.declared.value.Kind.{Kind}
 use Rattle.mq_values.specs.declared.value.Kind.TheVariants as kind
 use Rattle.mq_values.specs.declared.value.Value.{Value}
 use Rattle.mq_values.specs.declared.value.Value.TheVariants as value
-use Rattle.mq_values.proofs.NumberApart.{apart}
-use Rattle.mq_values.proofs.NumberTexts.{AllMarks, marks-number, mantissa_small}
+use Rattle.mq_values.proofs.NumberApartLemmas.{apart}
+use Rattle.mq_values.proofs.NumberTextLemmas.{AllMarks, marks-number, mantissa_small}
 
 -- a text's bytes with the quotes doubled, and the closing quote
 abbrev body : List ℕ → List ℕ

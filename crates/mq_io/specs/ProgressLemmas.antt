@@ -6,14 +6,6 @@ use Rattle.std.proofs.KnownBytes.{Appends-nil, Appends-trans, Appends-kept}
 use Rattle.std.specs.Io.KnownBytes.{Appends, Keeps}
 use Rattle.mq_io.specs.Progress.{AppendsFront}
 
--- the whole is a front of itself
-pub AppendsFront-whole : (a b : Option (List ℕ)) (xs : List ℕ) → Appends a b xs → AppendsFront a b xs
-AppendsFront-whole a b xs p = (xs, [], sym (append-nil xs), p)
-
--- nothing is a front of everything
-pub AppendsFront-none : (a b : Option (List ℕ)) (all : List ℕ) → Keeps a b → AppendsFront a b all
-AppendsFront-none a b all p = ([], all, refl, Appends-kept a a b [] (Appends-nil a) p)
-
 -- a whole, and then a front of what follows it
 pub AppendsFront-after : (a b c : Option (List ℕ)) (xs ys : List ℕ) → Appends a b xs → AppendsFront b c ys → AppendsFront a c (xs ++ ys)
 AppendsFront-after a b c xs ys p q =

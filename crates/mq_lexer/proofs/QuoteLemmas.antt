@@ -5,7 +5,7 @@ use Rattle.std.specs.Prelude.{Option, Some, None, IfSome}
 use Rattle.std.specs.Option.{option_map, option_or}
 use Rattle.mq_lexer.specs.Fronts.{Text}
 use Rattle.mq_lexer.specs.Quotes.{closing}
-use Rattle.mq_lexer.proofs.Places.{from_place, from_place-suc}
+use Rattle.mq_lexer.proofs.PlaceLemmas.{from_place, from_place-suc}
 
 second : (at : ℕ) (o found : Option ℕ) → option_or (from_place at (option_or (option_map suc o) (Some 0))) found ≡ option_or (from_place (suc at) o) (Some at)
 second at None found = let e : at + 0 ≡ at = omega arith in ap Some e
