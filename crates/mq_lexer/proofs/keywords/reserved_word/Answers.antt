@@ -1,7 +1,3 @@
-use Rattle.std.proofs.Common.{rules, ◌≡◌, map, ℕ, ◌∙◌, sym, ap, List, [], ◌∷◌, length, Bor}
-use Rattle.std.specs.Str.{bytes_eq}
-use Rattle.mq_lexer.specs.Words.{folded}
-use Rattle.mq_lexer.specs.Words.{reserved_of, spelled}
 use Rattle.mq_lexer.proofs.WordLemmas.{row_enough}
 use Rattle.mq_lexer.proofs.keywords.reserved_word.Goals as goal
 

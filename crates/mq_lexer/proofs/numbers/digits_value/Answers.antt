@@ -1,4 +1,4 @@
-use Rattle.std.proofs.Common.{◌≡◌, ◌<◌, ◌≤◌, ◌+◌, ◌-◌, ◌*◌, length, refl, sym, ◌∙◌, arith, get_or}
+use Rattle.std.proofs.Common.{sym, ◌∙◌, arith}
 use Rattle.mq_lexer.proofs.NumberLemmas.{digit_above}
 use Rattle.mq_values.specs.declared.limits.TheConstants.{MAX_MANTISSA}
 use Rattle.mq_lexer.proofs.numbers.digits_value.Goals as goal
