@@ -126,7 +126,7 @@ fn whole_in(token: Token<'_>) -> Option<Whole>
 }
 
 // The number that digits spell.
-#[tactic(auto, using(mq_lexer::proofs::Numbers::too_great))]
+#[tactic(auto, using(mq_lexer::specs::NumberLemmas::too_great))]
 fn whole_of(mut digits: &[u8]) -> Option<Whole>
     ensures { result ≡ whole_of digits.entry.now }
 {

@@ -1,7 +1,6 @@
 pub mod CommentLemmas
 pub mod CutLemmas
 pub mod LawLemmas
-pub mod NumberLemmas
 pub mod PlaceLemmas
 pub mod QuoteLemmas
 pub mod ScanLemmas

@@ -1,5 +1,5 @@
 use Rattle.std.proofs.Common.{sym, ◌∙◌, arith}
-use Rattle.mq_lexer.proofs.NumberLemmas.{digit_above}
+use Rattle.mq_lexer.specs.NumberLemmas.{digit_above}
 use Rattle.mq_values.specs.declared.limits.TheConstants.{MAX_MANTISSA}
 use Rattle.mq_lexer.proofs.numbers.digits_value.Goals as goal
 
