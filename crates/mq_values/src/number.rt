@@ -44,7 +44,7 @@ static TENS: [i128; MAX_POWER as usize + 1] = [
 ];
 
 /// An exact decimal number: a mantissa and a scale from 0 to `MAX_SCALE`, worth mantissa / 10^scale
-/// (docs/LANGUAGE.md, "Numbers"). Equality, order and hash tell `1.0` from `1.00`.
+/// (docs/LANGUAGE.md, "Values"). Equality, order and hash tell `1.0` from `1.00`.
 #[derive(Clone, Copy, Debug, PartialEq, Eq, Hash)]
 pub struct Num {
     mant: i128,
