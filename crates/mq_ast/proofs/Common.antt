@@ -1,10 +1,10 @@
 -- Words and steps that the proofs of one tree share.
 use Rattle.std.proofs.Common.{◌≡◌, ℕ, ◌≤◌, List, ◌∷◌, sym, subst}
-use Rattle.mq_ast.specs.declared.terminals.Keyword.TheVariants as word
+use Rattle.mq_lexer.specs.declared.keywords.Keyword.TheVariants as word
 use Rattle.mq_ast.specs.declared.terminals.Symbol.TheVariants as sign
 use Rattle.mq_values.specs.declared.operators.SumOp.TheVariants as op
 use Rattle.mq_ast.specs.declared.terminals.Terminal.{Terminal}
-use Rattle.mq_ast.specs.declared.terminals.Terminal.TheVariants.{Word, Sign, Name, Number, Text}
+use Rattle.mq_ast.specs.declared.terminals.Terminal.TheVariants.{Word, Aggregate, Sign, Name, Number, Text}
 use Rattle.mq_ast.specs.Tokens.{Tok, terminal_at}
 
 -- equal values that end at equal places
@@ -28,7 +28,7 @@ first Number = 1
 first Text = 1
 first (Sign sign.Open) = 1
 first (Word word.Null) = 1
-first (Word (word.Agg _)) = 1
+first (Aggregate _) = 1
 first (Word word.Case) = 1
 first (Word word.Cast) = 1
 first (Word word.Abs) = 1

@@ -5,4 +5,3 @@ pub mod OneQuery
 pub mod OneRule
 pub mod OneModel
 pub mod OneStatement
-pub mod WordLemmas

@@ -11,7 +11,7 @@ use Rattle.mq_ast.specs.declared.queries.RefTree.{RefTree}
 use Rattle.mq_ast.specs.declared.queries.RuleTree.{RuleTree}
 use Rattle.mq_ast.specs.declared.queries.ModelTree.{ModelTree}
 use Rattle.mq_ast.specs.declared.queries.Query.{Query}
-use Rattle.mq_ast.specs.declared.terminals.Keyword.TheVariants as word
+use Rattle.mq_lexer.specs.declared.keywords.Keyword.TheVariants as word
 use Rattle.mq_ast.specs.declared.terminals.Symbol.TheVariants as sign
 use Rattle.mq_ast.specs.declared.terminals.Terminal.{Terminal}
 use Rattle.mq_ast.specs.declared.terminals.Terminal.TheVariants as terminal

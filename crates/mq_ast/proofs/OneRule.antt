@@ -7,7 +7,7 @@ use Rattle.mq_ast.specs.declared.queries.ForList.{ForList}
 use Rattle.mq_ast.specs.declared.queries.LeftPlace.{LeftPlace}
 use Rattle.mq_ast.specs.declared.queries.LeftTree.{LeftTree}
 use Rattle.mq_ast.specs.declared.queries.RuleTree.{RuleTree}
-use Rattle.mq_ast.specs.declared.terminals.Keyword.TheVariants as word
+use Rattle.mq_lexer.specs.declared.keywords.Keyword.TheVariants as word
 use Rattle.mq_ast.specs.declared.terminals.Symbol.TheVariants as sign
 use Rattle.mq_ast.specs.declared.terminals.Terminal.TheVariants as terminal
 use Rattle.mq_ast.specs.Tokens.{Tok, Word, terminal_at, opener, closer}

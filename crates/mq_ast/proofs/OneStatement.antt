@@ -4,7 +4,7 @@ use Rattle.std.specs.Prelude.{Option, Bool}
 use Rattle.mq_ast.specs.declared.expressions.E.{E}
 use Rattle.mq_ast.specs.declared.statements.ColDef.{ColDef}
 use Rattle.mq_ast.specs.declared.statements.Stmt.{Stmt}
-use Rattle.mq_ast.specs.declared.terminals.Keyword.TheVariants as word
+use Rattle.mq_lexer.specs.declared.keywords.Keyword.TheVariants as word
 use Rattle.mq_ast.specs.Tokens.{Tok, Word, closer, comma}
 use Rattle.mq_ast.specs.Continuing.{Stops, EndsCols}
 use Rattle.mq_ast.specs.OneTree.{OneTree}

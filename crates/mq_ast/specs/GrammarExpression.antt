@@ -17,9 +17,9 @@ use Rattle.mq_ast.specs.declared.expressions.ProdTerm.{ProdTerm}
 use Rattle.mq_ast.specs.declared.expressions.Arm.{Arm}
 use Rattle.mq_ast.specs.declared.expressions.E.{E}
 use Rattle.mq_ast.specs.declared.expressions.E.TheVariants as e
-use Rattle.mq_ast.specs.declared.terminals.Keyword.TheVariants as word
+use Rattle.mq_lexer.specs.declared.keywords.Keyword.TheVariants as word
 use Rattle.mq_ast.specs.declared.terminals.Symbol.TheVariants as sign
-use Rattle.mq_ast.specs.Tokens.{Tok, Word, Sign, Name, Num, Text, opener, closer, open_square, close_square, comma, minus, star}
+use Rattle.mq_ast.specs.Tokens.{Tok, Word, Aggregate, Sign, Name, Num, Text, opener, closer, open_square, close_square, comma, minus, star}
 use Rattle.mq_ast.specs.GrammarNames.{PathE, IsInt, scale_of, KindE}
 use Rattle.mq_ast.specs.Chains.{or_of, and_of, sum_of, prod_of, sum_term, prod_term, arm}
 
@@ -111,9 +111,9 @@ mutual
     -- '(' e ')'
     prim_round : {a : E} {from to : List Tok} → Expr a from (closer ∷ to) → PrimE a (opener ∷ from) to
     -- agg '(' e ')' | COUNT '(' '*' ')' | agg '(' name ')' '[' (ANY | e) {',' (ANY | e)} ']'
-    prim_agg : {g : Agg} {a : E} {from to : List Tok} → Expr a from (closer ∷ to) → PrimE (e.Agg g a) (Word (word.Agg g) ∷ opener ∷ from) to
-    prim_count : {to : List Tok} → PrimE e.CountAll (Word (word.Agg agg.Count) ∷ opener ∷ star ∷ closer ∷ to) to
-    prim_range : {g : Agg} {n : List ℕ} {ps : List Place} {from to : List Tok} → Brackets ps from to → PrimE (e.RangeAgg g n ps) (Word (word.Agg g) ∷ opener ∷ Name n ∷ closer ∷ from) to
+    prim_agg : {g : Agg} {a : E} {from to : List Tok} → Expr a from (closer ∷ to) → PrimE (e.Agg g a) (Aggregate g ∷ opener ∷ from) to
+    prim_count : {to : List Tok} → PrimE e.CountAll (Aggregate agg.Count ∷ opener ∷ star ∷ closer ∷ to) to
+    prim_range : {g : Agg} {n : List ℕ} {ps : List Place} {from to : List Tok} → Brackets ps from to → PrimE (e.RangeAgg g n ps) (Aggregate g ∷ opener ∷ Name n ∷ closer ∷ from) to
     -- CASE [e] WHEN e THEN e {WHEN e THEN e} [ELSE e] END
     prim_case : {c o : Option E} {a b : E} {xs : List Arm} {from start mid to : List Tok} → CaseE c from start → Whens (arm a b ∷ xs) start mid → ElseE o mid (Word word.End ∷ to) → PrimE (e.Case c (arm a b ∷ xs) o) (Word word.Case ∷ from) to
     -- CAST '(' e AS kind ')' | ABS '(' e ')' | FLOOR '(' e ')' | LENGTH '(' e ')'

@@ -4,7 +4,7 @@ use Rattle.mq_values.specs.Number.{Number}
 use Rattle.mq_values.specs.declared.value.Kind.{Kind}
 use Rattle.mq_values.specs.declared.value.Kind.TheVariants as kind
 use Rattle.mq_ast.specs.declared.expressions.Path.{Path}
-use Rattle.mq_ast.specs.declared.terminals.Keyword.TheVariants as word
+use Rattle.mq_lexer.specs.declared.keywords.Keyword.TheVariants as word
 use Rattle.mq_ast.specs.Tokens.{Tok, Word, Name, Num, opener, closer, point}
 
 abbrev pub path_of : Option (List ℕ) → List ℕ → Path

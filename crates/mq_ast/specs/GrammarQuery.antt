@@ -6,7 +6,7 @@ use Rattle.mq_ast.specs.declared.queries.Sel.{Sel}
 use Rattle.mq_ast.specs.declared.queries.FromItem.{FromItem}
 use Rattle.mq_ast.specs.declared.queries.OrderKey.{OrderKey}
 use Rattle.mq_ast.specs.declared.queries.Plain.{Plain}
-use Rattle.mq_ast.specs.declared.terminals.Keyword.TheVariants as word
+use Rattle.mq_lexer.specs.declared.keywords.Keyword.TheVariants as word
 use Rattle.mq_ast.specs.Tokens.{Tok, Word, Name, opener, closer, comma, star}
 use Rattle.mq_ast.specs.GrammarNames.{PathE}
 use Rattle.mq_ast.specs.GrammarLists.{SomeOf, ManyOf}

@@ -12,7 +12,7 @@ use Rattle.mq_ast.specs.declared.queries.LeftPlace.TheVariants as left_place
 use Rattle.mq_ast.specs.declared.queries.LeftTree.{LeftTree}
 use Rattle.mq_ast.specs.declared.queries.LeftTree.TheVariants as left_tree
 use Rattle.mq_ast.specs.declared.queries.RuleTree.{RuleTree}
-use Rattle.mq_ast.specs.declared.terminals.Keyword.TheVariants as word
+use Rattle.mq_lexer.specs.declared.keywords.Keyword.TheVariants as word
 use Rattle.mq_ast.specs.Tokens.{Tok, Word, Name, opener, closer, open_square, close_square, equal}
 use Rattle.mq_ast.specs.GrammarLists.{SomeOf, NameE}
 use Rattle.mq_ast.specs.GrammarExpression.{Expr, Tuple}

@@ -6,7 +6,7 @@ use Rattle.mq_ast.specs.declared.queries.Query.{Query}
 use Rattle.mq_ast.specs.declared.statements.ColDef.{ColDef}
 use Rattle.mq_ast.specs.declared.statements.Stmt.{Stmt}
 use Rattle.mq_ast.specs.declared.statements.Stmt.TheVariants as stmt
-use Rattle.mq_ast.specs.declared.terminals.Keyword.TheVariants as word
+use Rattle.mq_lexer.specs.declared.keywords.Keyword.TheVariants as word
 use Rattle.mq_ast.specs.Tokens.{Tok, Word, Name, Text, opener, closer, comma, equal}
 use Rattle.mq_ast.specs.GrammarNames.{KindE}
 use Rattle.mq_ast.specs.GrammarLists.{SomeOf, NameE}

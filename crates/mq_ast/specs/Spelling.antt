@@ -1,67 +1,21 @@
 -- How a token of the lexer becomes a token of the grammar.
-use Rattle.std.specs.Prelude.{ℕ, ◌&&◌, nat_le, Bool, true, false, if◌then◌else◌, ◌==◌, pos, List, [], ◌∷◌, length, map, codes, Option, Some, None}
-use Rattle.std.specs.List.{fold}
+use Rattle.std.specs.Prelude.{ℕ, Bool, true, false, if◌then◌else◌, ◌==◌, List, [], ◌∷◌, map, codes, Option, Some, None}
 use Rattle.std.specs.Option.{option_map}
-use Rattle.std.specs.Str.{bytes_eq}
-use Rattle.mq_values.specs.declared.operators.Agg.TheVariants as agg
 use Rattle.mq_values.specs.declared.operators.CmpOp.TheVariants as cmp
 use Rattle.mq_values.specs.declared.operators.SumOp.TheVariants as sum
 use Rattle.mq_values.specs.declared.operators.ProdOp.TheVariants as prod
+use Rattle.mq_values.specs.Number.{Number}
 use Rattle.mq_values.specs.Text.{is_text}
 use Rattle.mq_lexer.specs.declared.sorts.Sort.{Sort}
 use Rattle.mq_lexer.specs.declared.sorts.Sort.TheVariants as sort
 use Rattle.mq_lexer.specs.declared.sorts.Token.{Token}
-use Rattle.mq_lexer.specs.Tokens.{with_digit, is_small}
-use Rattle.mq_lexer.specs.Words.{folded}
-use Rattle.mq_ast.specs.declared.terminals.Keyword.{Keyword}
-use Rattle.mq_ast.specs.declared.terminals.Keyword.TheVariants as word
+use Rattle.mq_lexer.specs.declared.keywords.Reserved.{Reserved}
+use Rattle.mq_lexer.specs.declared.keywords.Reserved.TheVariants as reserved
+use Rattle.mq_lexer.specs.Words.{spelled, reserved_of}
+use Rattle.mq_lexer.specs.Numbers.{number_of}
 use Rattle.mq_ast.specs.declared.terminals.Symbol.{Symbol}
 use Rattle.mq_ast.specs.declared.terminals.Symbol.TheVariants as sign
-use Rattle.mq_ast.specs.Tokens.{Tok, Word, Sign, Name, Num, Text, Bad}
-
--- what stands beside this spelling in a table
-abbrev pub spelled : {A : Type 0} → List ℕ → List (List ℕ × A) → Option A
-spelled z [] = None
-spelled z (w ∷ ws) = if bytes_eq w.0 z then Some w.1 else spelled z ws
-
--- the reserved words
-unfoldable pub keywords : List (List ℕ × Keyword)
-keywords =
-    (codes "ABS", word.Abs) ∷ (codes "ALL", word.All) ∷ (codes "AND", word.And) ∷
-    (codes "ANY", word.Any) ∷ (codes "AS", word.As) ∷ (codes "ASC", word.Asc) ∷
-    (codes "AUTOMATIC", word.Automatic) ∷ (codes "AVG", word.Agg agg.Avg) ∷ (codes "BEGIN", word.Begin) ∷
-    (codes "BETWEEN", word.Between) ∷ (codes "BY", word.By) ∷ (codes "CASE", word.Case) ∷
-    (codes "CAST", word.Cast) ∷ (codes "CELL", word.Cell) ∷ (codes "COMMIT", word.Commit) ∷
-    (codes "COMPARE", word.Compare) ∷ (codes "COUNT", word.Agg agg.Count) ∷ (codes "CREATE", word.Create) ∷
-    (codes "CROSS", word.Cross) ∷ (codes "CV", word.Cv) ∷ (codes "DATE", word.Date) ∷
-    (codes "DECIMAL", word.Decimal) ∷ (codes "DECREMENT", word.Decrement) ∷ (codes "DELETE", word.Delete) ∷
-    (codes "DESC", word.Desc) ∷ (codes "DIMENSION", word.Dimension) ∷ (codes "DROP", word.Drop) ∷
-    (codes "ELSE", word.Else) ∷ (codes "END", word.End) ∷ (codes "EXPLAIN", word.Explain) ∷
-    (codes "FLOOR", word.Floor) ∷ (codes "FOR", word.For) ∷ (codes "FROM", word.From) ∷
-    (codes "GROUP", word.Group) ∷ (codes "IGNORE", word.Ignore) ∷ (codes "IN", word.In) ∷
-    (codes "INCREMENT", word.Increment) ∷ (codes "INNER", word.Inner) ∷ (codes "INSERT", word.Insert) ∷
-    (codes "INT", word.Int) ∷ (codes "INTO", word.Into) ∷ (codes "IS", word.Is) ∷
-    (codes "ITERATE", word.Iterate) ∷ (codes "ITERATION_NUMBER", word.IterationNumber) ∷ (codes "JOIN", word.Join) ∷
-    (codes "KEEP", word.Keep) ∷ (codes "KEY", word.Key) ∷ (codes "LENGTH", word.Length) ∷
-    (codes "LOAD", word.Load) ∷ (codes "MAIN", word.Main) ∷ (codes "MAX", word.Agg agg.Max) ∷
-    (codes "MEASURES", word.Measures) ∷ (codes "MIN", word.Agg agg.Min) ∷ (codes "MODEL", word.Model) ∷
-    (codes "NAV", word.Nav) ∷ (codes "NOT", word.Not) ∷ (codes "NULL", word.Null) ∷
-    (codes "NVL", word.Nvl) ∷ (codes "ON", word.On) ∷ (codes "OR", word.Or) ∷
-    (codes "ORDER", word.Order) ∷ (codes "PARTITION", word.Partition) ∷ (codes "PRESENT", word.Present) ∷
-    (codes "PRESENTNNV", word.Presentnnv) ∷ (codes "PRESENTV", word.Presentv) ∷ (codes "PREVIOUS", word.Previous) ∷
-    (codes "PRIMARY", word.Primary) ∷ (codes "REFERENCE", word.Reference) ∷ (codes "RETURN", word.Return) ∷
-    (codes "ROLLBACK", word.Rollback) ∷ (codes "ROUND", word.Round) ∷ (codes "ROWS", word.Rows) ∷
-    (codes "RULES", word.Rules) ∷ (codes "SCENARIO", word.Scenario) ∷ (codes "SELECT", word.Select) ∷
-    (codes "SEQUENTIAL", word.Sequential) ∷ (codes "SET", word.Set) ∷ (codes "SHOW", word.Show) ∷
-    (codes "SUM", word.Agg agg.Sum) ∷ (codes "TABLE", word.Table) ∷ (codes "TEXT", word.Text) ∷
-    (codes "THEN", word.Then) ∷ (codes "TO", word.To) ∷ (codes "UNDER", word.Under) ∷
-    (codes "UNIQUE", word.Unique) ∷ (codes "UNTIL", word.Until) ∷ (codes "UPDATE", word.Update) ∷
-    (codes "UPDATED", word.Updated) ∷ (codes "UPSERT", word.Upsert) ∷ (codes "VALUES", word.Values) ∷
-    (codes "VIEW", word.View) ∷ (codes "WHEN", word.When) ∷ (codes "WHERE", word.Where) ∷ []
-
--- the reserved word that is spelled so, in capital or small letters
-abbrev pub keyword_of : List ℕ → Option Keyword
-keyword_of z = spelled (folded z) keywords
+use Rattle.mq_ast.specs.Tokens.{Tok, Word, Aggregate, Sign, Name, Num, Text, Bad}
 
 -- the signs
 unfoldable pub symbols : List (List ℕ × Symbol)
@@ -77,25 +31,18 @@ abbrev pub symbol_of : List ℕ → Option Symbol
 symbol_of z = spelled z symbols
 
 -- a word that is not reserved is a name, as it is spelled
-abbrev pub word_tok : List ℕ → Option Keyword → Tok
+abbrev pub word_tok : List ℕ → Option Reserved → Tok
 word_tok z None = Name z
-word_tok z (Some k) = Word k
+word_tok z (Some (reserved.Word k)) = Word k
+word_tok z (Some (reserved.Aggregate g)) = Aggregate g
 
 abbrev pub sign_tok : Option Symbol → Tok
 sign_tok None = Bad
 sign_tok (Some s) = Sign s
 
--- how many digits stand behind the point
-abbrev pub places : List ℕ → ℕ
-places [] = 0
-places (b ∷ z) = if b == 46 then length z else places z
-
--- a number's digits are its mantissa, those behind the point its scale
-abbrev pub number_tok : List ℕ → Tok
-number_tok z =
-    if nat_le (places z) 12 && is_small z
-    then Num (record { mant = pos (fold with_digit 0 z); scale = places z })
-    else Bad
+abbrev pub number_tok : Option Number → Tok
+number_tok None = Bad
+number_tok (Some n) = Num n
 
 -- What stands behind the first quote of a text, with each doubled quote as one; None where it is not spelled as a text.
 -- `behind_quote`: a quote stands right before, which is the closing one at the end and else the first of two.
@@ -118,8 +65,8 @@ abbrev pub text_tok : List ℕ → Tok
 text_tok z = content_tok (content_of z)
 
 abbrev pub tok : Sort → List ℕ → Tok
-tok sort.Word z = word_tok z (keyword_of z)
-tok sort.Number z = number_tok z
+tok sort.Word z = word_tok z (reserved_of z)
+tok sort.Number z = number_tok (number_of z)
 tok sort.Text z = text_tok z
 tok sort.Sign z = sign_tok (symbol_of z)
 tok sort.Bad z = Bad

@@ -1,7 +1,8 @@
 -- Tokens as the grammar reads them, without the place where they lie.
 use Rattle.std.specs.Prelude.{ℕ, List, [], ◌∷◌}
 use Rattle.mq_values.specs.Number.{Number}
-use Rattle.mq_ast.specs.declared.terminals.Keyword.{Keyword}
+use Rattle.mq_lexer.specs.declared.keywords.Keyword.{Keyword}
+use Rattle.mq_values.specs.declared.operators.Agg.{Agg}
 use Rattle.mq_ast.specs.declared.terminals.Symbol.{Symbol}
 use Rattle.mq_ast.specs.declared.terminals.Symbol.TheVariants as sign
 use Rattle.mq_values.specs.declared.operators.CmpOp.TheVariants as cmp
@@ -10,9 +11,10 @@ use Rattle.mq_values.specs.declared.operators.ProdOp.TheVariants as prod
 use Rattle.mq_ast.specs.declared.terminals.Terminal.{Terminal}
 use Rattle.mq_ast.specs.declared.terminals.Terminal.TheVariants as terminal
 
--- a reserved word, a sign, a name as it is spelled, a number, the content of a text, or what no line of the grammar reads
+-- a keyword, an aggregate, a sign, a name as it is spelled, a number, the content of a text, or what no line of the grammar reads
 pub data Tok : Type 0 where
   Word : Keyword → Tok
+  Aggregate : Agg → Tok
   Sign : Symbol → Tok
   Name : List ℕ → Tok
   Num : Number → Tok
@@ -23,6 +25,7 @@ pub data Tok : Type 0 where
 abbrev pub terminal_at : List Tok → Terminal
 terminal_at [] = terminal.Nothing
 terminal_at (Word k ∷ _) = terminal.Word k
+terminal_at (Aggregate g ∷ _) = terminal.Aggregate g
 terminal_at (Sign s ∷ _) = terminal.Sign s
 terminal_at (Name _ ∷ _) = terminal.Name
 terminal_at (Num _ ∷ _) = terminal.Number

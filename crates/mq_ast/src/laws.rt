@@ -2,11 +2,9 @@
 //! tokens from one place, each up to a place where no token stands that goes on at that level, are equal and end at
 //! the same place (docs/MEANING.md, "Reading").
 
-ghost use Rattle.std.specs.Prelude.{◌≡◌, ℕ, List, is_some};
+ghost use Rattle.std.specs.Prelude.{◌≡◌, List};
 ghost use Rattle.mq_ast.specs.declared.statements.Stmt.{Stmt};
-ghost use Rattle.mq_lexer.specs.Words.{is_reserved};
 ghost use Rattle.mq_ast.specs.Tokens.{Tok};
-ghost use Rattle.mq_ast.specs.Spelling.{keyword_of};
 ghost use Rattle.mq_ast.specs.Continuing.{Stops};
 ghost use Rattle.mq_ast.specs.OneTree.{OneTree};
 ghost use Rattle.mq_ast.specs.GrammarExpression.{Expr, AndE, NotE, TestE, SumE, ProdE, SignE, PrimE};
@@ -59,9 +57,4 @@ pub fn one_query()
 /// Two statements that read the same tokens are equal.
 pub fn one_statement()
     ensures { (a b : Stmt) (tokens : List Tok) → StmtE a tokens → StmtE b tokens → a ≡ b }
-{}
-
-/// A word is a keyword of the grammar exactly where the lexer calls it reserved.
-pub fn keywords_are_reserved()
-    ensures { (z : List ℕ) → is_some (keyword_of z) ≡ is_reserved z }
 {}

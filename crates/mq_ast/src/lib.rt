@@ -11,15 +11,16 @@ mod terminals;
 
 pub use expressions::{Arm, E, Path, Place, ProdTerm, SumTerm};
 pub use laws::{
-    keywords_are_reserved, one_conjunction, one_expression, one_plain, one_primary, one_product,
-    one_query, one_statement, one_sum, one_test,
+    one_conjunction, one_expression, one_plain, one_primary, one_product, one_query, one_statement,
+    one_sum, one_test,
 };
+pub use mq_lexer::Keyword;
 pub use queries::{
     ForList, FromItem, LeftPlace, LeftTree, ModelTree, Opt, OrderKey, Plain, Query, RefTree,
     RuleTree, Sel,
 };
 pub use statements::{ColDef, Stmt};
-pub use terminals::{Keyword, Symbol, Terminal};
+pub use terminals::{Symbol, Terminal};
 
 #[cfg(test)]
 mod tests;

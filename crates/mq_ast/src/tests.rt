@@ -4,8 +4,8 @@ use mq_values::{Agg, CmpOp, SumOp};
 
 #[test]
 fn terminals_compare(rt: HostRuntime) {
-    assert!(rt; Terminal::Word(Keyword::Agg(Agg::Sum)) == Terminal::Word(Keyword::Agg(Agg::Sum)));
-    assert!(rt; Terminal::Word(Keyword::Agg(Agg::Sum)) != Terminal::Word(Keyword::Agg(Agg::Avg)));
+    assert!(rt; Terminal::Aggregate(Agg::Sum) == Terminal::Aggregate(Agg::Sum));
+    assert!(rt; Terminal::Aggregate(Agg::Sum) != Terminal::Aggregate(Agg::Avg));
     assert!(rt; Terminal::Sign(Symbol::Cmp(CmpOp::Eq)) != Terminal::Sign(Symbol::Sum(SumOp::Add)));
     assert!(rt; Terminal::Name != Terminal::Nothing);
     assert!(rt; Opt::IgnoreNav != Opt::KeepNav);

@@ -1,11 +1,10 @@
 -- The marks from a place on.
 use Rattle.std.proofs.Common.{◌≡◌, ℕ, zero, suc, ◌+◌, ◌<◌, ◌≤◌, List, [], ◌∷◌, Option, None, Some, map, length, get_or, refl, arith, ap}
-use Rattle.std.specs.Str.{bytes_eq}
-use Rattle.std.specs.List.{list_any}
+use Rattle.std.specs.Prelude.{is_some}
 use Rattle.std.proofs.lemmas.Str.Ascii.{uppercase-uppercase}
 use Rattle.mq_lexer.specs.declared.sorts.Token.{Token}
 use Rattle.mq_lexer.specs.Lexemes.{lexeme}
-use Rattle.mq_lexer.specs.Words.{folded, same_word, reserved, is_reserved}
+use Rattle.mq_lexer.specs.Words.{folded, spelled, reserved, is_reserved}
 use Rattle.mq_cli.specs.Marks.{Mark, marks, mark_of}
 use Rattle.mq_cli.specs.Reading.{Front}
 
@@ -33,12 +32,5 @@ folded-folded [] = refl
 folded-folded (b ∷ bs) = let p = uppercase-uppercase b in let q = folded-folded bs in cc
 
 -- a word is reserved in any letters
-pub same_word-folded : (text w : List ℕ) → same_word (folded text) w ≡ same_word text w
-same_word-folded text w = ap (λ t. bytes_eq t (folded w)) (folded-folded text)
-
-reserved-folded : (text : List ℕ) (ws : List (List ℕ)) → list_any (same_word (folded text)) ws ≡ list_any (same_word text) ws
-reserved-folded text [] = refl
-reserved-folded text (w ∷ ws) = let p = same_word-folded text w in let q = reserved-folded text ws in cc
-
 pub reserved_folded : (text : List ℕ) → is_reserved (folded text) ≡ is_reserved text
-reserved_folded text = reserved-folded text reserved
+reserved_folded text = ap (λ z. is_some (spelled z reserved)) (folded-folded text)

@@ -5,7 +5,7 @@ use Rattle.std.proofs.lemmas.List.Folds.{list_any-append}
 use Rattle.std.specs.Io.KnownBytes.{Appends}
 use Rattle.mq_io.specs.Progress.{AppendsFront}
 use Rattle.std.proofs.KnownBytes.{Appends-nil, Appends-trans}
-use Rattle.mq_io.proofs.ProgressLemmas.{AppendsFront-after, AppendsFront-of_part}
+use Rattle.mq_io.specs.ProgressLemmas.{AppendsFront-after, AppendsFront-of_part}
 use Rattle.mq_lexer.specs.declared.script.Statement as code
 use Rattle.mq_lexer.specs.Statements.{Statement, statement}
 use Rattle.mq_ir.specs.Lines.{Line, text_of, is_flaw}

@@ -2,14 +2,13 @@
 
 ghost use Rattle.std.specs.Prelude.{◌≡◌, ◌+◌, ◌<◌, ◌≤◌, length, map, drop, IfSome, IfOk};
 ghost use Rattle.std.specs.Bool.{OnTrue};
-ghost use Rattle.std.specs.Str.{str_to_ascii_uppercase};
 ghost use Rattle.mq_lexer.specs.Lexemes.{lexeme};
 ghost use Rattle.mq_cli.specs.Marks.{marks, whole_of, whole_in};
 ghost use Rattle.mq_cli.specs.Reading.{Front, Passes, Reads, past_word, past_sign, has_word, has_sign, has_whole, read_name, read_whole};
 
 use crate::tree::Whole;
-use mq_lexer::{Sort, Token, is_name, is_sign, is_word};
-use mq_values::{Fail, Memory, Words};
+use mq_lexer::{Sort, Token, folded, is_name, is_sign, is_word};
+use mq_values::{Fail, Words};
 use std::alloc::Global;
 
 /// The tokens are no statement.
@@ -92,14 +91,6 @@ pub fn name(
     }
 }
 
-// The text in capital letters.
-fn folded(alloc: Global, text: &str) -> Result<Words, Memory>
-    ensures { IfOk result (λ w. w ≡ str_to_ascii_uppercase text.now) }
-{
-    let capitals = text.to_ascii_uppercase(alloc)?;
-    Words::new(alloc, capitals.as_str())
-}
-
 /// The whole number at a place.
 pub fn whole(tokens: &[Token<'_>], at: usize) -> Result<(Whole, usize), Fail<NoStatement>>
     ensures reads { let all = marks (map lexeme tokens.now) in Reads all result (read_whole (drop at all)) }
@@ -135,7 +126,7 @@ fn whole_in(token: Token<'_>) -> Option<Whole>
 }
 
 // The number that digits spell.
-#[tactic(auto, using(mq_lexer::proofs::Numbers::too_great))]
+#[tactic(auto, using(mq_lexer::specs::NumberLemmas::too_great))]
 fn whole_of(mut digits: &[u8]) -> Option<Whole>
     ensures { result ≡ whole_of digits.entry.now }
 {

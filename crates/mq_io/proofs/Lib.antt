@@ -1,2 +1,1 @@
-pub mod ProgressLemmas
 mod SourceLemmas

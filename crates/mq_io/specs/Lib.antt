@@ -4,3 +4,4 @@ pub mod FileList
 pub mod Files
 pub mod InMemory
 pub mod Progress
+pub mod ProgressLemmas

@@ -9,7 +9,7 @@ use Rattle.std.specs.Option.{option_map}
 use Rattle.mq_lexer.specs.Fronts.{Text, a_gap}
 use Rattle.mq_lexer.specs.Pieces.{is_blank, is_not_lf, line_comment, comment_end, comment_of, block_comment, front}
 use Rattle.mq_lexer.specs.Comments.{IsLineComment, ClosesAt, IsBlockComment}
-use Rattle.mq_lexer.proofs.Spellings.{prefix-passes}
+use Rattle.mq_lexer.proofs.SpellingLemmas.{prefix-passes}
 
 -- the first place where a list closes a comment
 record FirstClose (z : Text) (n : ℕ) : Type 0 where

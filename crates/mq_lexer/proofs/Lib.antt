@@ -1,10 +1,9 @@
 pub mod CommentLemmas
-pub mod Cuts
+pub mod CutLemmas
 pub mod LawLemmas
-pub mod Numbers
-pub mod Places
-pub mod Quotes
-pub mod Scans
-pub mod Spellings
+pub mod PlaceLemmas
+pub mod QuoteLemmas
+pub mod ScanLemmas
+pub mod SpellingLemmas
 pub mod StatementLemmas
 pub mod WordLemmas

@@ -1,6 +1,7 @@
 pub mod Comments
 pub mod Fronts
 pub mod Lexemes
+pub mod NumberLemmas
 pub mod Numbers
 pub mod Pieces
 pub mod Quotes

@@ -3,6 +3,7 @@ use Rattle.std.specs.Prelude.{ℕ, zero, suc, ◌+◌, Bool, not, ◌&&◌, ◌|
 use Rattle.std.specs.Char.{is_ascii_digit, is_ascii_alphabetic, is_ascii_alphanumeric}
 use Rattle.std.specs.List.{prefix_len}
 use Rattle.std.specs.Option.{option_map}
+use Rattle.mq_values.specs.declared.limits.TheConstants.{MAX_WORD_BYTES}
 use Rattle.mq_lexer.specs.declared.sorts.Sort.TheVariants as sort
 use Rattle.mq_lexer.specs.declared.sorts.Front.{Front}
 use Rattle.mq_lexer.specs.Fronts.{Text, a_token, a_gap, a_token_if}
@@ -22,7 +23,7 @@ abbrev pub word_len : Text → ℕ
 word_len z = prefix_len is_word_byte z
 
 unfoldable pub word : Text → Front
-word z = a_token_if (nat_le (word_len z) 128) sort.Word (word_len z)
+word z = a_token_if (nat_le (word_len z) MAX_WORD_BYTES) sort.Word (word_len z)
 
 -- ---- comments: `--` to before the next LF, `/*` to behind the next `*/`
 

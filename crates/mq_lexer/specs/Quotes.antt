@@ -1,9 +1,12 @@
 -- Texts: a quote, characters in which each quote is doubled, a quote.
-use Rattle.std.specs.Prelude.{ℕ, suc, ◌+◌, ◌-◌, Bool, true, false, not, ◌&&◌, if◌then◌else◌, ◌==◌, nat_le, [], ◌∷◌, length, take, drop, Option, Some, None}
+use Rattle.std.specs.Prelude.{ℕ, suc, ◌+◌, ◌-◌, Bool, true, false, ◌&&◌, if◌then◌else◌, ◌==◌, nat_le, [], ◌∷◌, length, take, drop, Option, Some, None}
 use Rattle.std.specs.List.{list_all}
 use Rattle.std.specs.Option.{option_map, option_or}
+use Rattle.mq_values.specs.declared.limits.TheConstants.{MAX_TEXT_BYTES}
 use Rattle.mq_lexer.specs.declared.sorts.Sort.TheVariants as sort
 use Rattle.mq_lexer.specs.declared.sorts.Front.{Front}
+-- no control character
+pub use Rattle.mq_values.specs.Text.{is_plain}
 use Rattle.mq_lexer.specs.Fronts.{Text, a_token, a_token_if}
 
 -- The length of the longest front that ends with the closing quote. `behind_quote`: a quote stands right before,
@@ -20,12 +23,8 @@ content behind_quote [] = []
 content true (b ∷ z) = content false z
 content false (b ∷ z) = b ∷ content (b == 39) z
 
--- no character below U+0020, and not U+007F
-abbrev pub is_plain : ℕ → Bool
-is_plain b = nat_le 32 b && not (b == 127)
-
 abbrev pub is_content : Text → Bool
-is_content inner = nat_le (length (content false inner)) 256 && list_all is_plain (content false inner)
+is_content inner = nat_le (length (content false inner)) MAX_TEXT_BYTES && list_all is_plain (content false inner)
 
 -- without its closing quote it goes to the end
 abbrev pub text_of : Text → Option ℕ → Front

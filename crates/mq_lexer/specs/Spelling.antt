@@ -3,6 +3,7 @@ use Rattle.std.specs.Prelude.{◌≡◌, ◌≢◌, ℕ, ◌<◌, ◌≤◌, Boo
 use Rattle.std.specs.Char.{is_ascii_digit, is_ascii_alphabetic}
 use Rattle.std.specs.List.{list_all, list_any}
 use Rattle.std.specs.Str.{bytes_eq}
+use Rattle.mq_values.specs.declared.limits.TheConstants.{MAX_SCALE, MAX_TEXT_BYTES, MAX_WORD_BYTES}
 use Rattle.mq_lexer.specs.declared.sorts.Sort.{Sort}
 use Rattle.mq_lexer.specs.declared.sorts.Sort.TheVariants as sort
 use Rattle.mq_lexer.specs.declared.sorts.Front.{Front}
@@ -11,19 +12,19 @@ use Rattle.mq_lexer.specs.Numbers.{is_small}
 use Rattle.mq_lexer.specs.Pieces.{is_blank, is_word_byte, char_len}
 use Rattle.mq_lexer.specs.Quotes.{is_plain}
 
--- a letter, then letters, digits and `_`; at most 128 bytes
+-- a letter, then letters, digits and `_`; few enough bytes
 pub record SpellsWord (t : Text) (fits : Bool) : Type 0 where
   pub letter : is_ascii_alphabetic (slice_index t 0) ≡ true
   pub bytes : list_all is_word_byte t ≡ true
-  pub limit : fits ≡ nat_le (length t) 128
+  pub limit : fits ≡ nat_le (length t) MAX_WORD_BYTES
 
--- digits, which make at most 2^127 - 1
+-- digits, which make no number that is too great
 pub record SpellsWhole (t : Text) (fits : Bool) : Type 0 where
   pub some : 0 < length t
   pub digits : list_all is_ascii_digit t ≡ true
   pub limit : fits ≡ is_small t
 
--- digits or none, a point, digits; at most 12 behind the point
+-- digits or none, a point, digits; few enough behind the point
 pub record SpellsFraction (t : Text) (fits : Bool) : Type 0 where
   pub whole : Text
   pub fraction : Text
@@ -31,18 +32,18 @@ pub record SpellsFraction (t : Text) (fits : Bool) : Type 0 where
   pub some : 0 < length fraction
   pub whole_digits : list_all is_ascii_digit whole ≡ true
   pub fraction_digits : list_all is_ascii_digit fraction ≡ true
-  pub limit : fits ≡ (nat_le (length fraction) 12 && is_small t)
+  pub limit : fits ≡ (nat_le (length fraction) MAX_SCALE && is_small t)
 
 -- with each quote as two
 abbrev pub doubled : Text → Text
 doubled [] = []
 doubled (b ∷ c) = if b == 39 then 39 ∷ 39 ∷ doubled c else b ∷ doubled c
 
--- a quote, the content with each quote doubled, a quote; at most 256 bytes of content, and no control character
+-- a quote, the content with each quote doubled, a quote; few enough bytes of content, and no control character
 pub record SpellsText (t : Text) (fits : Bool) : Type 0 where
   pub content : Text
   pub is : t ≡ 39 ∷ doubled content ++ 39 ∷ []
-  pub limit : fits ≡ (nat_le (length content) 256 && list_all is_plain content)
+  pub limit : fits ≡ (nat_le (length content) MAX_TEXT_BYTES && list_all is_plain content)
 
 abbrev pub signs : List Text
 signs =

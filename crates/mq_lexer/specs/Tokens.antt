@@ -9,7 +9,7 @@ use Rattle.mq_lexer.specs.Lexemes.{Lexeme}
 use Rattle.mq_lexer.specs.Pieces.{front}
 -- the words for the parts of a text
 pub use Rattle.mq_lexer.specs.Fronts.{Text}
-pub use Rattle.mq_lexer.specs.Numbers.{with_digit, is_small}
+pub use Rattle.mq_lexer.specs.Numbers.{with_digit, is_small, places, number_of, is_number}
 
 -- the line behind a byte: LF begins the next one, and past 2^32 - 1 the count stands still
 abbrev pub line_after : ℕ → ℕ → ℕ

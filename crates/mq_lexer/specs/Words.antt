@@ -1,9 +1,10 @@
 -- Words by their spelling, in capital or small letters, the reserved words, names and signs.
-use Rattle.std.specs.Prelude.{ℕ, Bool, true, false, not, ◌&&◌, ◌==◌, List, [], ◌∷◌, length, filter, codes}
-use Rattle.std.specs.List.{list_any}
+use Rattle.std.specs.Prelude.{ℕ, Bool, true, false, not, ◌&&◌, if◌then◌else◌, ◌==◌, List, [], ◌∷◌, map, filter, slice_index, Option, Some, None, is_some}
 use Rattle.std.specs.Str.{bytes_eq, str_to_ascii_uppercase}
 use Rattle.mq_lexer.specs.declared.sorts.Sort.{Sort}
 use Rattle.mq_lexer.specs.declared.sorts.Sort.TheVariants as sort
+use Rattle.mq_lexer.specs.declared.keywords.Reserved.{Reserved}
+use Rattle.mq_lexer.specs.declared.keywords.TheConstants.{RESERVED}
 use Rattle.mq_lexer.specs.Lexemes.{Lexeme}
 use Rattle.mq_lexer.specs.Fronts.{Text}
 
@@ -30,32 +31,25 @@ is_word t word = has_word_sort t.sort && same_word t.text word
 abbrev pub is_sign : Lexeme → Text → Bool
 is_sign t sign = has_sign_sort t.sort && bytes_eq t.text sign
 
--- the words that are never names
-unfoldable pub reserved : List Text
-reserved =
-    codes "ABS" ∷ codes "ALL" ∷ codes "AND" ∷ codes "ANY" ∷ codes "AS" ∷ codes "ASC" ∷
-    codes "AUTOMATIC" ∷ codes "AVG" ∷ codes "BEGIN" ∷ codes "BETWEEN" ∷ codes "BY" ∷ codes "CASE" ∷
-    codes "CAST" ∷ codes "CELL" ∷ codes "COMMIT" ∷ codes "COMPARE" ∷ codes "COUNT" ∷ codes "CREATE" ∷
-    codes "CROSS" ∷ codes "CV" ∷ codes "DATE" ∷ codes "DECIMAL" ∷ codes "DECREMENT" ∷ codes "DELETE" ∷
-    codes "DESC" ∷ codes "DIMENSION" ∷ codes "DROP" ∷ codes "ELSE" ∷ codes "END" ∷ codes "EXPLAIN" ∷
-    codes "FLOOR" ∷ codes "FOR" ∷ codes "FROM" ∷ codes "GROUP" ∷ codes "IGNORE" ∷ codes "IN" ∷
-    codes "INCREMENT" ∷ codes "INNER" ∷ codes "INSERT" ∷ codes "INT" ∷ codes "INTO" ∷ codes "IS" ∷
-    codes "ITERATE" ∷ codes "ITERATION_NUMBER" ∷ codes "JOIN" ∷ codes "KEEP" ∷ codes "KEY" ∷ codes "LENGTH" ∷
-    codes "LOAD" ∷ codes "MAIN" ∷ codes "MAX" ∷ codes "MEASURES" ∷ codes "MIN" ∷ codes "MODEL" ∷
-    codes "NAV" ∷ codes "NOT" ∷ codes "NULL" ∷ codes "NVL" ∷ codes "ON" ∷ codes "OR" ∷
-    codes "ORDER" ∷ codes "PARTITION" ∷ codes "PRESENT" ∷ codes "PRESENTNNV" ∷ codes "PRESENTV" ∷ codes "PREVIOUS" ∷
-    codes "PRIMARY" ∷ codes "REFERENCE" ∷ codes "RETURN" ∷ codes "ROLLBACK" ∷ codes "ROUND" ∷ codes "ROWS" ∷
-    codes "RULES" ∷ codes "SCENARIO" ∷ codes "SELECT" ∷ codes "SEQUENTIAL" ∷ codes "SET" ∷ codes "SHOW" ∷
-    codes "SUM" ∷ codes "TABLE" ∷ codes "TEXT" ∷ codes "THEN" ∷ codes "TO" ∷ codes "UNDER" ∷
-    codes "UNIQUE" ∷ codes "UNTIL" ∷ codes "UPDATE" ∷ codes "UPDATED" ∷ codes "UPSERT" ∷ codes "VALUES" ∷
-    codes "VIEW" ∷ codes "WHEN" ∷ codes "WHERE" ∷ []
+-- what stands beside this spelling in a table
+abbrev pub spelled : {A : Type 0} → Text → List (Text × A) → Option A
+spelled z [] = None
+spelled z (w ∷ ws) = if bytes_eq w.0 z then Some w.1 else spelled z ws
 
--- those of a length
-abbrev pub reserved_of : ℕ → List Text
-reserved_of n = filter (λ r. length r == n) reserved
+-- the words that are never names, each with its spelling
+unfoldable pub reserved : List (Text × Reserved)
+reserved = map (λ w. (w.0.now, w.1)) RESERVED
+
+-- those that begin with a letter
+unfoldable pub row : ℕ → List (Text × Reserved)
+row first = filter (λ w. slice_index w.0 0 == first) reserved
+
+-- the reserved word that is spelled so, in capital or small letters
+abbrev pub reserved_of : Text → Option Reserved
+reserved_of z = spelled (folded z) reserved
 
 abbrev pub is_reserved : Text → Bool
-is_reserved word = list_any (same_word word) reserved
+is_reserved z = is_some (reserved_of z)
 
 -- the token is a name: a word that is not reserved
 abbrev pub is_name : Lexeme → Bool

@@ -5,19 +5,9 @@ ghost use Rattle.mq_lexer.specs.Numbers as numbers;
 ghost use Rattle.mq_lexer.specs.Pieces as spec;
 ghost use Rattle.mq_lexer.specs.Quotes as quotes;
 
+use crate::numbers::digits_value;
 use crate::sorts::{Front, Sort};
-
-/// The most bytes of a word.
-const MAX_WORD: usize = 128;
-
-/// The most bytes of a text without its quotes.
-const MAX_TEXT: usize = 256;
-
-/// The most digits behind the point of a number.
-const MAX_SCALE: usize = 12;
-
-/// The greatest number that a number's digits make without the point.
-const MAX_DIGITS: u128 = 170141183460469231731687303715884105727;
+use mq_values::{MAX_SCALE, MAX_TEXT_BYTES, MAX_WORD_BYTES};
 
 fn is_blank(b: u8) -> bool
     ensures { result ≡ spec.is_blank b }
@@ -55,7 +45,7 @@ fn word(z: &[u8]) -> Front
     ensures { result ≡ spec.word z.now }
 {
     let len = word_len(z);
-    let sort = if len <= MAX_WORD {
+    let sort = if len <= MAX_WORD_BYTES {
         Sort::Word
     } else {
         Sort::Bad
@@ -67,7 +57,7 @@ fn word(z: &[u8]) -> Front
 }
 
 // How many digits stand from a place on.
-fn digits_len(z: &[u8], at: usize) -> usize
+pub(crate) fn digits_len(z: &[u8], at: usize) -> usize
     requires { at ≤ length z.now }
     ensures value { result ≡ numbers.digits_len z.now at }
     ensures within { at + result ≤ length z.now }
@@ -81,7 +71,7 @@ fn digits_len(z: &[u8], at: usize) -> usize
 
 // The length of a point and the digits behind it, from a place on; 0 where they do not stand there.
 #[tactic(auto, unfolding(crate::specs::Numbers::fraction_len))]
-fn fraction_len(z: &[u8], at: usize) -> usize
+pub(crate) fn fraction_len(z: &[u8], at: usize) -> usize
     requires { at ≤ length z.now }
     ensures value { result ≡ numbers.fraction_len z.now at }
     ensures within { at + result ≤ length z.now }
@@ -94,22 +84,10 @@ fn fraction_len(z: &[u8], at: usize) -> usize
 }
 
 // Whether the digits, without the point, make no greater number than the limit.
-#[tactic(auto, using(crate::proofs::Numbers::too_great))]
-fn is_small(mut number: &[u8]) -> bool
-    ensures { result ≡ numbers.is_small number.entry.now }
+fn is_small(number: &[u8]) -> bool
+    ensures { result ≡ numbers.is_small number.now }
 {
-    let mut value: u128 = 0;
-    while let [b, rest @ ..] = number {
-        if b.is_ascii_digit() {
-            let digit = u128::from(*b - b'0');
-            if value > (MAX_DIGITS - digit) / 10 {
-                return false;
-            }
-            value = value * 10 + digit;
-        }
-        number = rest;
-    }
-    true
+    digits_value(number).is_some()
 }
 
 #[tactic(auto, unfolding(crate::specs::Numbers::number))]
@@ -119,7 +97,7 @@ fn number(z: &[u8]) -> Front
     let whole = digits_len(z, 0);
     let fraction = fraction_len(z, whole);
     let len = whole + fraction;
-    let fits = fraction <= MAX_SCALE + 1 && is_small(&z[..len]);
+    let fits = fraction <= usize::from(MAX_SCALE) + 1 && is_small(&z[..len]);
     let sort = if fits { Sort::Number } else { Sort::Bad };
     Front {
         sort: Some(sort),
@@ -155,7 +133,7 @@ fn is_content(mut inner: &[u8]) -> bool
         if behind_quote {
             behind_quote = false;
         } else {
-            if count == MAX_TEXT || *b < b' ' || *b == 127 {
+            if count == MAX_TEXT_BYTES || *b < b' ' || *b == 127 {
                 return false;
             }
             count += 1;

@@ -1,8 +1,10 @@
 //! Every row of the table of tokens, and each limit at its edge and past it.
 
 use crate::{
-    Sort, Token, is_name, is_reserved, is_sign, is_word, next_statement, statements, tokens,
+    Keyword, Reserved, Sort, Token, folded, is_name, is_number, is_reserved, is_sign, is_word,
+    next_statement, read_number, reserved_word, statements, tokens,
 };
+use mq_values::Agg;
 use std::test::Fail;
 
 /// What is wanted of a token: its sort, its text and its line.
@@ -331,5 +333,52 @@ fn words_and_signs(rt: HostRuntime) -> Result<(), Fail> {
     assert!(rt; !is_word(all[1], "SELECT") && !is_name(all[1]) && !is_sign(all[1], "'SELECT'"));
     assert!(rt; is_sign(all[2], "<=") && !is_sign(all[2], "<") && !is_word(all[2], "<="));
     assert!(rt; is_name(all[3]) && !is_word(all[3], "SELECT") && is_word(all[3], "SELECT_"));
+    Ok(())
+}
+
+/// Texts, whether each is spelled as a number, and the mantissa and the scale that it has within the limits.
+const NUMBERS: [(&str, bool, Option<(i128, u8)>); 9] = [
+    ("12", true, Some((12, 0))),
+    ("1.50", true, Some((150, 2))),
+    (".5", true, Some((5, 1))),
+    ("0.000000000001", true, Some((1, 12))),
+    ("0.0000000000001", true, None),
+    (
+        "170141183460469231731687303715884105727",
+        true,
+        Some((i128::MAX, 0)),
+    ),
+    ("170141183460469231731687303715884105728", true, None),
+    ("1.", false, Some((1, 0))),
+    ("", false, Some((0, 0))),
+];
+
+#[test]
+fn numbers_are_read(rt: HostRuntime) {
+    for (text, is, want) in NUMBERS {
+        assert!(rt; is_number(text) == is, "{text:?}");
+        match (read_number(text), want) {
+            (Some(n), Some((mant, scale))) => {
+                assert!(rt; n.mant() == mant && n.scale() == scale, "{text:?}")
+            }
+            (None, None) => (),
+            _ => assert!(rt; false, "{text:?}"),
+        }
+    }
+    assert!(rt; !is_number("1.2.3") && !is_number("-1") && !is_number("1 "));
+}
+
+#[test]
+fn words_by_their_spelling(rt: HostRuntime) -> Result<(), Fail> {
+    assert_eq!(rt;
+        folded(rt.alloc(), "Region_1 \u{e9}")?.as_str(),
+        "REGION_1 \u{e9}"
+    );
+    assert!(rt; reserved_word("Select") == Some(Reserved::Word(Keyword::Select)));
+    assert!(rt;
+        reserved_word("iteration_number") == Some(Reserved::Word(Keyword::IterationNumber))
+    );
+    assert!(rt; reserved_word("AVG") == Some(Reserved::Aggregate(Agg::Avg)));
+    assert!(rt; reserved_word("Selec").is_none() && reserved_word("").is_none());
     Ok(())
 }

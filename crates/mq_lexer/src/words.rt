@@ -1,73 +1,13 @@
 //! Words by their spelling, the reserved words, names and signs. docs/LANGUAGE.md, "Tokens", lists the reserved words.
 
-ghost use Rattle.std.specs.Prelude.{◌≡◌, map};
-ghost use Rattle.std.specs.List.{list_any};
+ghost use Rattle.std.specs.Prelude.{◌≡◌, IfOk};
 ghost use Rattle.mq_lexer.specs.Lexemes.{lexeme};
 ghost use Rattle.mq_lexer.specs.Words as spec;
 
+use crate::keywords::reserved_word;
 use crate::sorts::{Sort, Token};
-
-// The reserved words by their length.
-const TWO: [&str; 8] = ["AS", "BY", "CV", "IN", "IS", "ON", "OR", "TO"];
-
-const THREE: [&str; 17] = [
-    "ABS", "ALL", "AND", "ANY", "ASC", "AVG", "END", "FOR", "INT", "KEY", "MAX", "MIN", "NAV",
-    "NOT", "NVL", "SET", "SUM",
-];
-
-const FOUR: [&str; 20] = [
-    "CASE", "CAST", "CELL", "DATE", "DESC", "DROP", "ELSE", "FROM", "INTO", "JOIN", "KEEP", "LOAD",
-    "MAIN", "NULL", "ROWS", "SHOW", "TEXT", "THEN", "VIEW", "WHEN",
-];
-
-const FIVE: [&str; 14] = [
-    "BEGIN", "COUNT", "CROSS", "FLOOR", "GROUP", "INNER", "MODEL", "ORDER", "ROUND", "RULES",
-    "TABLE", "UNDER", "UNTIL", "WHERE",
-];
-
-const SIX: [&str; 12] = [
-    "COMMIT", "CREATE", "DELETE", "IGNORE", "INSERT", "LENGTH", "RETURN", "SELECT", "UNIQUE",
-    "UPDATE", "UPSERT", "VALUES",
-];
-
-const SEVEN: [&str; 8] = [
-    "BETWEEN", "COMPARE", "DECIMAL", "EXPLAIN", "ITERATE", "PRESENT", "PRIMARY", "UPDATED",
-];
-
-const EIGHT: [&str; 5] = ["MEASURES", "PRESENTV", "PREVIOUS", "ROLLBACK", "SCENARIO"];
-
-const NINE: [&str; 6] = [
-    "AUTOMATIC",
-    "DECREMENT",
-    "DIMENSION",
-    "INCREMENT",
-    "PARTITION",
-    "REFERENCE",
-];
-
-const TEN: [&str; 2] = ["PRESENTNNV", "SEQUENTIAL"];
-
-const SIXTEEN: [&str; 1] = ["ITERATION_NUMBER"];
-
-// The reserved words of a length.
-#[tactic(auto, using(crate::proofs::WordLemmas::none_listed), unfolding(crate::specs::Words::reserved))]
-fn reserved_of(len: usize) -> &'static [&'static str]
-    ensures { map (λ r. r.now) result.now ≡ spec.reserved_of len }
-{
-    match len {
-        2 => &TWO,
-        3 => &THREE,
-        4 => &FOUR,
-        5 => &FIVE,
-        6 => &SIX,
-        7 => &SEVEN,
-        8 => &EIGHT,
-        9 => &NINE,
-        10 => &TEN,
-        16 => &SIXTEEN,
-        _ => &[],
-    }
-}
+use mq_values::{Memory, Words};
+use std::alloc::Global;
 
 fn same_word(a: &str, b: &str) -> bool
     ensures { result ≡ spec.same_word a.now b.now }
@@ -75,24 +15,19 @@ fn same_word(a: &str, b: &str) -> bool
     a.eq_ignore_ascii_case(b)
 }
 
-fn is_listed(word: &str, mut list: &[&str]) -> bool
-    ensures { result ≡ list_any (spec.same_word word.now) (map (λ r. r.now) list.entry.now) }
+/// The text with its ASCII letters as capital letters: names are told apart so (docs/LANGUAGE.md, "Tokens").
+pub fn folded(alloc: Global, text: &str) -> Result<Words, Memory>
+    ensures { IfOk result (λ w. w ≡ spec.folded text.now) }
 {
-    while let [first, rest @ ..] = list {
-        if same_word(word, first) {
-            return true;
-        }
-        list = rest;
-    }
-    false
+    let capitals = text.to_ascii_uppercase(alloc)?;
+    Words::new(alloc, capitals.as_str())
 }
 
 /// Whether a word is reserved, in capital or small letters. A reserved word is never a name.
-#[tactic(auto, using(crate::proofs::WordLemmas::by_length))]
 pub fn is_reserved(word: &str) -> bool
     ensures { result ≡ spec.is_reserved word.now }
 {
-    is_listed(word, reserved_of(word.len()))
+    reserved_word(word).is_some()
 }
 
 fn has_word_sort(sort: Sort) -> bool

@@ -7,11 +7,11 @@ use Rattle.mq_values.specs.declared.operators.Agg.{Agg}
 use Rattle.mq_values.specs.declared.operators.Agg.TheVariants as agg
 use Rattle.mq_lexer.specs.declared.sorts.Token.{Token}
 use Rattle.mq_ast.specs.declared.expressions.E.{E}
-use Rattle.mq_ast.specs.declared.terminals.Keyword.TheVariants as word
+use Rattle.mq_lexer.specs.declared.keywords.Keyword.TheVariants as word
 use Rattle.mq_ast.specs.declared.terminals.Symbol.TheVariants as sign
 use Rattle.mq_ast.specs.declared.terminals.Terminal.{Terminal}
 use Rattle.mq_ast.specs.declared.terminals.Terminal.TheVariants as terminal
-use Rattle.mq_ast.specs.Tokens.{Tok, Word, Sign, Name, Num, Text, Bad, terminal_at, rest_of, opener, closer, comma, star}
+use Rattle.mq_ast.specs.Tokens.{Tok, Word, Aggregate, Sign, Name, Num, Text, Bad, terminal_at, rest_of, opener, closer, comma, star}
 use Rattle.mq_ast.specs.Continuing.{loose, Stops, Not}
 use Rattle.mq_ast.specs.GrammarLists.{NameE, name}
 use Rattle.mq_ast.specs.GrammarNames.{KindE}
@@ -34,7 +34,7 @@ use Rattle.mq_parse_expr.proofs.TokenLemmas.{next}
 abbrev pub FormFront : Form → List Tok → Type 0
 FormFront form.Null ts = ts ≡ Word word.Null ∷ rest_of ts
 FormFront form.Brackets ts = ts ≡ opener ∷ rest_of ts
-FormFront (form.Aggregate g) ts = ts ≡ Word (word.Agg g) ∷ rest_of ts
+FormFront (form.Aggregate g) ts = ts ≡ Aggregate g ∷ rest_of ts
 FormFront form.Case ts = ts ≡ Word word.Case ∷ rest_of ts
 FormFront form.Cast ts = ts ≡ Word word.Cast ∷ rest_of ts
 FormFront (form.Call c) ts = ts ≡ Word (word_of c) ∷ rest_of ts
@@ -58,7 +58,7 @@ its_front (Sign (sign.Sum _) ∷ ts) = tt
 its_front (Sign (sign.Prod _) ∷ ts) = tt
 its_front (Sign _ ∷ ts) = tt
 its_front (Word word.Null ∷ ts) = refl
-its_front (Word (word.Agg _) ∷ ts) = refl
+its_front (Aggregate _ ∷ ts) = refl
 its_front (Word word.Case ∷ ts) = refl
 its_front (Word word.Cast ∷ ts) = refl
 its_front (Word word.Abs ∷ ts) = refl
@@ -103,7 +103,7 @@ its_tail (Word word.Between ∷ ts) = refl
 its_tail (Word word.In ∷ ts) = refl
 its_tail (Word word.Is ∷ ts) = refl
 its_tail (Word word.Not ∷ ts) = refl
-its_tail (Word (word.Agg _) ∷ ts) = λ s. omega arith
+its_tail (Aggregate _ ∷ ts) = λ s. omega arith
 its_tail (Word _ ∷ ts) = λ s. omega arith
 
 pub tail_front : (f : Tail) (ts : List Tok) → f ≡ tail_of (terminal_at ts) → TailFront f ts

@@ -11,7 +11,7 @@ use Rattle.mq_ast.specs.declared.expressions.Place.{Place}
 use Rattle.mq_ast.specs.declared.expressions.SumTerm.{SumTerm}
 use Rattle.mq_ast.specs.declared.expressions.ProdTerm.{ProdTerm}
 use Rattle.mq_ast.specs.declared.expressions.Arm.{Arm}
-use Rattle.mq_ast.specs.declared.terminals.Keyword.TheVariants as word
+use Rattle.mq_lexer.specs.declared.keywords.Keyword.TheVariants as word
 use Rattle.mq_ast.specs.declared.terminals.Symbol.TheVariants as sign
 use Rattle.mq_ast.specs.declared.terminals.Terminal.{Terminal}
 use Rattle.mq_ast.specs.declared.terminals.Terminal.TheVariants as terminal
@@ -239,7 +239,7 @@ place_no_expr n h a to (place_expr d) s = h _ _ d s
 -- one more kind of token that does not go on
 pub stops_or : (s : Terminal) → 6 < loose s → s ≢ terminal.Word word.Or → 7 < loose s
 stops_or (terminal.Word word.Or) l n = absurd (n refl)
-stops_or (terminal.Word (word.Agg _)) l n = omega arith
+stops_or (terminal.Word word.Abs) l n = omega arith
 stops_or (terminal.Sign (sign.Cmp _)) l n = omega arith
 stops_or (terminal.Sign (sign.Sum _)) l n = omega arith
 stops_or (terminal.Sign (sign.Prod _)) l n = omega arith
@@ -247,7 +247,7 @@ stops_or _ l n = omega arith
 
 pub stops_and : (s : Terminal) → 5 < loose s → s ≢ terminal.Word word.And → 6 < loose s
 stops_and (terminal.Word word.And) l n = absurd (n refl)
-stops_and (terminal.Word (word.Agg _)) l n = omega arith
+stops_and (terminal.Word word.Abs) l n = omega arith
 stops_and (terminal.Sign (sign.Cmp _)) l n = omega arith
 stops_and (terminal.Sign (sign.Sum _)) l n = omega arith
 stops_and (terminal.Sign (sign.Prod _)) l n = omega arith
@@ -255,14 +255,14 @@ stops_and _ l n = omega arith
 
 pub stops_sum : (s : Terminal) → 3 < loose s → ((op : SumOp) → s ≢ terminal.Sign (sign.Sum op)) → 4 < loose s
 stops_sum (terminal.Sign (sign.Sum op)) l n = absurd (n op refl)
-stops_sum (terminal.Word (word.Agg _)) l n = omega arith
+stops_sum (terminal.Word word.Abs) l n = omega arith
 stops_sum (terminal.Sign (sign.Cmp _)) l n = omega arith
 stops_sum (terminal.Sign (sign.Prod _)) l n = omega arith
 stops_sum _ l n = omega arith
 
 pub stops_prod : (s : Terminal) → 2 < loose s → ((op : ProdOp) → s ≢ terminal.Sign (sign.Prod op)) → 3 < loose s
 stops_prod (terminal.Sign (sign.Prod op)) l n = absurd (n op refl)
-stops_prod (terminal.Word (word.Agg _)) l n = omega arith
+stops_prod (terminal.Word word.Abs) l n = omega arith
 stops_prod (terminal.Sign (sign.Cmp _)) l n = omega arith
 stops_prod (terminal.Sign (sign.Sum _)) l n = omega arith
 stops_prod _ l n = omega arith

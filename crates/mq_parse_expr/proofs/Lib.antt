@@ -3,7 +3,6 @@ pub mod FrontLemmas
 pub mod Levels
 pub mod NameLemmas
 pub mod PrimLemmas
-pub mod RankLemmas
 pub mod SpellingLemmas
 pub mod Steps
 pub mod TokenLemmas

@@ -7,11 +7,15 @@ use Rattle.mq_values.specs.Text.{is_text}
 use Rattle.mq_lexer.specs.declared.sorts.Sort.{Sort}
 use Rattle.mq_lexer.specs.declared.sorts.Sort.TheVariants as sort
 use Rattle.mq_lexer.specs.declared.sorts.Token.{Token}
-use Rattle.mq_lexer.specs.Tokens.{with_digit, is_small}
-use Rattle.mq_ast.specs.declared.terminals.Keyword.{Keyword}
+use Rattle.mq_lexer.specs.Numbers.{number_of}
+use Rattle.mq_values.specs.declared.operators.Agg.{Agg}
+use Rattle.mq_lexer.specs.Words.{reserved_of}
+use Rattle.mq_lexer.specs.declared.keywords.Keyword.{Keyword}
+use Rattle.mq_lexer.specs.declared.keywords.Reserved.{Reserved}
+use Rattle.mq_lexer.specs.declared.keywords.Reserved.TheVariants as reserved
 use Rattle.mq_ast.specs.declared.terminals.Symbol.{Symbol}
-use Rattle.mq_ast.specs.Spelling.{tok, tok_of, content_of, content_tok, symbol_of, sign_tok, keyword_of, word_tok, number_tok, places}
-use Rattle.mq_ast.specs.declared.terminals.Keyword.TheVariants as word
+use Rattle.mq_ast.specs.Spelling.{tok, tok_of, content_of, content_tok, symbol_of, sign_tok, word_tok, number_tok}
+use Rattle.mq_lexer.specs.declared.keywords.Keyword.TheVariants as word
 use Rattle.mq_ast.specs.declared.terminals.Symbol.TheVariants as sign
 use Rattle.mq_ast.specs.declared.terminals.Terminal.{Terminal}
 use Rattle.mq_ast.specs.declared.terminals.Terminal.TheVariants as terminal
@@ -28,7 +32,7 @@ stops_path (terminal.Sign sign.Point) n = absurd (n refl)
 stops_path (terminal.Sign (sign.Cmp _)) n = omega arith
 stops_path (terminal.Sign (sign.Sum _)) n = omega arith
 stops_path (terminal.Sign (sign.Prod _)) n = omega arith
-stops_path (terminal.Word (word.Agg _)) n = omega arith
+stops_path (terminal.Word word.Abs) n = omega arith
 stops_path _ n = omega arith
 
 pub path_no_name : {ts : List Tok} → No NameE Anywhere ts → No PathE (Stops 1) ts
@@ -81,22 +85,24 @@ sign_not : (o : Option Symbol) (q : Terminal) (ts : List Tok) → ((s : Symbol) 
 sign_not None q ts h k = k
 sign_not (Some s) q ts h k = h s
 
-word_not : (z : List ℕ) (o : Option Keyword) (q : Terminal) (ts : List Tok) → ((w : Keyword) → terminal.Word w ≡ q → ⊥) → (terminal.Name ≡ q → ⊥) → terminal_at (word_tok z o ∷ ts) ≡ q → ⊥
-word_not z None q ts h k = k
-word_not z (Some w) q ts h k = h w
+word_not : (z : List ℕ) (o : Option Reserved) (q : Terminal) (ts : List Tok) → ((w : Keyword) → terminal.Word w ≡ q → ⊥) → ((g : Agg) → terminal.Aggregate g ≡ q → ⊥) → (terminal.Name ≡ q → ⊥) → terminal_at (word_tok z o ∷ ts) ≡ q → ⊥
+word_not z None q ts h g k = k
+word_not z (Some (reserved.Word w)) q ts h g k = h w
+word_not z (Some (reserved.Aggregate a)) q ts h g k = g a
 
-number_not : (z : List ℕ) (q : Terminal) (ts : List Tok) → (terminal.Number ≡ q → ⊥) → (terminal.Bad ≡ q → ⊥) → terminal_at (number_tok z ∷ ts) ≡ q → ⊥
-number_not z q ts h k = if_not (nat_le (places z) 12 && is_small z) (Num (record { mant = pos (fold with_digit 0 z); scale = places z })) q ts h k
+number_not : (n : Option Number) (q : Terminal) (ts : List Tok) → (terminal.Number ≡ q → ⊥) → (terminal.Bad ≡ q → ⊥) → terminal_at (number_tok n ∷ ts) ≡ q → ⊥
+number_not None q ts h k = k
+number_not (Some n) q ts h k = h
 
 sort_no_name : (s : Sort) (z : List ℕ) (ts : List Tok) → (s ≡ sort.Word → ⊥) → terminal_at (tok s z ∷ ts) ≡ terminal.Name → ⊥
 sort_no_name sort.Word z ts n e = n refl
-sort_no_name sort.Number z ts n e = number_not z terminal.Name ts (λ h. cc) (λ h. cc) e
+sort_no_name sort.Number z ts n e = number_not (number_of z) terminal.Name ts (λ h. cc) (λ h. cc) e
 sort_no_name sort.Text z ts n e = text_not (content_of z) terminal.Name ts (λ h. cc) (λ h. cc) e
 sort_no_name sort.Sign z ts n e = sign_not (symbol_of z) terminal.Name ts (λ s h. cc) (λ h. cc) e
 sort_no_name sort.Bad z ts n e = cc
 
 sort_no_number : (s : Sort) (z : List ℕ) (ts : List Tok) → (s ≡ sort.Number → ⊥) → terminal_at (tok s z ∷ ts) ≡ terminal.Number → ⊥
-sort_no_number sort.Word z ts n e = word_not z (keyword_of z) terminal.Number ts (λ w h. cc) (λ h. cc) e
+sort_no_number sort.Word z ts n e = word_not z (reserved_of z) terminal.Number ts (λ w h. cc) (λ g h. cc) (λ h. cc) e
 sort_no_number sort.Number z ts n e = n refl
 sort_no_number sort.Text z ts n e = text_not (content_of z) terminal.Number ts (λ h. cc) (λ h. cc) e
 sort_no_number sort.Sign z ts n e = sign_not (symbol_of z) terminal.Number ts (λ s h. cc) (λ h. cc) e

@@ -14,11 +14,11 @@ use Rattle.mq_ast.specs.declared.expressions.E.TheVariants as e
 use Rattle.mq_ast.specs.declared.expressions.Path.{Path}
 use Rattle.mq_ast.specs.declared.expressions.Place.{Place}
 use Rattle.mq_ast.specs.declared.expressions.Arm.{Arm}
-use Rattle.mq_ast.specs.declared.terminals.Keyword.TheVariants as word
+use Rattle.mq_lexer.specs.declared.keywords.Keyword.TheVariants as word
 use Rattle.mq_ast.specs.declared.terminals.Symbol.TheVariants as sign
 use Rattle.mq_ast.specs.declared.terminals.Terminal.{Terminal}
 use Rattle.mq_ast.specs.declared.terminals.Terminal.TheVariants as terminal
-use Rattle.mq_ast.specs.Tokens.{Tok, Word, Sign, Name, Num, terminal_at, rest_of, opener, closer, comma, star}
+use Rattle.mq_ast.specs.Tokens.{Tok, Word, Aggregate, Sign, Name, Num, terminal_at, rest_of, opener, closer, comma, star}
 use Rattle.mq_ast.specs.Continuing.{loose, Stops, Not, Ends}
 use Rattle.mq_ast.specs.Chains.{arm}
 use Rattle.mq_ast.specs.GrammarNames.{PathE, KindE, scale_of}
@@ -165,29 +165,29 @@ cell_no_end end e r f l a to (prim_cell d b) s =
     let k = ap (λ x. loose (terminal_at x)) q.1 in absurd (omega arith)
 
 -- an aggregate behind its word
-pub all_no_end : {g : Agg} {ts : List Tok} → loose (terminal_at ts) ≤ 2 → No (Behind (Word (word.Agg g))) (Stops 2) (opener ∷ star ∷ closer ∷ ts)
+pub all_no_end : {g : Agg} {ts : List Tok} → loose (terminal_at ts) ≤ 2 → No (Behind (Aggregate g)) (Stops 2) (opener ∷ star ∷ closer ∷ ts)
 all_no_end l a to (prim_agg d) s = absurd (expr_no_star d)
 all_no_end l a to prim_count s = absurd (omega arith)
 
-pub all_prim : {g : Agg} {ts to : List Tok} → g ≡ agg.Count → ts ≡ opener ∷ star ∷ closer ∷ to → PrimE e.CountAll (Word (word.Agg g) ∷ ts) to
+pub all_prim : {g : Agg} {ts to : List Tok} → g ≡ agg.Count → ts ≡ opener ∷ star ∷ closer ∷ to → PrimE e.CountAll (Aggregate g ∷ ts) to
 all_prim {g} {ts} {to} i j =
-    let P : Agg → Type 0 = λ x. PrimE e.CountAll (Word (word.Agg x) ∷ ts) to in
-    let Q : List Tok → Type 0 = λ m. PrimE e.CountAll (Word (word.Agg agg.Count) ∷ m) to in
+    let P : Agg → Type 0 = λ x. PrimE e.CountAll (Aggregate x ∷ ts) to in
+    let Q : List Tok → Type 0 = λ m. PrimE e.CountAll (Aggregate agg.Count ∷ m) to in
     subst P (sym i) (subst Q (sym j) prim_count)
 
-pub agg_no_value : {g : Agg} {ts : List Tok} → NoAll g ts → NoCells ts → No RoundE Anywhere ts → No (Behind (Word (word.Agg g))) (Stops 2) ts
+pub agg_no_value : {g : Agg} {ts : List Tok} → NoAll g ts → NoCells ts → No RoundE Anywhere ts → No (Behind (Aggregate g)) (Stops 2) ts
 agg_no_value m n h a to (prim_agg d) s = h _ _ (round d) tt
 agg_no_value m n h a to prim_count s = m _ refl refl
 agg_no_value m n h a to (prim_range b) s = n _ _ refl (brackets_front b)
 
-pub agg_no_end : {g : Agg} {x : E} {ts : List Tok} (mid : List Tok) → NoAll g ts → NoCells ts → RoundE x ts mid → loose (terminal_at mid) ≤ 2 → No (Behind (Word (word.Agg g))) (Stops 2) ts
+pub agg_no_end : {g : Agg} {x : E} {ts : List Tok} (mid : List Tok) → NoAll g ts → NoCells ts → RoundE x ts mid → loose (terminal_at mid) ≤ 2 → No (Behind (Aggregate g)) (Stops 2) ts
 agg_no_end mid m n e l a to (prim_agg d) s =
     let p = round_same e (round d) in
     let k = ap (λ x. loose (terminal_at x)) p.1 in absurd (omega arith)
 agg_no_end mid m n e l a to prim_count s = m _ refl refl
 agg_no_end mid m n e l a to (prim_range b) s = n _ _ refl (brackets_front b)
 
-pub agg_prim : {g : Agg} {a : E} {ts to : List Tok} → RoundE a ts to → PrimE (e.Agg g a) (Word (word.Agg g) ∷ ts) to
+pub agg_prim : {g : Agg} {a : E} {ts to : List Tok} → RoundE a ts to → PrimE (e.Agg g a) (Aggregate g ∷ ts) to
 agg_prim (round d) = prim_agg d
 
 -- the cells of an aggregate

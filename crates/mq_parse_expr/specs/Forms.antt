@@ -4,8 +4,8 @@ use Rattle.mq_values.specs.declared.operators.Func.TheVariants as func
 use Rattle.mq_lexer.specs.declared.sorts.Token.{Token}
 use Rattle.mq_ast.specs.declared.expressions.E.{E}
 use Rattle.mq_ast.specs.declared.expressions.E.TheVariants as e
-use Rattle.mq_ast.specs.declared.terminals.Keyword.{Keyword}
-use Rattle.mq_ast.specs.declared.terminals.Keyword.TheVariants as word
+use Rattle.mq_lexer.specs.declared.keywords.Keyword.{Keyword}
+use Rattle.mq_lexer.specs.declared.keywords.Keyword.TheVariants as word
 use Rattle.mq_ast.specs.declared.terminals.Symbol.TheVariants as sign
 use Rattle.mq_ast.specs.declared.terminals.Terminal.{Terminal}
 use Rattle.mq_ast.specs.declared.terminals.Terminal.TheVariants as terminal
@@ -22,7 +22,7 @@ form_of terminal.Number = form.Number
 form_of terminal.Text = form.Text
 form_of (terminal.Sign sign.Open) = form.Brackets
 form_of (terminal.Word word.Null) = form.Null
-form_of (terminal.Word (word.Agg g)) = form.Aggregate g
+form_of (terminal.Aggregate g) = form.Aggregate g
 form_of (terminal.Word word.Case) = form.Case
 form_of (terminal.Word word.Cast) = form.Cast
 form_of (terminal.Word word.Abs) = form.Call call.Abs

@@ -9,10 +9,10 @@ use Rattle.mq_lexer.specs.declared.sorts.Token.{Token}
 use Rattle.mq_ast.specs.declared.expressions.Arm.{Arm}
 use Rattle.mq_ast.specs.declared.expressions.E.{E}
 use Rattle.mq_ast.specs.declared.expressions.E.TheVariants as e
-use Rattle.mq_ast.specs.declared.terminals.Keyword.TheVariants as word
+use Rattle.mq_lexer.specs.declared.keywords.Keyword.TheVariants as word
 use Rattle.mq_ast.specs.declared.terminals.Symbol.TheVariants as sign
 use Rattle.mq_ast.specs.declared.terminals.Terminal.TheVariants as terminal
-use Rattle.mq_ast.specs.Tokens.{Tok, Word, Sign, Name, Num, terminal_at, opener, closer, comma, star}
+use Rattle.mq_ast.specs.Tokens.{Tok, Word, Aggregate, Sign, Name, Num, terminal_at, opener, closer, comma, star}
 use Rattle.mq_ast.specs.Continuing.{Not}
 use Rattle.mq_ast.specs.GrammarNames.{KindE, IsInt}
 use Rattle.mq_ast.specs.GrammarExpression.{Expr, PrimE, TestTail, Whens, ElseE}
@@ -73,7 +73,7 @@ Heads g head.Values t at = NoAll g (from t at) × NoCells (from t at)
 
 -- the cells of an aggregate, read from '[' on
 abbrev pub CellsOf : Agg → List ℕ → E → List Tok → List Tok → Type 0
-CellsOf g n a from to = PrimE a (Word (word.Agg g) ∷ opener ∷ Name n ∷ closer ∷ from) to
+CellsOf g n a from to = PrimE a (Aggregate g ∷ opener ∷ Name n ∷ closer ∷ from) to
 
 -- AS kind ')'
 pub data AsKind : Kind → List Tok → List Tok → Type 0 where

@@ -1,12 +1,9 @@
--- The reserved words by their first letter, and what may be a text.
-use Rattle.std.specs.Prelude.{ℕ, ◌+◌, Bool, false, ◌==◌, ◌&&◌, nat_le, List, length, filter, slice_index, Option, Some, None}
+-- What may be a text.
+use Rattle.std.specs.Prelude.{ℕ, ◌+◌, Bool, false, ◌==◌, ◌&&◌, nat_le, List, length, Option, Some, None}
 use Rattle.std.specs.List.{list_all}
+use Rattle.mq_values.specs.declared.limits.TheConstants.{MAX_TEXT_BYTES}
 use Rattle.mq_values.specs.Text.{is_plain, is_text}
-use Rattle.mq_ast.specs.declared.terminals.Keyword.{Keyword}
-use Rattle.mq_ast.specs.Spelling.{keywords, unquoted}
-
-unfoldable pub reserved_row : ℕ → List (List ℕ × Keyword)
-reserved_row b = filter (λ w. slice_index w.0 0 == b) keywords
+use Rattle.mq_ast.specs.Spelling.{unquoted}
 
 abbrev pub may_be_text : Option (List ℕ) → Bool
 may_be_text None = false
@@ -18,7 +15,7 @@ is_quote b = b == 39
 -- whether so many bytes and these make a text
 abbrev pub fits : ℕ → Option (List ℕ) → Bool
 fits n None = false
-fits n (Some z) = nat_le (n + length z) 256 && list_all is_plain z
+fits n (Some z) = nat_le (n + length z) MAX_TEXT_BYTES && list_all is_plain z
 
 abbrev pub fits_next : Option ℕ → Option (List ℕ) → Bool
 fits_next None o = false

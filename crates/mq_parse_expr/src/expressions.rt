@@ -1,7 +1,7 @@
 //! Expressions, level by level (docs/LANGUAGE.md, "Expressions").
 
 ghost use Rattle.std.specs.Prelude.{◌≡◌, ◌≤◌, ◌+◌, length};
-ghost use Rattle.mq_ast.specs.Tokens.{Word, terminal_at};
+ghost use Rattle.mq_ast.specs.Tokens.{Aggregate, Word, terminal_at};
 ghost use Rattle.mq_ast.specs.Continuing.{Stops, Ends};
 ghost use Rattle.mq_ast.specs.GrammarExpression.{Expr, MoreOr, AndE, MoreAnd, NotE, TestE, TestTail, Tuple, Exprs, MoreExprs, SumE, MoreSum, ProdE, MoreProd, SignE, PrimE, Brackets, MorePlaces, PlaceE, CaseE};
 ghost use Rattle.mq_parse_expr.specs.Reading.{from, Anywhere, Gives};
@@ -379,7 +379,7 @@ fn read_agg(
     agg: Agg,
 ) -> Result<(E, usize), Fail<Refused>>
     requires { at ≤ length t.now }
-    ensures { Gives (Behind (Word (Keyword.Agg agg))) (Stops 2) t.now at result }
+    ensures { Gives (Behind (Aggregate agg)) (Stops 2) t.now at result }
 {
     match agg_head(t, at, agg) {
         AggHead::All(to) => {

@@ -71,7 +71,6 @@ fn form_of_word(word: Keyword) -> Form
 {
     match word {
         Keyword::Null => Form::Null,
-        Keyword::Agg(agg) => Form::Aggregate(agg),
         Keyword::Case => Form::Case,
         Keyword::Cast => Form::Cast,
         Keyword::Abs => Form::Call(Call::Abs),
@@ -103,6 +102,7 @@ pub(crate) fn form_of(terminal: Terminal) -> Form
 {
     match terminal {
         Terminal::Word(word) => form_of_word(word),
+        Terminal::Aggregate(agg) => Form::Aggregate(agg),
         Terminal::Sign(sign) => form_of_sign(sign),
         Terminal::Name => Form::Name,
         Terminal::Number => Form::Number,

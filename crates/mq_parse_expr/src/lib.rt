@@ -6,9 +6,7 @@
 mod expressions;
 mod forms;
 mod fronts;
-mod keywords;
 mod names;
-mod ranks;
 mod spelling;
 mod terminals;
 mod trees;

@@ -9,11 +9,10 @@ ghost use Rattle.mq_ast.specs.GrammarLists.{NameE};
 ghost use Rattle.mq_parse_expr.specs.Reading.{from, Then, Anywhere, Gives};
 ghost use Rattle.mq_parse_expr.specs.Names.{IntE, TextE};
 
-use crate::keywords::keyword;
-use crate::spelling::{content, number};
+use crate::spelling::content;
 use crate::terminals::{behind_sign, behind_word, pass_sign, pass_word, settled, token_at};
 use mq_ast::{Keyword, Path, Symbol, Terminal};
-use mq_lexer::{Sort, Token};
+use mq_lexer::{Sort, Token, read_number, reserved_word};
 use mq_values::{Fail, Kind, Memory, Num, Refused, Text, Words};
 use std::alloc::Global;
 
@@ -23,7 +22,7 @@ pub fn name_at<'a>(t: &[Token<'a>], at: usize) -> Option<&'a str>
 {
     match token_at(t, at) {
         Some(token) => match token.sort {
-            Sort::Word => match keyword(token.text) {
+            Sort::Word => match reserved_word(token.text) {
                 Some(_) => None,
                 None => Some(token.text),
             },
@@ -39,7 +38,7 @@ pub fn number_at(t: &[Token<'_>], at: usize) -> Option<Num>
 {
     match token_at(t, at) {
         Some(token) => match token.sort {
-            Sort::Number => number(token.text),
+            Sort::Number => read_number(token.text),
             _ => None,
         },
         None => None,

@@ -1,23 +1,16 @@
-//! The signs, numbers and texts by their spelling.
+//! The signs and texts by their spelling.
 
 ghost use Rattle.std.specs.Prelude.{◌≡◌, Option, ◌≤◌, ◌<◌, ◌≢◌, ◌+◌, ◌∷◌, ◌++◌, [], ℕ, List, length, false, OnOk, IfSome, IfOk, MatchOption, Some, None};
-ghost use Rattle.std.specs.List.{fold, position_or_len, before_first, after_first};
+ghost use Rattle.std.specs.List.{position_or_len, before_first, after_first};
 ghost use Rattle.std.specs.Option.{option_map};
 ghost use Rattle.std.specs.String.{string_bytes};
-ghost use Rattle.mq_lexer.specs.Tokens.{with_digit};
 ghost use Rattle.mq_ast.specs.Tokens as tok;
 ghost use Rattle.mq_ast.specs.Spelling as spec;
 ghost use Rattle.mq_parse_expr.specs.Rows.{fits, fits_behind, fits_next, is_quote, may_be_text};
 
 use mq_ast::Symbol;
-use mq_values::{CmpOp, Memory, Num, ProdOp, SumOp, Text};
+use mq_values::{CmpOp, MAX_TEXT_BYTES, Memory, ProdOp, SumOp, Text};
 use std::alloc::{AllocError, Global};
-
-/// The greatest number that a number's digits make without the point.
-const MAX_DIGITS: u128 = 170141183460469231731687303715884105727;
-
-/// The most digits behind the point of a number.
-const MAX_SCALE: usize = 12;
 
 // The sign of one byte.
 #[tactic(auto, unfolding(mq_ast::specs::Spelling::symbols))]
@@ -68,51 +61,6 @@ pub(crate) fn symbol(sign: &str) -> Option<Symbol>
         [b, next] => long_symbol(*b, *next),
         _ => None,
     }
-}
-
-// What the digits make, where it is not too great. A point counts nothing.
-fn digits_value(mut number: &[u8]) -> Option<u128>
-    ensures { MatchOption result (MAX_DIGITS < fold with_digit 0 number.entry.now) (λ n. (n ≡ fold with_digit 0 number.entry.now) × (n ≤ MAX_DIGITS)) }
-{
-    let mut value: u128 = 0;
-    while let [b, rest @ ..] = number {
-        if b.is_ascii_digit() {
-            if value > MAX_DIGITS / 10 {
-                return None;
-            }
-            value = value * 10 + u128::from(*b - b'0');
-            if value > MAX_DIGITS {
-                return None;
-            }
-        }
-        number = rest;
-    }
-    Some(value)
-}
-
-// How many bytes stand behind the point.
-fn places(mut number: &[u8]) -> usize
-    ensures { result ≡ spec.places number.entry.now }
-{
-    while let [b, rest @ ..] = number {
-        if *b == b'.' {
-            return rest.len();
-        }
-        number = rest;
-    }
-    0
-}
-
-/// The number that is spelled so; none where it has too many digits.
-pub(crate) fn number(spelling: &str) -> Option<Num>
-    ensures { MatchOption result (spec.number_tok spelling.now ≡ tok.Bad) (λ n. spec.number_tok spelling.now ≡ tok.Num n) }
-{
-    let scale = places(spelling.as_bytes());
-    if scale > MAX_SCALE {
-        return None;
-    }
-    let value = digits_value(spelling.as_bytes())?;
-    Some(Num::new(value as i128, scale as u8))
 }
 
 // What stands before the next quote, and behind it.
@@ -173,17 +121,14 @@ pub(crate) fn content(alloc: Global, spelling: &str) -> Result<Option<Text>, Mem
     }
 }
 
-/// How many bytes a text may have.
-const MAX_CONTENT: usize = 256;
-
 // How many bytes a content has with one more; none where it is too long or the byte is a control character.
 #[tactic(auto, using(crate::proofs::SpellingLemmas::fits_more, crate::proofs::SpellingLemmas::fits_full, crate::proofs::SpellingLemmas::fits_bad))]
 fn with_byte(count: usize, b: u8) -> Option<usize>
-    requires { count ≤ 256 }
+    requires { count ≤ MAX_TEXT_BYTES }
     ensures value { (o : Option (List ℕ)) → fits count (option_map (λ c. b ∷ c) o) ≡ fits_next result o }
-    ensures within { IfSome result (λ n. n ≤ 256) }
+    ensures within { IfSome result (λ n. n ≤ MAX_TEXT_BYTES) }
 {
-    if count == MAX_CONTENT {
+    if count == MAX_TEXT_BYTES {
         return None;
     }
     if b < b' ' || b == 127 {
@@ -195,9 +140,9 @@ fn with_byte(count: usize, b: u8) -> Option<usize>
 // What is known of a text behind one more byte: how many bytes its content has, and whether a quote stands right
 // before. None where the text is not spelled so or too long.
 fn behind_byte(count: usize, at_quote: bool, b: u8) -> Option<(usize, bool)>
-    requires { count ≤ 256 }
+    requires { count ≤ MAX_TEXT_BYTES }
     ensures value { (z : List ℕ) → fits count (spec.unquoted at_quote (b ∷ z)) ≡ fits_behind result z }
-    ensures within { IfSome result (λ p. p.0 ≤ 256) }
+    ensures within { IfSome result (λ p. p.0 ≤ MAX_TEXT_BYTES) }
 {
     if b == b'\'' {
         if at_quote {

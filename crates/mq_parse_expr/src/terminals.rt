@@ -1,18 +1,16 @@
 //! What stands at a place of a list of tokens.
 
-ghost use Rattle.std.specs.Prelude.{◌≡◌, ◌≢◌, ◌<◌, ◌≤◌, ◌+◌, [], ◌∷◌, length, MatchOption, MatchResult};
-ghost use Rattle.mq_ast.specs.declared.terminals.Keyword.{Keyword};
+ghost use Rattle.std.specs.Prelude.{◌≡◌, ◌≢◌, ◌↔◌, ◌<◌, ◌≤◌, ◌+◌, [], ◌∷◌, length, IsTrue, MatchOption, MatchResult};
+ghost use Rattle.mq_lexer.specs.declared.keywords.Keyword.{Keyword};
 ghost use Rattle.mq_ast.specs.declared.terminals.Symbol.{Symbol};
 ghost use Rattle.mq_ast.specs.Tokens.{Word, Sign, terminal_at};
 ghost use Rattle.mq_ast.specs.Spelling.{tok_of};
 ghost use Rattle.mq_ast.specs.Continuing.{loose, Stops, Not};
 ghost use Rattle.mq_parse_expr.specs.Reading.{from, Then, Fails};
 
-use crate::keywords::keyword;
-use crate::ranks::same_word;
-use crate::spelling::{is_text, number, symbol};
+use crate::spelling::{is_text, symbol};
 use mq_ast::{Keyword, Symbol, Terminal};
-use mq_lexer::{Sort, Token};
+use mq_lexer::{Reserved, Sort, Token, read_number, reserved_word};
 use mq_values::{Fail, Refused};
 
 /// What a token is for the grammar (docs/LANGUAGE.md, "Tokens").
@@ -20,15 +18,16 @@ pub fn terminal_of(token: &Token<'_>) -> Terminal
     ensures { result ≡ terminal_at (tok_of token.now ∷ []) }
 {
     match token.sort {
-        Sort::Word => match keyword(token.text) {
-            Some(word) => Terminal::Word(word),
+        Sort::Word => match reserved_word(token.text) {
+            Some(Reserved::Word(word)) => Terminal::Word(word),
+            Some(Reserved::Aggregate(agg)) => Terminal::Aggregate(agg),
             None => Terminal::Name,
         },
         Sort::Sign => match symbol(token.text) {
             Some(sign) => Terminal::Sign(sign),
             None => Terminal::Bad,
         },
-        Sort::Number => match number(token.text) {
+        Sort::Number => match read_number(token.text) {
             Some(_) => Terminal::Number,
             None => Terminal::Bad,
         },
@@ -79,6 +78,13 @@ fn sign_at(t: &[Token<'_>], at: usize) -> Option<Symbol>
         Terminal::Sign(sign) => Some(sign),
         _ => None,
     }
+}
+
+// Whether two keywords are the same.
+fn same_word(a: Keyword, b: Keyword) -> bool
+    ensures { IsTrue result ↔ (a ≡ b) }
+{
+    a == b
 }
 
 /// The place behind this reserved word, where it stands at a place.
@@ -163,7 +169,11 @@ pub fn looseness(terminal: Terminal) -> u8
         Terminal::Word(word) => looseness_of_word(word),
         Terminal::Sign(sign) => looseness_of_sign(sign),
         Terminal::Name => 8,
-        Terminal::Number | Terminal::Text | Terminal::Bad | Terminal::Nothing => 13,
+        Terminal::Aggregate(_)
+        | Terminal::Number
+        | Terminal::Text
+        | Terminal::Bad
+        | Terminal::Nothing => 13,
     }
 }
 

@@ -7,7 +7,7 @@ use Rattle.mq_ast.specs.declared.queries.Plain.{Plain}
 use Rattle.mq_ast.specs.declared.queries.Opt.{Opt}
 use Rattle.mq_ast.specs.declared.queries.Opt.TheVariants as opt
 use Rattle.mq_ast.specs.declared.queries.RefTree.{RefTree}
-use Rattle.mq_ast.specs.declared.terminals.Keyword.TheVariants as word
+use Rattle.mq_lexer.specs.declared.keywords.Keyword.TheVariants as word
 use Rattle.mq_ast.specs.declared.terminals.Symbol.TheVariants as sign
 use Rattle.mq_ast.specs.declared.terminals.Terminal.{Terminal}
 use Rattle.mq_ast.specs.declared.terminals.Terminal.TheVariants as terminal
@@ -29,7 +29,7 @@ option_past : (x : Terminal) → option_of x ≡ None → 1 < part x
 option_past (terminal.Word word.Ignore) e = absurd cc
 option_past (terminal.Word word.Keep) e = absurd cc
 option_past (terminal.Word word.Unique) e = absurd cc
-option_past (terminal.Word (word.Agg _)) e = omega arith
+option_past (terminal.Word word.Abs) e = omega arith
 option_past (terminal.Sign (sign.Cmp _)) e = omega arith
 option_past (terminal.Sign (sign.Sum _)) e = omega arith
 option_past (terminal.Sign (sign.Prod _)) e = omega arith

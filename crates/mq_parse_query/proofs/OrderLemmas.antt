@@ -1,7 +1,7 @@
 -- Where ORDER BY reads nothing, by its parts. All of it is about lists of tokens.
 use Rattle.std.proofs.Common.{ℕ, Bool, List, ◌∷◌, refl, sym, subst}
 use Rattle.mq_ast.specs.declared.queries.OrderKey.{OrderKey}
-use Rattle.mq_ast.specs.declared.terminals.Keyword.TheVariants as word
+use Rattle.mq_lexer.specs.declared.keywords.Keyword.TheVariants as word
 use Rattle.mq_ast.specs.declared.terminals.Terminal.TheVariants as terminal
 use Rattle.mq_ast.specs.Tokens.{Tok, Word}
 use Rattle.mq_ast.specs.Continuing.{Not}

@@ -6,7 +6,7 @@ use Rattle.mq_ast.specs.declared.queries.OrderKey.{OrderKey}
 use Rattle.mq_ast.specs.declared.queries.Plain.{Plain}
 use Rattle.mq_ast.specs.declared.queries.Opt.{Opt}
 use Rattle.mq_ast.specs.declared.queries.ModelTree.{ModelTree}
-use Rattle.mq_ast.specs.declared.terminals.Keyword.TheVariants as word
+use Rattle.mq_lexer.specs.declared.keywords.Keyword.TheVariants as word
 use Rattle.mq_ast.specs.declared.terminals.Terminal.TheVariants as terminal
 use Rattle.mq_ast.specs.Tokens.{Tok, Word, terminal_at}
 use Rattle.mq_ast.specs.Continuing.{loose, Stops, Not, Past}

@@ -10,7 +10,7 @@ use Rattle.mq_ast.specs.declared.queries.ForList.{ForList}
 use Rattle.mq_ast.specs.declared.queries.LeftPlace.TheVariants as left_place
 use Rattle.mq_ast.specs.declared.queries.LeftTree.{LeftTree}
 use Rattle.mq_ast.specs.declared.queries.LeftTree.TheVariants as left_tree
-use Rattle.mq_ast.specs.declared.terminals.Keyword.TheVariants as word
+use Rattle.mq_lexer.specs.declared.keywords.Keyword.TheVariants as word
 use Rattle.mq_ast.specs.declared.terminals.Symbol.{Symbol}
 use Rattle.mq_ast.specs.declared.terminals.Symbol.TheVariants as sign
 use Rattle.mq_ast.specs.declared.terminals.Terminal.TheVariants as terminal

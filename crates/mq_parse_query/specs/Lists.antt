@@ -3,7 +3,7 @@ use Rattle.std.specs.Prelude.{◌<◌, ◌≤◌, ℕ, List, length, Option, Som
 use Rattle.mq_values.specs.declared.memory.Fail.{Fail}
 use Rattle.mq_values.specs.declared.faults.Refused.{Refused}
 use Rattle.mq_lexer.specs.declared.sorts.Token.{Token}
-use Rattle.mq_ast.specs.declared.terminals.Keyword.TheVariants as word
+use Rattle.mq_lexer.specs.declared.keywords.Keyword.TheVariants as word
 use Rattle.mq_ast.specs.declared.terminals.Symbol.TheVariants as sign
 use Rattle.mq_ast.specs.declared.terminals.Terminal.TheVariants as terminal
 use Rattle.mq_ast.specs.Tokens.{Tok}

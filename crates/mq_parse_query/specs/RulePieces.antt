@@ -8,7 +8,7 @@ use Rattle.mq_ast.specs.declared.queries.Plain.{Plain}
 use Rattle.mq_ast.specs.declared.queries.ForList.{ForList}
 use Rattle.mq_ast.specs.declared.queries.LeftPlace.{LeftPlace}
 use Rattle.mq_ast.specs.declared.queries.LeftTree.{LeftTree}
-use Rattle.mq_ast.specs.declared.terminals.Keyword.TheVariants as word
+use Rattle.mq_lexer.specs.declared.keywords.Keyword.TheVariants as word
 use Rattle.mq_ast.specs.Tokens.{Tok, Word, Name, opener, closer, open_square, close_square, equal}
 use Rattle.mq_ast.specs.GrammarLists.{SomeOf}
 use Rattle.mq_ast.specs.GrammarExpression.{Expr}

@@ -4,8 +4,8 @@ use Rattle.std.specs.Prelude.{Option}
 use Rattle.mq_values.specs.declared.value.Kind.{Kind}
 use Rattle.mq_ast.specs.declared.expressions.E.{E}
 use Rattle.mq_ast.specs.declared.statements.ColDef.{ColDef}
-use Rattle.mq_ast.specs.declared.terminals.Keyword.{Keyword}
-use Rattle.mq_ast.specs.declared.terminals.Keyword.TheVariants as word
+use Rattle.mq_lexer.specs.declared.keywords.Keyword.{Keyword}
+use Rattle.mq_lexer.specs.declared.keywords.Keyword.TheVariants as word
 use Rattle.mq_ast.specs.declared.terminals.Symbol.TheVariants as sign
 use Rattle.mq_values.specs.declared.operators.CmpOp.TheVariants as cmp
 use Rattle.mq_ast.specs.declared.terminals.Terminal.TheVariants as terminal

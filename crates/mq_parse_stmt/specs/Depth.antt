@@ -1,6 +1,6 @@
 -- When a statement is too deep.
 use Rattle.std.specs.Prelude.{ℕ, ◌+◌, ◌<◌, Bool, true, false, List, [], ◌∷◌, length, filter, take}
-use Rattle.mq_ast.specs.declared.terminals.Keyword.TheVariants as word
+use Rattle.mq_lexer.specs.declared.keywords.Keyword.TheVariants as word
 use Rattle.mq_ast.specs.declared.terminals.Symbol.TheVariants as sign
 use Rattle.mq_ast.specs.declared.terminals.Terminal.{Terminal}
 use Rattle.mq_ast.specs.declared.terminals.Terminal.TheVariants as terminal

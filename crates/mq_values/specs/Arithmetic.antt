@@ -2,6 +2,7 @@
 use Rattle.std.specs.Prelude.{ℕ, suc, ◌+◌, ◌-◌, ◌*◌, ◌/◌, ◌^◌, max, min, nat_le, ℤ, pos, negsuc, neg_ℤ, ◌+ℤ◌, ◌-ℤ◌, ◌*ℤ◌, ◌&&◌, unsigned_abs, if◌then◌else◌, Result, Ok, Err}
 use Rattle.std.specs.Int.{int_div_euclid}
 use Rattle.std.specs.Ordering.{int_eq}
+use Rattle.mq_values.specs.declared.limits.TheConstants.{MAX_SCALE, MIN_QUOTIENT_SCALE}
 use Rattle.mq_values.specs.Number.{Number, is_mantissa, mant_at}
 use Rattle.mq_values.specs.declared.faults.ValueFault.{ValueFault}
 use Rattle.mq_values.specs.declared.faults.ValueFault.TheVariants.{Overflow, DivideByZero}
@@ -36,16 +37,16 @@ difference_of a b =
     let s = max a.scale b.scale in
     if is_mantissa (mant_at s a) && is_mantissa (mant_at s b) then in_range (mant_at s a -ℤ mant_at s b) s else Err Overflow
 
--- the exact product of the mantissas must lie in range, and is then rounded to a scale of at most 12
+-- the exact product of the mantissas must lie in range, and is then rounded to the largest scale
 abbrev pub product_of : Number → Number → Result Number ValueFault
 product_of a b =
     let exact = a.mant *ℤ b.mant in
     let s = a.scale + b.scale in
-    if is_mantissa exact then Ok (record { mant = rounded exact (pos (10 ^ (s - 12))); scale = min s 12 }) else Err Overflow
+    if is_mantissa exact then Ok (record { mant = rounded exact (pos (10 ^ (s - MAX_SCALE))); scale = min s MAX_SCALE }) else Err Overflow
 
 -- the scale of a quotient
 abbrev pub quotient_scale : ℕ → ℕ → ℕ
-quotient_scale s t = max (max s t) 6
+quotient_scale s t = max (max s t) MIN_QUOTIENT_SCALE
 
 -- the dividend, with so many zeros that its quotient by the divisor's mantissa has that scale
 abbrev pub dividend_of : Number → Number → ℤ

@@ -4,6 +4,7 @@ use Rattle.mq_values.specs.Answers.{result_map}
 use Rattle.std.specs.Str.{chars}
 use Rattle.mq_values.specs.Number.{Number, text_of_number}
 use Rattle.mq_values.specs.Arithmetic.{rescaled}
+use Rattle.mq_values.specs.declared.limits.TheConstants.{MAX_SCALE, MAX_TEXT_BYTES}
 use Rattle.mq_values.specs.declared.faults.ValueFault.{ValueFault}
 use Rattle.mq_values.specs.declared.faults.ValueFault.TheVariants.{TextTooLong}
 use Rattle.mq_values.specs.declared.value.Kind.{Kind}
@@ -11,9 +12,9 @@ use Rattle.mq_values.specs.declared.value.Kind.TheVariants as kind
 use Rattle.mq_values.specs.declared.value.Value.{Value}
 use Rattle.mq_values.specs.declared.value.Value.TheVariants as value
 
--- a number brought to scale s; above 12 there is no such kind, and the value is null
+-- a number brought to scale s; above the largest scale there is no such kind, and the value is null
 abbrev pub number_at : Number → ℕ → Result Value ValueFault
-number_at n s = if nat_le s 12 then result_map value.Num (rescaled n s) else Ok value.Null
+number_at n s = if nat_le s MAX_SCALE then result_map value.Num (rescaled n s) else Ok value.Null
 
 -- the cast to a kind: a number to a number is rescaled, a number to a text is its printed text, a text is no number
 abbrev pub cast_of : Value → Kind → Result Value ValueFault
@@ -40,7 +41,7 @@ abbrev pub joined : Value → Value → Result Value ValueFault
 joined a b =
     let bytes = operand_text a ++ operand_text b in
     if are_null a b then Ok value.Null
-    else (if nat_le (length bytes) 256 then Ok (value.Text bytes) else Err TextTooLong)
+    else (if nat_le (length bytes) MAX_TEXT_BYTES then Ok (value.Text bytes) else Err TextTooLong)
 
 -- the number of characters of a text
 abbrev pub length_of : Value → Value

@@ -2,13 +2,14 @@
 use Rattle.std.specs.Prelude.{ℕ, zero, suc, ◌+◌, ◌-◌, ◌/◌, ◌%◌, ◌^◌, ℤ, pos, negsuc, neg_ℤ, ◌*ℤ◌, Bool, ◌&&◌, int_le, int_lt, unsigned_abs, if◌then◌else◌, Option, Some, None, List, [], ◌∷◌, ◌++◌, decimal}
 use Rattle.std.specs.Ordering.{on, then_cmp, nat_cmp, int_cmp}
 use Rattle.std.specs.declared.cmp.Ordering.{Ordering}
+use Rattle.mq_values.specs.declared.limits.TheConstants.{MAX_SCALE}
 
 -- a mantissa and a scale: the number is worth mant / 10 ^ scale
 pub record Number : Type 0 where
   pub mant : ℤ
   pub scale : ℕ
 
--- a mantissa lies from -2 ^ 127 to 2 ^ 127 - 1
+-- a mantissa is kept in 128 bits
 abbrev pub is_mantissa : ℤ → Bool
 is_mantissa z = int_le (neg_ℤ (pos (2 ^ 127))) z && int_lt z (pos (2 ^ 127))
 
@@ -22,7 +23,7 @@ mant_at s n = n.mant *ℤ pos (10 ^ (s - n.scale))
 
 -- what numbers are worth is compared at the largest scale
 abbrev pub cmp_worth : Number → Number → Ordering
-cmp_worth = on (mant_at 12) int_cmp
+cmp_worth = on (mant_at MAX_SCALE) int_cmp
 
 -- the total order: by worth, and then by scale
 abbrev pub cmp_number : Number → Number → Ordering

@@ -4,6 +4,7 @@ use Rattle.std.specs.Ordering.{on, then_cmp, nat_cmp, ordering_then, eq_by_cmp}
 use Rattle.std.specs.Option.{option_cmp}
 use Rattle.std.specs.Cmp.{IsTotalOrder, on_total, then_total, nat_cmp_total, int_cmp_total}
 use Rattle.std.specs.Cmp.Lexicographic.{nat_list_cmp_total, options_total, lists_total, texts_ties}
+use Rattle.mq_values.specs.declared.limits.TheConstants.{MAX_SCALE}
 use Rattle.mq_values.specs.Number.{Number, cmp_number, mant_at}
 use Rattle.mq_values.specs.Order.{cmp_text, cmp_value, cmp_key}
 use Rattle.mq_values.specs.NumberOrder.{equal_together}
@@ -12,7 +13,7 @@ use Rattle.mq_values.specs.declared.value.Value.{Value}
 use Rattle.mq_values.specs.declared.value.Value.TheVariants as value
 
 pub number_total : IsTotalOrder cmp_number
-number_total = then_total (on_total (mant_at 12) int_cmp_total) (on_total (λ n. n.scale) nat_cmp_total)
+number_total = then_total (on_total (mant_at MAX_SCALE) int_cmp_total) (on_total (λ n. n.scale) nat_cmp_total)
 
 abbrev sort_place : Value → ℕ
 sort_place (value.Num a) = 0

@@ -3,6 +3,7 @@ ghost use Rattle.std.specs.Prelude.{◌≡◌, ◌≢◌, ◌≤◌, ◌<◌, �
 ghost use Rattle.mq_values.specs.Arithmetic.{difference_of, floor_of, half_up, in_range, magnitude_of, negation_of, product_of, quotient_of, rescaled, rounded, sum_of};
 
 use crate::faults::ValueFault;
+use crate::limits::{MAX_SCALE, MIN_QUOTIENT_SCALE};
 use crate::number::{Num, ten_to, times};
 
 /// The sum `a + b`, of the larger scale. `Overflow` comes exactly where one of the two mantissas, brought
@@ -41,26 +42,26 @@ pub fn sub(a: Num, b: Num) -> Result<Num, ValueFault>
     }
 }
 
-/// The product `a * b`, of scale `min(a.scale + b.scale, 12)`. `Overflow` comes exactly where the exact
+/// The product `a * b`, of scale `min(a.scale + b.scale, MAX_SCALE)`. `Overflow` comes exactly where the exact
 /// product of the mantissas is out of range; what is left is rounded (docs/LANGUAGE.md, "Arithmetic").
 pub fn mul(a: Num, b: Num) -> Result<Num, ValueFault>
     ensures { result ≡ product_of a b }
 {
     let scale = a.scale() + b.scale();
     match times(a.mant(), b.mant()) {
-        Some(exact) if scale <= 12 => Ok(Num::new(exact, scale)),
-        Some(exact) => quotient(exact, ten_to(scale - 12), 12),
+        Some(exact) if scale <= MAX_SCALE => Ok(Num::new(exact, scale)),
+        Some(exact) => quotient(exact, ten_to(scale - MAX_SCALE), MAX_SCALE),
         None => Err(ValueFault::Overflow),
     }
 }
 
-/// The quotient `a / b`, of scale `r = max(a.scale, b.scale, 6)`. `DivideByZero` comes exactly where `b` is
+/// The quotient `a / b`, of scale `r = max(a.scale, b.scale, MIN_QUOTIENT_SCALE)`. `DivideByZero` comes exactly where `b` is
 /// zero; else `Overflow` exactly where `a.mant * 10^(r + b.scale - a.scale)` or the rounded quotient is out
 /// of range (docs/LANGUAGE.md, "Arithmetic").
 pub fn div(a: Num, b: Num) -> Result<Num, ValueFault>
     ensures { result ≡ quotient_of a b }
 {
-    let scale = a.scale().max(b.scale()).max(6);
+    let scale = a.scale().max(b.scale()).max(MIN_QUOTIENT_SCALE);
     if b.mant() == 0 {
         return Err(ValueFault::DivideByZero);
     }
@@ -74,7 +75,7 @@ impl Num {
     /// The number brought to another scale: a cast, and ROUND. `Overflow` comes exactly where the result is
     /// out of range (docs/LANGUAGE.md, "Arithmetic").
     pub fn rescale(self, scale: u8) -> Result<Num, ValueFault>
-        requires { scale ≤ 12 }
+        requires { scale ≤ MAX_SCALE }
         ensures { result ≡ rescaled self scale }
     {
         if scale < self.scale() {
@@ -118,7 +119,7 @@ impl Num {
 
 /// The dividend over the divisor, rounded, as a number of that scale.
 fn quotient(dividend: i128, divisor: i128, scale: u8) -> Result<Num, ValueFault>
-    requires scale { scale ≤ 12 }
+    requires scale { scale ≤ MAX_SCALE }
     requires divisor { divisor ≢ pos 0 }
     ensures { result ≡ in_range (rounded dividend divisor) scale }
 {

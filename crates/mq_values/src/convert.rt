@@ -6,6 +6,7 @@ ghost use Rattle.mq_values.specs.declared.value.Value.TheVariants as value_of;
 ghost use Rattle.mq_values.specs.Text.{is_text};
 
 use crate::faults::ValueFault;
+use crate::limits::MAX_SCALE;
 use crate::memory::{Fail, Memory};
 use crate::number::Num;
 use crate::text::Text;
@@ -14,7 +15,7 @@ use std::alloc::Global;
 
 /// The value converted to a kind: a number to the kind's scale, rounded to the nearest with halves away from
 /// zero; to TEXT as its printed text. A text is no number, and null stays null. `Overflow` comes exactly
-/// where the number leaves the range. No kind has a scale above 12, and a cast to one is null
+/// where the number leaves the range. No kind has a scale above `MAX_SCALE`, and a cast to one is null
 /// (docs/LANGUAGE.md, "Conversions").
 pub fn cast(alloc: Global, value: &Value, kind: Kind) -> Result<Value, Fail<ValueFault>>
     ensures { Gives result (cast_of value.now kind) }
@@ -31,7 +32,7 @@ pub fn cast(alloc: Global, value: &Value, kind: Kind) -> Result<Value, Fail<Valu
 fn number_at(n: Num, scale: u8) -> Result<Value, Fail<ValueFault>>
     ensures { Gives result (number_at n scale) }
 {
-    if scale > 12 {
+    if scale > MAX_SCALE {
         return Ok(Value::Null);
     }
     match n.rescale(scale) {
@@ -52,7 +53,7 @@ fn text_of(alloc: Global, n: Num) -> Result<Value, Fail<ValueFault>>
 }
 
 /// The two values as one text, `a || b`: a number stands as its printed text and null as the empty text,
-/// and null || null is null. `TextTooLong` comes exactly where the text would pass 256 bytes
+/// and null || null is null. `TextTooLong` comes exactly where the text would pass `MAX_TEXT_BYTES` bytes
 /// (docs/LANGUAGE.md, "Texts").
 pub fn concat(alloc: Global, a: &Value, b: &Value) -> Result<Value, Fail<ValueFault>>
     ensures { Gives result (joined a.now b.now) }

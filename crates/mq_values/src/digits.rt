@@ -1,12 +1,16 @@
 //! The printed text of a number.
-ghost use Rattle.std.specs.Prelude.{◌≡◌, ◌+◌, ◌^◌, ◌<◌, ◌≤◌, ◌++◌, ◌/◌, ◌%◌, [], ◌∷◌, length, take, drop, decimal, OnOk, OnErr, unsigned_abs};
+ghost use Rattle.std.specs.Prelude.{◌≡◌, ◌+◌, ◌-◌, ◌^◌, ◌<◌, ◌≤◌, ◌++◌, ◌/◌, ◌%◌, [], ◌∷◌, length, take, drop, decimal, OnOk, OnErr, unsigned_abs};
 ghost use Rattle.mq_values.specs.Number.{fixed_digits, fraction_text, sign_text, text_of_number};
 
+use crate::limits::MAX_SCALE;
 use crate::memory::Memory;
 use crate::number::{Num, ten_to};
 
-/// Room for a sign, 39 digits, a point and 12 digits.
+/// Room for a sign, the digits of a mantissa, a point and the digits behind it.
 const ROOM: usize = 56;
+
+/// How many digits a mantissa may have.
+const DIGITS: usize = 39;
 
 impl Num {
     /// Appends the number's text: a whole number in decimal, any other with as many digits behind the
@@ -24,7 +28,7 @@ impl Num {
 
 /// Writes the number's text at the end of the buffer, and returns where it begins.
 fn write_number(n: Num, buffer: &mut [u8; ROOM]) -> usize
-    ensures within { result ≤ 56 }
+    ensures within { result ≤ ROOM }
     ensures text { drop result buffer.new ≡ text_of_number n }
 {
     let size = n.mant().unsigned_abs();
@@ -40,9 +44,9 @@ fn write_number(n: Num, buffer: &mut [u8; ROOM]) -> usize
 
 /// Writes the point and the digits behind it at the end of the buffer, and returns where they begin.
 fn write_fraction(part: u64, scale: u8, buffer: &mut [u8; ROOM]) -> usize
-    requires { scale ≤ 12 }
-    ensures within { 43 ≤ result }
-    ensures end { result ≤ 56 }
+    requires { scale ≤ MAX_SCALE }
+    ensures within { ROOM - MAX_SCALE - 1 ≤ result }
+    ensures end { result ≤ ROOM }
     ensures text { drop result buffer.new ≡ fraction_text scale part }
 {
     if scale == 0 {
@@ -55,8 +59,8 @@ fn write_fraction(part: u64, scale: u8, buffer: &mut [u8; ROOM]) -> usize
 
 /// Writes that many digits at the end of the buffer, and returns where they begin.
 fn write_fixed(part: u64, count: u8, buffer: &mut [u8; ROOM]) -> usize
-    requires { count ≤ 12 }
-    ensures start { result + count ≡ 56 }
+    requires { count ≤ MAX_SCALE }
+    ensures start { result + count ≡ ROOM }
     ensures text { drop result buffer.new ≡ fixed_digits count part }
 {
     let start = ROOM - count as usize;
@@ -73,7 +77,7 @@ fn write_fixed(part: u64, count: u8, buffer: &mut [u8; ROOM]) -> usize
 /// Writes the digits of `whole` so that they end at `end`, and returns where they begin.
 fn write_whole(whole: u128, buffer: &mut [u8; ROOM], end: usize) -> usize
     requires whole { whole ≤ 2 ^ 127 }
-    requires room { 40 ≤ end × end ≤ 56 }
+    requires room { DIGITS < end × end ≤ ROOM }
     ensures room { 0 < result }
     ensures within { result ≤ end }
     ensures text { drop result buffer.new ≡ decimal whole ++ drop end buffer.old }

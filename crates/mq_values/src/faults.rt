@@ -13,7 +13,7 @@ pub enum ValueFault {
     TextTooLong,
 }
 
-/// Why a query has no rows (docs/LANGUAGE.md, "Faults").
+/// Why a query has no rows (docs/LANGUAGE.md, "Output").
 #[derive(Clone, Copy, Debug, PartialEq, Eq)]
 pub enum FaultKind {
     NotUnique,
@@ -37,7 +37,7 @@ pub struct QueryFault {
     pub cell: Key,
 }
 
-/// Why a statement was refused, with the detail that is printed (docs/LANGUAGE.md, "Refusals").
+/// Why a statement was refused, with the detail that is printed (docs/LANGUAGE.md, "Output").
 #[derive(Debug, Drop, PartialEq, Eq)]
 pub enum Refused {
     TooDeep,

@@ -13,6 +13,7 @@ mod dim_tests;
 mod faults;
 mod items;
 mod laws;
+mod limits;
 mod memory;
 mod number;
 mod number_laws;
@@ -37,6 +38,13 @@ pub use faults::{FaultKind, QueryFault, Refused, ValueFault};
 pub use items::Items;
 pub use laws::{
     keys_are_ordered, order_agrees_with_comparison, values_are_ordered, values_print_apart,
+};
+pub use limits::{
+    MAX_BASE_ROWS, MAX_CELLS_OF_PARTITION, MAX_CELLS_OF_QUERY, MAX_CELLS_OF_REFERENCE, MAX_COLUMNS,
+    MAX_DEPTH, MAX_DIMENSIONS, MAX_FILE_BYTES, MAX_FROM_ITEMS, MAX_MANTISSA, MAX_MEASURES,
+    MAX_PARTITION_COLUMNS, MAX_PRINTED_COLUMNS, MAX_REFERENCES, MAX_ROWS, MAX_RULES, MAX_SCALE,
+    MAX_SCRIPT_BYTES, MAX_SINGLE_LEFT_SIDES, MAX_TABLES, MAX_TEXT_BYTES, MAX_TURNS, MAX_VALUES,
+    MAX_VIEWS, MAX_WORD_BYTES, MIN_QUOTIENT_SCALE,
 };
 pub use memory::{Fail, Memory};
 pub use number::Num;

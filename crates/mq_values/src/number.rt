@@ -7,11 +7,15 @@ ghost use Rattle.std.specs.Cmp.{partial_order_from_agreeing_total};
 ghost use Rattle.mq_values.specs.Number.{cmp_number, cmp_worth, fitting, is_mantissa};
 ghost use Rattle.mq_values.specs.NumberOrder.{equal_together};
 
+use crate::limits::MAX_SCALE;
 use std::cmp::Ordering;
 use std::marker::Model;
 
+/// The greatest power of ten that is asked for: a divisor and a dividend each add a scale.
+pub(crate) const MAX_POWER: u8 = 2 * MAX_SCALE;
+
 /// The powers of ten.
-static TENS: [i128; 25] = [
+static TENS: [i128; MAX_POWER as usize + 1] = [
     1,
     10,
     100,
@@ -39,8 +43,8 @@ static TENS: [i128; 25] = [
     1_000_000_000_000_000_000_000_000,
 ];
 
-/// An exact decimal number: a mantissa and a scale from 0 to 12, worth mantissa / 10^scale
-/// (docs/LANGUAGE.md, "Numbers"). Equality, order and hash tell `1.0` from `1.00`.
+/// An exact decimal number: a mantissa and a scale from 0 to `MAX_SCALE`, worth mantissa / 10^scale
+/// (docs/LANGUAGE.md, "Values"). Equality, order and hash tell `1.0` from `1.00`.
 #[derive(Clone, Copy, Debug, PartialEq, Eq, Hash)]
 pub struct Num {
     mant: i128,
@@ -50,12 +54,13 @@ pub struct Num {
 impl Model for Num {
     ghost use Rattle.std.specs.Prelude.{◌≤◌};
     ghost use Rattle.mq_values.specs.Number.{Number};
+    ghost use Rattle.mq_values.specs.declared.limits.TheConstants.{MAX_SCALE};
 
     ghost Value = { Number };
 
     ghost view = { λ n. record { mant = n.mant; scale = n.scale } };
 
-    ghost invariant = { λ n. n.scale ≤ 12 };
+    ghost invariant = { λ n. n.scale ≤ MAX_SCALE };
 
     ghost inverse = { λ n. record { mant = n.mant; scale = n.scale } };
 }
@@ -63,7 +68,7 @@ impl Model for Num {
 impl Num {
     /// The number with this mantissa and scale.
     pub fn new(mant: i128, scale: u8) -> Num
-        requires { scale ≤ 12 }
+        requires { scale ≤ MAX_SCALE }
         ensures { result ≡ record { mant = mant; scale = scale } }
     {
         Num { mant, scale }
@@ -77,10 +82,10 @@ impl Num {
         self.mant
     }
 
-    /// The scale, which is at most 12.
+    /// The scale, which is at most `MAX_SCALE`.
     pub fn scale(self) -> u8
         ensures scale { result ≡ self.scale }
-        ensures bound { result ≤ 12 }
+        ensures bound { result ≤ MAX_SCALE }
     {
         self.scale
     }
@@ -102,7 +107,7 @@ impl Num {
 impl Num {
     /// The mantissa followed by that many zeros, where it is in range.
     pub(crate) fn with_zeros(self, zeros: u8) -> Option<i128>
-        requires { zeros ≤ 24 }
+        requires { zeros ≤ MAX_POWER }
         ensures { result ≡ fitting (self.mant *ℤ pos (10 ^ zeros)) }
     {
         if zeros == 0 {
@@ -124,7 +129,7 @@ pub(crate) fn times(a: i128, b: i128) -> Option<i128>
 
 /// Ten to that power.
 pub(crate) fn ten_to(power: u8) -> i128
-    requires { power ≤ 24 }
+    requires { power ≤ MAX_POWER }
     ensures value { result ≡ pos (10 ^ power) }
     ensures positive { pos 0 <ℤ result }
 {

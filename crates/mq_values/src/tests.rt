@@ -331,3 +331,30 @@ fn boxes_and_words_keep_what_they_hold(rt: HostRuntime) -> Result<(), Fail> {
     assert!(rt; Words::new(rt.alloc(), "")? == Words::empty(), "empty");
     Ok(())
 }
+
+#[test]
+fn copies_are_what_they_copy(rt: HostRuntime) -> Result<(), Fail> {
+    let text = Value::Text(text_or_empty(rt.alloc(), "a'b")?);
+    for value in [text, Value::Num(Num::new(-150, 2)), Value::Null] {
+        assert!(rt;
+            value.copy()? == value && value.clone()? == value,
+            "a value"
+        );
+    }
+    let text = text_or_empty(rt.alloc(), "a'b")?;
+    assert!(rt; text.copy()? == text && text.clone()? == text, "a text");
+    let words = Words::new(rt.alloc(), "name")?;
+    assert!(rt; words.clone()? == words, "words");
+    let mut values = Items::new(rt.alloc());
+    values.push(Value::Null)?;
+    let key: Key = Shared::new(rt.alloc(), values)?;
+    assert!(rt; key.clone()? == key, "a key");
+    Ok(())
+}
+
+fn text_or_empty(alloc: Global, text: &str) -> Result<Text, Memory> {
+    match Text::new(alloc, text)? {
+        Some(text) => Ok(text),
+        None => Ok(Text::empty()),
+    }
+}

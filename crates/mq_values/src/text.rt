@@ -2,15 +2,13 @@ ghost use Rattle.std.specs.Prelude.{◌≡◌, [], IsTrue, Some, None, IfOk, if�
 ghost use Rattle.std.specs.List.{list_all};
 ghost use Rattle.mq_values.specs.Text.{is_plain, is_text};
 
+use crate::limits::MAX_TEXT_BYTES;
 use crate::memory::Memory;
 use crate::words::Words;
 use std::alloc::{AllocError, Global};
 use std::marker::Model;
 
-/// How many bytes a text may have.
-const LONGEST: usize = 256;
-
-/// A text as a value: at most 256 bytes and no control characters (docs/LANGUAGE.md, "Values").
+/// A text as a value: at most `MAX_TEXT_BYTES` bytes and no control characters (docs/LANGUAGE.md, "Values").
 /// Contracts see it as the list of its bytes in UTF-8.
 #[derive(Debug, Drop, PartialEq, Eq, PartialOrd, Ord, Hash)]
 pub struct Text {
@@ -40,7 +38,7 @@ impl Text {
         }
     }
 
-    /// The text `text`, or `None` where it is longer than 256 bytes or has a control character.
+    /// The text `text`, or `None` where it is longer than `MAX_TEXT_BYTES` bytes or has a control character.
     pub fn new(alloc: Global, text: &str) -> Result<Option<Text>, Memory>
         ensures { IfOk result (λ t. t ≡ (if is_text text.now then Some text.now else None)) }
     {
@@ -83,7 +81,7 @@ impl Clone for Text {
 fn may_be_text(text: &str) -> bool
     ensures { result ≡ is_text text.now }
 {
-    text.len() <= LONGEST && is_plain(text.as_bytes())
+    text.len() <= MAX_TEXT_BYTES && is_plain(text.as_bytes())
 }
 
 fn is_plain(bytes: &[u8]) -> bool

@@ -1,5 +1,5 @@
 use Rattle.std.proofs.Common.{rules}
-use Rattle.mq_io.proofs.ProgressLemmas.{Appends-more, AppendsFront-take}
+use Rattle.mq_io.specs.ProgressLemmas.{Appends-more, AppendsFront-take}
 use Rattle.mq_io.proofs.transfers.write_all.Goals as goal
 
 pub returns-in_err-at-clause-front : goal.returns-in_err-at-clause-front

@@ -1,6 +1,6 @@
 use Rattle.std.proofs.Common.{arith, sym, subst, ◌≤◌, length}
 use Rattle.std.specs.Prelude.{IfSome}
-use Rattle.mq_lexer.proofs.Quotes.{closing_within, closing_step, closing_stops}
+use Rattle.mq_lexer.proofs.QuoteLemmas.{closing_within, closing_step, closing_stops}
 use Rattle.mq_lexer.proofs.pieces.closing.Goals as goal
 use Rattle.mq_lexer.proofs.pieces.closing.Goals.{else-behind_quote-via-then-behind_quote+else-not-is_quote, else-behind_quote-via-else-behind_quote, then-behind_quote-2, else-behind_quote-2, then-is_quote, else-is_quote}
 

@@ -1,7 +1,7 @@
 use Rattle.std.proofs.Common.{◌≡◌, drop, false}
 use Rattle.std.specs.Option.{option_or}
 use Rattle.mq_lexer.specs.Quotes.{closing}
-use Rattle.mq_lexer.proofs.Places.{from_place}
+use Rattle.mq_lexer.proofs.PlaceLemmas.{from_place}
 use Rattle.mq_lexer.proofs.pieces.closing.Given as goal
 
 abbrev pub invariant-loop-at : goal.invariant-loop-at

@@ -1,6 +1,6 @@
 use Rattle.std.proofs.Common.{◌≡◌, ◌+◌, length}
 use Rattle.mq_lexer.specs.Pieces.{comment_end}
-use Rattle.mq_lexer.proofs.Places.{from_place}
+use Rattle.mq_lexer.proofs.PlaceLemmas.{from_place}
 use Rattle.mq_lexer.proofs.pieces.comment_end.Given as goal
 
 abbrev pub invariant-loop-z : goal.invariant-loop-z

@@ -3,8 +3,8 @@ use Rattle.std.proofs.lemmas.Bool.Decides.{nat_tests}
 use Rattle.std.specs.List.{fold}
 use Rattle.mq_lexer.specs.Pieces.{front}
 use Rattle.mq_lexer.specs.Tokens.{line_after}
-use Rattle.mq_lexer.proofs.Cuts.{Cut, front-cut}
-use Rattle.mq_lexer.proofs.Scans.{scans_first, scans_next}
+use Rattle.mq_lexer.proofs.CutLemmas.{Cut, front-cut}
+use Rattle.mq_lexer.proofs.ScanLemmas.{scans_first, scans_next}
 use Rattle.mq_lexer.proofs.scanner.tokens.Goals as goal
 use Rattle.mq_lexer.proofs.scanner.tokens.Goals.{After-front-piece}
 

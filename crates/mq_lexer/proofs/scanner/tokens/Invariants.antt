@@ -1,5 +1,5 @@
 use Rattle.std.proofs.Common.{length}
-use Rattle.mq_lexer.proofs.Scans.{Scans}
+use Rattle.mq_lexer.proofs.ScanLemmas.{Scans}
 use Rattle.mq_lexer.proofs.scanner.tokens.Given as goal
 
 abbrev pub invariant-loop-rest : goal.invariant-loop-rest

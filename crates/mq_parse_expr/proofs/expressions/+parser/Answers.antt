@@ -2,10 +2,10 @@ use Rattle.std.proofs.Common.{◌≡◌, ◌≢◌, ℕ, ◌+◌, ◌-◌, ◌<�
 use Rattle.std.proofs.lemmas.Result.{err_from_is_err_and}
 use Rattle.mq_values.specs.declared.operators.Func.TheVariants as func
 use Rattle.mq_ast.specs.declared.expressions.E.TheVariants as tree
-use Rattle.mq_ast.specs.declared.terminals.Keyword.TheVariants as word
+use Rattle.mq_lexer.specs.declared.keywords.Keyword.TheVariants as word
 use Rattle.mq_ast.specs.declared.terminals.Symbol.TheVariants as sign
 use Rattle.mq_ast.specs.declared.terminals.Terminal.TheVariants as terminal
-use Rattle.mq_ast.specs.Tokens.{Word, Sign, Name, terminal_at, opener, closer, comma}
+use Rattle.mq_ast.specs.Tokens.{Word, Aggregate, Sign, Name, terminal_at, opener, closer, comma}
 use Rattle.mq_ast.specs.Continuing.{loose, Stops, Ends}
 use Rattle.mq_ast.specs.Chains.{sum_term, prod_term}
 use Rattle.mq_ast.specs.GrammarNames.{PathE}
@@ -337,7 +337,7 @@ read_sign-returns-in-None t c =
 pub read_prim-returns-in-Aggregate : goal.read_prim-returns-in-Aggregate
 read_prim-returns-in-Aggregate t c =
     let f = form_front (form.Aggregate c.in-Aggregate.agg) (from c.args.t.now c.args.at) c.in-Aggregate.ensures.form in
-    fronted PrimE (Stops 2) (λ us. Word (word.Agg c.in-Aggregate.agg) ∷ us) c.args.t.now c.args.at (c.args.at + 1) c.read_agg.result (omega arith) (at_front (Word (word.Agg c.in-Aggregate.agg)) c.args.t.now c.args.at f) c.read_agg.ensures
+    fronted PrimE (Stops 2) (λ us. Aggregate c.in-Aggregate.agg ∷ us) c.args.t.now c.args.at (c.args.at + 1) c.read_agg.result (omega arith) (at_front (Aggregate c.in-Aggregate.agg) c.args.t.now c.args.at f) c.read_agg.ensures
 
 pub read_prim-returns-in-Other : goal.read_prim-returns-in-Other
 read_prim-returns-in-Other t c =
@@ -422,7 +422,7 @@ read_name-returns t c =
 pub read_agg-returns-in_err-settled-in-All : goal.read_agg-returns-in_err-settled-in-All
 read_agg-returns-in_err-settled-in-All t c =
     let p = err_from_is_err_and c.from_residual.result c.from_residual.ensures.1 in
-    rw (p.1, p.2) (exit c.in_err-settled-in-All.field-0.0 c.in_err-settled-in-All.ensures (λ h. here (Behind (Word (word.Agg c.args.agg))) (Stops 2) c.in-All.ensures.3 (all_no_end h)))
+    rw (p.1, p.2) (exit c.in_err-settled-in-All.field-0.0 c.in_err-settled-in-All.ensures (λ h. here (Behind (Aggregate c.args.agg)) (Stops 2) c.in-All.ensures.3 (all_no_end h)))
 
 pub read_agg-returns-in_ok-settled-in-All : goal.read_agg-returns-in_ok-settled-in-All
 read_agg-returns-in_ok-settled-in-All t c =
@@ -432,7 +432,7 @@ read_agg-returns-in_ok-settled-in-All t c =
 pub read_agg-returns-in_ok-measure-in-Cells : goal.read_agg-returns-in_ok-measure-in-Cells
 read_agg-returns-in_ok-measure-in-Cells t c =
     let a = c.in-Cells.ensures in
-    fronted (Behind (Word (word.Agg c.args.agg))) (Stops 2) (λ us. opener ∷ Name c.in-Cells.measure.now ∷ closer ∷ us) c.args.t.now c.args.at c.in-Cells.cells c.read_range.result a.0 a.2 (measured c.args.agg c.args.t.now c.in-Cells.cells c.read_range.result c.in_ok-measure-in-Cells.ensures c.read_range.ensures)
+    fronted (Behind (Aggregate c.args.agg)) (Stops 2) (λ us. opener ∷ Name c.in-Cells.measure.now ∷ closer ∷ us) c.args.t.now c.args.at c.in-Cells.cells c.read_range.result a.0 a.2 (measured c.args.agg c.args.t.now c.in-Cells.cells c.read_range.result c.in_ok-measure-in-Cells.ensures c.read_range.ensures)
 
 pub read_agg-returns-in_err-e-in-Values : goal.read_agg-returns-in_err-e-in-Values
 read_agg-returns-in_err-e-in-Values t c =
@@ -447,7 +447,7 @@ read_agg-returns-in_err-settled-in-Values t c =
 pub read_agg-returns-in_ok-aggregate-in-Values : goal.read_agg-returns-in_ok-aggregate-in-Values
 read_agg-returns-in_ok-aggregate-in-Values t c =
     let e = c.in_ok-e-in-Values.ensures in
-    (e.0, e.1, as_value (Behind (Word (word.Agg c.args.agg))) c.in_ok-aggregate-in-Values.ensures (agg_prim e.2), c.in_ok-settled-in-Values.ensures)
+    (e.0, e.1, as_value (Behind (Aggregate c.args.agg)) c.in_ok-aggregate-in-Values.ensures (agg_prim e.2), c.in_ok-settled-in-Values.ensures)
 
 pub read_range-returns-in_err-places : goal.read_range-returns-in_err-places
 read_range-returns-in_err-places t c =

@@ -4,7 +4,7 @@ use Rattle.mq_parse_expr.proofs.Steps.{exit, here, there, as_value, gives_as, fr
 use Rattle.mq_parse_expr.specs.Reading.{from, Anywhere}
 use Rattle.mq_parse_expr.proofs.FrontLemmas.{form_front, at_front, no_leaf}
 use Rattle.mq_values.specs.declared.value.Value.TheVariants as value
-use Rattle.mq_ast.specs.declared.terminals.Keyword.TheVariants as word
+use Rattle.mq_lexer.specs.declared.keywords.Keyword.TheVariants as word
 use Rattle.mq_ast.specs.declared.expressions.E.TheVariants as e
 use Rattle.mq_ast.specs.Tokens.{Word}
 use Rattle.mq_ast.specs.GrammarExpression.{PrimE, prim_num, prim_text, prim_null, prim_turn}

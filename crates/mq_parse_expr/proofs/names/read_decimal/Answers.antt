@@ -1,7 +1,7 @@
 use Rattle.std.proofs.Common.{◌≡◌, ◌<◌, ◌≤◌, ◌+◌, ◌∷◌, sym, ap, ◌∙◌, arith}
 use Rattle.std.proofs.lemmas.Result.{err_from_is_err_and}
 use Rattle.mq_values.specs.declared.value.Kind.TheVariants as kind
-use Rattle.mq_ast.specs.declared.terminals.Keyword.TheVariants as word
+use Rattle.mq_lexer.specs.declared.keywords.Keyword.TheVariants as word
 use Rattle.mq_ast.specs.Tokens.{Word, Num, opener, closer}
 use Rattle.mq_ast.specs.GrammarNames.{KindE, kind_decimal}
 use Rattle.mq_parse_expr.specs.Reading.{from, Anywhere}

@@ -1,5 +1,5 @@
 use Rattle.std.proofs.Common.{◌∷◌, arith}
-use Rattle.mq_ast.specs.declared.terminals.Keyword.TheVariants as word
+use Rattle.mq_lexer.specs.declared.keywords.Keyword.TheVariants as word
 use Rattle.mq_ast.specs.Tokens.{Word}
 use Rattle.mq_parse_expr.specs.Reading.{Anywhere}
 use Rattle.mq_parse_expr.proofs.Steps.{fronted}

@@ -2,7 +2,7 @@ use Rattle.std.proofs.Common.{◌∷◌, ap, ◌∙◌, arith}
 use Rattle.std.proofs.lemmas.Result.{err_from_is_err_and}
 use Rattle.mq_ast.specs.Continuing.{Stops}
 use Rattle.mq_parse_expr.specs.Reading.{from}
-use Rattle.mq_ast.specs.declared.terminals.Keyword.TheVariants as word
+use Rattle.mq_lexer.specs.declared.keywords.Keyword.TheVariants as word
 use Rattle.mq_ast.specs.Tokens.{Word}
 use Rattle.mq_ast.specs.GrammarQuery.{GroupE, group_none, group_some}
 use Rattle.mq_parse_expr.proofs.Steps.{exit, here, there, as_value}

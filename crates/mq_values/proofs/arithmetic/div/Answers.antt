@@ -1,7 +1,7 @@
 use Rattle.std.proofs.Common.{arith, ◌∙◌, rules, FitsSigned, ◌≡◌, ◌≢◌, pos}
 use Rattle.std.specs.Int.{w128}
 use Rattle.mq_values.specs.Arithmetic.{quotient_scale}
-use Rattle.mq_values.proofs.Steps.{quotient_step}
+use Rattle.mq_values.proofs.StepLemmas.{quotient_step}
 use Rattle.mq_values.proofs.arithmetic.div.Goals as goal
 
 pub returns-in-Some : goal.returns-in-Some

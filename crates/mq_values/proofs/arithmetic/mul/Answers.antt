@@ -1,6 +1,6 @@
 use Rattle.std.proofs.Common.{◌≡◌, ◌+◌, ◌∙◌, ap, arith, rules, FitsSigned, Some}
 use Rattle.std.specs.Int.{w128}
-use Rattle.mq_values.proofs.Steps.{product_step}
+use Rattle.mq_values.proofs.StepLemmas.{product_step}
 use Rattle.mq_values.proofs.arithmetic.mul.Goals as goal
 
 pub returns-in-Some-2 : goal.returns-in-Some-2

@@ -1,5 +1,5 @@
 use Rattle.std.proofs.Common.{◌∙◌, ap, arith, Ok}
-use Rattle.mq_values.proofs.Steps.{Brought, difference_some, difference_none}
+use Rattle.mq_values.proofs.StepLemmas.{Brought, difference_some, difference_none}
 use Rattle.mq_values.proofs.arithmetic.sub.Goals as goal
 
 pub returns-in-Some : goal.returns-in-Some

@@ -1,7 +1,7 @@
 use Rattle.std.proofs.Common.{◌≡◌, arith, rules}
 use Rattle.std.proofs.lemmas.Str.{IsUtf8-from_ascii}
 use Rattle.mq_values.specs.Number.{text_of_number}
-use Rattle.mq_values.proofs.NumberTexts.{ascii-number, is_text-number}
+use Rattle.mq_values.proofs.NumberTextLemmas.{ascii-number, is_text-number}
 use Rattle.mq_values.proofs.convert.number_text.Goals as goal
 
 pub unreachable-requires : goal.unreachable-requires

@@ -1,7 +1,7 @@
 use Rattle.std.proofs.Common.{◌≡◌, suc, ◌+◌, ◌-◌, ◌%◌, ◌≤◌, ◌++◌, length, drop, refl, ap, sym, ◌∙◌, arith, append-nil, length-set}
 use Rattle.std.proofs.lemmas.List.{drop_all}
 use Rattle.mq_values.specs.Number.{fixed_digits}
-use Rattle.mq_values.proofs.Written.{fixed_step, drop-put}
+use Rattle.mq_values.proofs.WrittenLemmas.{fixed_step, drop-put}
 use Rattle.mq_values.proofs.digits.write_fixed.Goals as goal
 
 pub loop-at-init : goal.loop-at-init

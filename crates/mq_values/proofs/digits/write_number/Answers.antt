@@ -1,7 +1,7 @@
 use Rattle.std.proofs.Common.{◌≡◌, ◌^◌, ◌≤◌, ap, sym, ◌∙◌, arith, unsigned_abs, of_z, to_z, int_le, pos, false, length, rules}
 use Rattle.std.specs.Int.{w128}
 use Rattle.std.proofs.lemmas.Int.{to_z-of_z}
-use Rattle.mq_values.proofs.Written.{drop-put, negative_text}
+use Rattle.mq_values.proofs.WrittenLemmas.{drop-put, negative_text}
 use Rattle.mq_values.proofs.digits.write_number.Goals as goal
 
 pub returns-clause-text : goal.returns-clause-text

@@ -1,5 +1,5 @@
 use Rattle.std.proofs.Common.{◌+◌, ◌-◌, ◌%◌, drop, sym, ◌∙◌, arith, length-set}
-use Rattle.mq_values.proofs.Written.{decimal_front, drop-put, length_whole, length_step}
+use Rattle.mq_values.proofs.WrittenLemmas.{decimal_front, drop-put, length_whole, length_step}
 use Rattle.mq_values.proofs.digits.write_whole.Goals as goal
 
 pub overflow_sub-at : goal.overflow_sub-at

@@ -1,4 +1,4 @@
-use Rattle.mq_values.proofs.PrintsApart.{values_apart}
+use Rattle.mq_values.proofs.PrintLemmas.{values_apart}
 use Rattle.mq_values.proofs.laws.values_print_apart.Goals as goal
 
 pub returns : goal.returns

@@ -1,7 +1,7 @@
 use Rattle.std.proofs.Common.{pos, FitsSigned, sym, ap, ◌∙◌, rules, int_cmp}
 use Rattle.std.specs.Int.{w128}
 use Rattle.mq_values.specs.Number.{Number}
-use Rattle.mq_values.proofs.Ranges.{Compared, cmp_some, cmp_none}
+use Rattle.mq_values.proofs.RangeLemmas.{Compared, cmp_some, cmp_none}
 use Rattle.mq_values.proofs.number.scaled_cmp.Goals as goal
 
 pub returns-in-Some : goal.returns-in-Some

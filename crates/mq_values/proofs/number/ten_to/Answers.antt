@@ -1,4 +1,4 @@
-use Rattle.mq_values.proofs.Tens.{TENS_read, TENS_positive}
+use Rattle.mq_values.proofs.TenLemmas.{TENS_read, TENS_positive}
 use Rattle.mq_values.proofs.number.ten_to.Goals as goal
 
 pub returns-clause-value : goal.returns-clause-value

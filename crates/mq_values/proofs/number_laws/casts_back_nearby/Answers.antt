@@ -1,4 +1,4 @@
-use Rattle.mq_values.proofs.Rounding.{casts}
+use Rattle.mq_values.proofs.RoundingLemmas.{casts}
 use Rattle.mq_values.proofs.number_laws.casts_back_nearby.Goals as goal
 
 pub returns : goal.returns

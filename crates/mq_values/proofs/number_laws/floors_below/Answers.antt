@@ -1,4 +1,4 @@
-use Rattle.mq_values.proofs.Rounding.{floors}
+use Rattle.mq_values.proofs.RoundingLemmas.{floors}
 use Rattle.mq_values.proofs.number_laws.floors_below.Goals as goal
 
 pub returns : goal.returns

@@ -1,4 +1,4 @@
-use Rattle.mq_values.proofs.NumberApart.{apart}
+use Rattle.mq_values.proofs.NumberApartLemmas.{apart}
 use Rattle.mq_values.proofs.number_laws.prints_apart.Goals as goal
 
 pub returns : goal.returns

@@ -1,4 +1,4 @@
-use Rattle.mq_values.proofs.Rounding.{subtracts}
+use Rattle.mq_values.proofs.RoundingLemmas.{subtracts}
 use Rattle.mq_values.proofs.number_laws.subtracts_by_negation.Goals as goal
 
 pub returns : goal.returns

@@ -1,5 +1,5 @@
 use Rattle.std.proofs.Common.{arith}
-use Rattle.mq_values.proofs.Tallies.{average_out}
+use Rattle.mq_values.proofs.TallyLemmas.{average_out}
 use Rattle.mq_values.proofs.tally.with_counted.Goals as goal
 
 pub returns-in-None : goal.returns-in-None

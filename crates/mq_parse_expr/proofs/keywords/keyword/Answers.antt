@@ -1,9 +1,0 @@
-use Rattle.std.proofs.Common.{rules, ◌≡◌, map, ℕ, ◌∙◌, sym, ap, List, [], ◌∷◌, length, Bor}
-use Rattle.std.specs.Str.{bytes_eq}
-use Rattle.mq_lexer.specs.Words.{folded}
-use Rattle.mq_ast.specs.Spelling.{keyword_of, spelled}
-use Rattle.mq_parse_expr.proofs.SpellingLemmas.{row_enough}
-use Rattle.mq_parse_expr.proofs.keywords.keyword.Goals as goal
-
-pub loop-spelling-init : goal.loop-spelling-init
-loop-spelling-init c = let r = c.row-spelling-items.ensures in let i = c.initial.ensures in rw r (row_enough c.args.word.now c.initial.result (rw c.as_bytes-letters.ensures.value at c.initial.ensures))
