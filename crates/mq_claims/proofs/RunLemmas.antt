@@ -215,7 +215,7 @@ module _ {P : Type 0} where
     adds_up = s.adds_up;
   }
 
-  is_done-handed : (v w : ℕ) (st : Status P) → is_done (handed_over v w st) ≡ is_done st
+  pub is_done-handed : (v w : ℕ) (st : Status P) → is_done (handed_over v w st) ≡ is_done st
   is_done-handed v w waiting = refl
   is_done-handed v w (claimed u) = refl
   is_done-handed v w (held u) = refl

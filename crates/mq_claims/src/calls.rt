@@ -1,6 +1,6 @@
 //! The calls of a board.
 
-ghost use Rattle.std.specs.Prelude.{◌≡◌, ◌-◌, ◌<◌, ◌≤◌, Some, [], ◌∷◌, length, IfOk, IfSome, IfNone};
+ghost use Rattle.std.specs.Prelude.{◌≡◌, ◌-◌, ◌<◌, ◌≤◌, true, Some, [], ◌∷◌, length, IfOk, IfSome, IfNone};
 ghost use mathlib.Core.Option.{some};
 ghost use lib.ListN.{get_elem?};
 ghost use Rattle.mq_claims.specs.Views.{AllBelow, beginner, newcomer, with_claim, told_none, with_put, one_more_away, joined};

@@ -13,11 +13,7 @@ use std::alloc::Global;
 pub(crate) fn filled<P: Drop>(alloc: Global, pieces: Vec<P>) -> Result<Vec<Option<P>>, Memory>
     ensures { IfOk result (λ slots. slots.items ≡ map Some pieces.items) }
 {
-    let mut slots = Vec::with_capacity(alloc, pieces.len())?;
-    for piece in pieces {
-        slots.push_reserved(Some(piece));
-    }
-    Ok(slots)
+    Ok(pieces.into_iter().map(Some).collect(alloc)?)
 }
 
 // The pieces out of slots that each hold one, into a list that has room for them.
