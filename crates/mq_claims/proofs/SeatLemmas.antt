@@ -1,21 +1,21 @@
 -- The first seat lends a seat out, and takes it back: both keep the rule.
-use Rattle.std.proofs.Common.{◌≡◌, ◌≢◌, ◌⊎◌, ℕ, zero, suc, ◌+◌, ◌-◌, ◌<◌, ◌≤◌, Bool, true, false, cond, eqb, eq-eqb, ne_eqb, Option, Some, None, List, [], ◌∷◌, ◌++◌, map, length, set, count_by, sym, refl, ap, ap₂, ◌∙◌, subst, ⊎_elim, append-nil, length-set, length-append, arith}
+use Rattle.std.proofs.Common.{◌≡◌, ◌≢◌, ◌⊎◌, ℕ, zero, suc, ◌+◌, ◌-◌, ◌<◌, ◌≤◌, Bool, true, false, cond, eqb, eq-eqb, ne_eqb, Option, Some, None, List, [], ◌∷◌, ◌++◌, map, length, get_or, set, count_by, sym, refl, ap, ap₂, ◌∙◌, subst, ⊎_elim, append-nil, length-set, length-append, arith}
 use Rattle.std.proofs.lemmas.List.{length-map}
 use mathlib.Core.Logic.{dite}
 use mathlib.Core.Option as maybe
-use mathlib.Core.Option.{some, some-injective}
-use native.Mathlib.Decide.{ℕ_discrete}
+use mathlib.Core.Option.{some, none, some-injective}
+use native.Mathlib.Decide.{ℕ_discrete, dec_lt}
 use lib.ListN.{get_elem?}
-use Rattle.atomic_table.specs.Table.{State, Splits, Joins}
-use Rattle.atomic_table.proofs.Lists.{at_set, set_here, set_else, at_longer, at_last, at_map}
+use Rattle.atomic_table.specs.Table.{State, Me, step, keeps, Allows, Splits, Joins}
+use Rattle.atomic_table.proofs.Lists.{at_set, set_here, set_else, set_again, at_longer, at_last, at_map}
 use Rattle.mq_claims.specs.declared.limits.TheConstants.{MAX_SEATS}
 use Rattle.mq_claims.specs.declared.view.Entry.{Entry}
 use Rattle.mq_claims.specs.declared.view.View.{View}
 use Rattle.mq_claims.specs.Machine.{Status, waiting, claimed, held, done, Worker, worker, Machine, machine, Event, splitting, joining, start, IsInHand, handed_over, Run, claims, claimers, is_latest, contents}
 use Rattle.mq_claims.specs.MachineLaws.{is_done}
 use Rattle.mq_claims.specs.Views.{under, newcomer, one_more_away, newcomer_of, joined, spent}
-use Rattle.mq_claims.specs.Rule.{is_live, listed, IsHome, Shows, Follows}
-use Rattle.mq_claims.proofs.ListLemmas.{inside, map_back, count-set, count-snoc, count-map, count-cons}
+use Rattle.mq_claims.specs.Rule.{is_live, listed, IsHome, Shows, Follows, Looks}
+use Rattle.mq_claims.proofs.ListLemmas.{there, inside, map_back, count-set, count-snoc, count-map, count-cons}
 use Rattle.mq_claims.proofs.RunLemmas.{untold, Tells, Sound, sound, is_done-handed}
 use Rattle.mq_claims.proofs.RuleLemmas.{off, snoc_back, under-append, seat_by}
 
@@ -268,3 +268,34 @@ module _ {P : Type 0} where
   pub joins : (handed : List P) (id other : ℕ) (v w : View P) → v.first ≡ true → w.live ≡ true → w.told ≡ true → Joins (Follows handed) id v other w (joined v w) spent
   joins handed id other v w first live told s k at apart there =
       follows_join handed s k id other v w at (sym (set_else s.views id other (joined v w) apart) ∙ there) (λ e. apart (sym e)) first live told
+
+  one_or_none : (t : Bool) (x : Option P) → length (cond t (x ∷ []) []) ≤ 1
+  one_or_none true x = omega arith
+  one_or_none false x = omega arith
+
+  at_most_one : (id : ℕ) (st : Status P) → length (listed id st) ≤ 1
+  at_most_one id waiting = omega arith
+  at_most_one id (claimed w) = one_or_none (eqb w id) None
+  at_most_one id (held w) = one_or_none (eqb w id) None
+  at_most_one id (done w p) = one_or_none (eqb w id) (Some p)
+
+  pub looks : (handed : List P) (slots id : ℕ) (me : Me (Option P) (View P)) → Allows (Follows handed) slots id me 0 (λ n. n) (Looks (step slots 0 0 0 none) me)
+  looks handed slots id me s k long at bound = (
+      me.0,
+      keeps,
+      tt,
+      record {
+        machine = k.machine;
+        events = k.events;
+        run = k.run;
+        few = k.few;
+        words = ap (λ (ws : List ℕ). set ws 0 (get_or ws 0 0)) k.words;
+        slots = k.slots;
+        seats = length-set s.views id me.0 ∙ k.seats;
+        homes = k.homes;
+        views = λ j v e. k.views j v (ap (λ (vs : List (View P)). get_elem? vs j) (sym (set_again s.views id me.0 at)) ∙ e);
+      },
+      (refl, λ j. let shows = k.views id me.0 at in dite (dec_lt j (length k.machine.pieces))
+          (λ lt. let st = there k.machine.pieces j lt in subst (λ (l : List (Option P)). length l ≤ 1) (sym (shows.lists j st.0 st.1)) (at_most_one id st.0))
+          (λ ge. subst (λ (l : List (Option P)). length l ≤ 1) (sym (shows.no_more j (omega (arith, ge)))) (omega arith))),
+    )

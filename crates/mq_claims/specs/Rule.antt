@@ -10,7 +10,7 @@ use Rattle.mq_claims.specs.declared.view.View.{View}
 use Rattle.mq_claims.specs.declared.view.Setting.{Setting}
 use Rattle.mq_claims.specs.Machine.{Status, waiting, claimed, held, done, Worker, worker, Machine, Event, start, IsInHand, Run}
 use Rattle.mq_claims.specs.MachineLaws.{is_done}
-use Rattle.mq_claims.specs.Views.{entry, under, AllBelow, beginner, with_claim, told_none, with_put}
+use Rattle.mq_claims.specs.Views.{entry, under, AllBelow, NoTwice, beginner, with_claim, told_none, with_put}
 
 abbrev pub is_live : Worker → Bool
 is_live x = x.live
@@ -73,3 +73,7 @@ module _ {P : Type 0} where
 
   abbrev pub Puts : Step (Option P) → Me (Option P) (View P) → ℕ → Me (Option P) (View P) → Type 0
   Puts st me found me' = me' ≡ (put_view me.0 me.1, rest me.1)
+
+  -- a look changes nothing, and tells that the rule allows a number in a list once alone
+  abbrev pub Looks : Step (Option P) → Me (Option P) (View P) → ℕ → Me (Option P) (View P) → Type 0
+  Looks st me found me' = (me' ≡ me) × NoTwice me.0.entries

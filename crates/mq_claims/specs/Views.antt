@@ -1,5 +1,5 @@
 -- What a seat knows at first, and how each call changes it.
-use Rattle.std.specs.Prelude.{◌≡◌, ℕ, ◌+◌, ◌-◌, ◌≤◌, ◌==◌, true, false, List, [], ◌∷◌, ◌++◌, map, Option, Some, None, if◌then◌else◌}
+use Rattle.std.specs.Prelude.{◌≡◌, ℕ, ◌+◌, ◌-◌, ◌≤◌, ◌==◌, true, false, List, [], ◌∷◌, ◌++◌, map, length, Option, Some, None, if◌then◌else◌}
 use Rattle.mq_claims.specs.declared.view.Entry.{Entry}
 use Rattle.mq_claims.specs.declared.view.View.{View}
 
@@ -15,6 +15,10 @@ module _ {P : Type 0} where
   -- each number of the list is below n
   abbrev pub AllBelow : ℕ → List (Entry P) → Type 0
   AllBelow n es = (k : ℕ) → n ≤ k → under k es ≡ []
+
+  -- no number stands twice in the list
+  abbrev pub NoTwice : List (Entry P) → Type 0
+  NoTwice es = (k : ℕ) → length (under k es) ≤ 1
 
   -- the first seat, which may split this many times
   abbrev pub beginner : List P → ℕ → View P

@@ -3,13 +3,13 @@
 ghost use Rattle.std.specs.Prelude.{◌≡◌, ◌-◌, ◌<◌, ◌≤◌, true, Some, [], ◌∷◌, length, IfOk, IfSome, IfNone};
 ghost use mathlib.Core.Option.{some};
 ghost use lib.ListN.{get_elem?};
-ghost use Rattle.mq_claims.specs.Views.{AllBelow, beginner, newcomer, with_claim, told_none, with_put, one_more_away, joined};
+ghost use Rattle.mq_claims.specs.Views.{AllBelow, NoTwice, beginner, newcomer, with_claim, told_none, with_put, one_more_away, joined};
 ghost use Rattle.mq_claims.specs.Calls.{handed_in, IsSeatOf, IsSameSeat, view_of, MayClaim, HasClaimed, HasTaken, MaySplit, IsFinished, MayClose, IsWhole};
 
 use crate::board::{Board, Seat};
 use crate::limits::{MAX_PIECES, MAX_SEATS};
 use crate::slots::{emptied, filled};
-use crate::view::{Claiming, Lending, Putting, Setting};
+use crate::view::{Claiming, Lending, Looking, Putting, Setting};
 use atomic_table::Table;
 use mq_values::Memory;
 use std::alloc::Global;
@@ -102,8 +102,11 @@ impl<P> Board<P> {
         requires finished { IsFinished other }
         ensures same { IsSameSeat into.old into.new }
         ensures gained { into.new.me ≡ (joined (view_of into.old) (view_of other), into.old.me.1) }
+        ensures once { NoTwice (view_of into.new).entries }
     {
         self.table.shared.join_seat::<Lending>(into, other);
+        // The join itself tells nothing of the table, so the seat looks once more.
+        self.table.shared.load::<Looking>(into, 0);
     }
 
     /// The pieces in order of their numbers, each as it was put. After Memory the pieces are gone.

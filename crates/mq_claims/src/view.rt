@@ -66,6 +66,15 @@ impl<P> Play<Option<P>, View<P>> for Putting {
     ghost then = { Puts };
 }
 
+/// A look at the seat's own list.
+pub struct Looking;
+
+impl<P> Play<Option<P>, View<P>> for Looking {
+    ghost use Rattle.mq_claims.specs.Rule.{Looks};
+
+    ghost then = { Looks };
+}
+
 /// The first seat lends a seat out, and takes it back.
 pub struct Lending;
 
