@@ -33,7 +33,7 @@ module _ {P : Type 0} (handed : List P) where
   none_beyond : (n : ℕ) (es : List (Event P)) (m : Machine P) (id : ℕ) (v : View P) → Run (start n) es m → Shows handed m id v → AllBelow m.next v.entries
   none_beyond n es m id v run shows k le = dite (dec_lt k (length m.pieces))
       (λ lt. let size : length m.pieces ≡ n = (sound n es m run).size in
-          let at : get_elem? m.pieces k ≡ some waiting = ((each_is_claimed_once P n es m run k (omega arith)).1 le).1 in shows.lists k waiting at)
+      let at : get_elem? m.pieces k ≡ some waiting = ((each_is_claimed_once P n es m run k (omega arith)).1 le).1 in shows.lists k waiting at)
       (λ ge. shows.no_more k (omega (arith, ge)))
 
   module _ (s : S) (k : Follows handed s) (slots id : ℕ) (me : M) (at : get_elem? s.views id ≡ some me.0)
@@ -72,7 +72,7 @@ module _ {P : Type 0} (handed : List P) where
         as_worker = shows.as_worker;
         lists = λ i st e. ⊎_elim
             (λ (x : (i ≡ c) × (claimed id ≡ st)). ap (λ (j : ℕ). under j (entry c None ∷ me.0.entries)) x.0 ∙ under_here c None me.0.entries ∙ ap (λ (l : List (Option P)). None ∷ l) (shows.lists c waiting waits)
-                ∙ sym (ap (λ (t : Bool). cond t (None ∷ []) []) (eq-eqb id id refl)) ∙ ap (listed id) x.1)
+            ∙ sym (ap (λ (t : Bool). cond t (None ∷ []) []) (eq-eqb id id refl)) ∙ ap (listed id) x.1)
             (λ (x : (i ≢ c) × (get_elem? k.machine.pieces i ≡ some st)). under_else i c None me.0.entries x.0 ∙ shows.lists i st x.1) (at_set k.machine.pieces c i (claimed id) st e);
         no_more = λ i le. let l = length-set k.machine.pieces c (claimed id) in under_else i c None me.0.entries (λ e. omega (arith, size)) ∙ shows.no_more i (omega arith);
         has_out = λ i st e mine. ⊎_elim (λ (x : (i ≡ c) × (claimed id ≡ st)). (refl, x.0)) (λ (x : (i ≢ c) × (get_elem? k.machine.pieces i ≡ some st)). absurd (free i st x.1 mine)) (at_set k.machine.pieces c i (claimed id) st e);

@@ -30,9 +30,11 @@ each_is_claimed_once P n es m run k lt =
 
 pub all_is_done : (P : Type 0) → AllIsDone P
 all_is_done P n es m run over =
-    let s = sound n es m run in let c = s.counted in let size : length m.pieces ≡ n = s.size in let passed : n < m.next = s.over 0 true over.0 in
-    (passed, λ k lt. let at = there m.pieces k (omega arith) in
-        let is = last m k (claims es) (claimers k es) (λ w. is_latest k w es) (contents k es) at.0 over (omega arith) (s.tells k at.0 at.1) in (is.0, at.1 ∙ ap some is.1, is.2))
+    let s = sound n es m run in let c = s.counted in let size : length m.pieces ≡ n = s.size in let passed : n < m.next = s.over 0 true over.0 in (
+      passed,
+      λ k lt. let at = there m.pieces k (omega arith) in
+          let is = last m k (claims es) (claimers k es) (λ w. is_latest k w es) (contents k es) at.0 over (omega arith) (s.tells k at.0 at.1) in (is.0, at.1 ∙ ap some is.1, is.2),
+    )
 
 pub pieces_are_counted : (P : Type 0) → PiecesAreCounted P
 pieces_are_counted P n es m run = (sound n es m run).adds_up

@@ -56,7 +56,7 @@ module _ {P : Type 0} (handed : List P) where
       as_worker = shows.as_worker;
       lists = λ j st e. ⊎_elim
           (λ (x : (j ≡ i) × (done id p ≡ st)). ap (λ (n : ℕ). under n (map (with_piece i p) v.entries)) x.0 ∙ put_here i p v.entries ∙ ap (map (λ (x : Option P). Some p)) (shows.lists i (claimed id) mine)
-              ∙ ap (λ (t : Bool). map (λ (x : Option P). Some p) (cond t (None ∷ []) [])) (eq-eqb id id refl) ∙ sym (ap (λ (t : Bool). cond t (Some p ∷ []) []) (eq-eqb id id refl)) ∙ ap (listed id) x.1)
+          ∙ ap (λ (t : Bool). map (λ (x : Option P). Some p) (cond t (None ∷ []) [])) (eq-eqb id id refl) ∙ sym (ap (λ (t : Bool). cond t (Some p ∷ []) []) (eq-eqb id id refl)) ∙ ap (listed id) x.1)
           (λ (x : (j ≢ i) × (get_elem? k.machine.pieces j ≡ some st)). put_else j i p v.entries x.0 ∙ shows.lists j st x.1) (at_set k.machine.pieces i j (done id p) st e);
       no_more = λ j le. let l = length-set k.machine.pieces i (done id p) in let lt = inside k.machine.pieces i _ mine in put_else j i p v.entries (λ e. omega arith) ∙ shows.no_more j (omega arith);
       has_out = λ j st e own. ⊎_elim (λ (x : (j ≡ i) × (done id p ≡ st)). absurd (subst (IsInHand id) (sym x.1) own))
@@ -90,10 +90,10 @@ module _ {P : Type 0} (handed : List P) where
   pub puts : (slots id i : ℕ) (me : M) (p : P) → me.0.busy ≡ true → me.0.hand ≡ i → me.1 ≡ (i, Some p) ∷ []
       → Allows (Follows handed) slots id me 1 (λ n. (n + 1) % 2 ^ 64) (Puts (step slots 1 1 0 none) me)
   puts slots id i me p busy hand carried s k long at bound = subst (Goes s slots id me) (sym (ap (λ (ws : List ℕ). get_or ws 1 0) k.words)) (
-      put_view me.0 me.1,
-      gives,
-      tt,
-      subst (λ (c : List (ℕ × Option P)). Follows handed record { words = set s.words 1 ((count_by is_done k.machine.pieces + 1) % 2 ^ 64); homes = put_back s.homes c; views = set s.views id (put_view me.0 c) }) (sym carried)
-          (follows s k id i me.0 p at busy hand),
-      refl,
-    )
+    put_view me.0 me.1,
+    gives,
+    tt,
+    subst (λ (c : List (ℕ × Option P)). Follows handed record { words = set s.words 1 ((count_by is_done k.machine.pieces + 1) % 2 ^ 64); homes = put_back s.homes c; views = set s.views id (put_view me.0 c) }) (sym carried)
+        (follows s k id i me.0 p at busy hand),
+    refl,
+  )

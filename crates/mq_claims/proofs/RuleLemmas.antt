@@ -49,17 +49,17 @@ module _ {P : Type 0} where
   put_here k p [] = refl
   put_here k p (e ∷ es) = dite (ℕ_discrete e.number k)
       (λ is. let t : eqb e.number k ≡ true = eq-eqb e.number k is in
-          ap (λ (b : Bool). under k (cond b (entry k (Some p)) e ∷ map (with_piece k p) es)) t ∙ under_here k (Some p) (map (with_piece k p) es) ∙ ap (λ (l : List (Option P)). Some p ∷ l) (put_here k p es)
-          ∙ sym (ap (λ (b : Bool). map (λ (x : Option P). Some p) (cond b (e.piece ∷ under k es) (under k es))) t))
+      ap (λ (b : Bool). under k (cond b (entry k (Some p)) e ∷ map (with_piece k p) es)) t ∙ under_here k (Some p) (map (with_piece k p) es) ∙ ap (λ (l : List (Option P)). Some p ∷ l) (put_here k p es)
+      ∙ sym (ap (λ (b : Bool). map (λ (x : Option P). Some p) (cond b (e.piece ∷ under k es) (under k es))) t))
       (λ ne. let f : eqb e.number k ≡ false = ne_eqb e.number k ne in
-          ap (λ (b : Bool). under k (cond b (entry k (Some p)) e ∷ map (with_piece k p) es)) f ∙ ap (λ (b : Bool). cond b (e.piece ∷ under k (map (with_piece k p) es)) (under k (map (with_piece k p) es))) f
-          ∙ put_here k p es ∙ sym (ap (λ (b : Bool). map (λ (x : Option P). Some p) (cond b (e.piece ∷ under k es) (under k es))) f))
+      ap (λ (b : Bool). under k (cond b (entry k (Some p)) e ∷ map (with_piece k p) es)) f ∙ ap (λ (b : Bool). cond b (e.piece ∷ under k (map (with_piece k p) es)) (under k (map (with_piece k p) es))) f
+      ∙ put_here k p es ∙ sym (ap (λ (b : Bool). map (λ (x : Option P). Some p) (cond b (e.piece ∷ under k es) (under k es))) f))
 
   pub put_else : (j k : ℕ) (p : P) (es : List (Entry P)) → j ≢ k → under j (map (with_piece k p) es) ≡ under j es
   put_else j k p [] ne = refl
   put_else j k p (e ∷ es) ne = dite (ℕ_discrete e.number k)
       (λ is. ap (λ (b : Bool). under j (cond b (entry k (Some p)) e ∷ map (with_piece k p) es)) (eq-eqb e.number k is) ∙ under_else j k (Some p) (map (with_piece k p) es) ne ∙ put_else j k p es ne
-          ∙ sym (ap (λ (b : Bool). cond b (e.piece ∷ under j es) (under j es)) (ne_eqb e.number j (λ x. ne (sym x ∙ is)))))
+      ∙ sym (ap (λ (b : Bool). cond b (e.piece ∷ under j es) (under j es)) (ne_eqb e.number j (λ x. ne (sym x ∙ is)))))
       (λ no. ap (λ (b : Bool). under j (cond b (entry k (Some p)) e ∷ map (with_piece k p) es)) (ne_eqb e.number k no) ∙ ap (λ (l : List (Option P)). cond (eqb e.number j) (e.piece ∷ l) l) (put_else j k p es ne))
 
   module _ (handed : List P) where

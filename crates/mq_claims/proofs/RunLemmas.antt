@@ -85,6 +85,7 @@ module _ {P : Type 0} where
     where
       mine_not : (v : ℕ) → ¬ (v ≡ w) → is_latest k v es ≡ true → is_latest k v (claiming w ∷ es) ≡ true
       mine_not v n e = ap (λ (t : Bool). cond t (eqb (claims es) k) (is_latest k v es)) (ne_eqb w v (λ e. n (sym e))) ∙ e
+
       go : (st : Status P) → ¬ (IsInHand w st) → Tells ws k (claims es) (claimers k es) (λ v. is_latest k v es) (contents k es) st
           → Tells ws' k (suc (claims es)) (claimers k es) (λ v. is_latest k v (claiming w ∷ es)) (contents k es) st
       go waiting free h = ((let le : claims es ≤ k = h.0 in omega arith), h.1, h.2)
@@ -118,14 +119,16 @@ module _ {P : Type 0} where
     where
       now : get_elem? m.pieces m.next ≡ some waiting
       now = next_waits n es m s lt
+
       fresh : (k : ℕ) → k ≡ m.next → Tells m.workers k (suc (claims es)) (claimers k (claiming w ∷ es)) (λ v. is_latest k v (claiming w ∷ es)) (contents k es) (claimed w)
       fresh k e = let old = s.tells m.next waiting now in let is : k ≡ claims es = e ∙ s.counted in let hit : eqb (claims es) k ≡ true = eq-eqb (claims es) k (sym is) in (
-          omega arith,
-          (w, ap (λ (t : Bool). cond t (w ∷ claimers k es) (claimers k es)) hit ∙ ap (λ (who : List ℕ). w ∷ who) (ap (λ (i : ℕ). claimers i es) e ∙ old.1)),
-          ap (λ (i : ℕ). contents i es) e ∙ old.2,
-          ap (λ (t : Bool). cond t (eqb (claims es) k) (is_latest k w es)) (eq-eqb w w refl) ∙ hit,
-          lives,
-        )
+        omega arith,
+        (w, ap (λ (t : Bool). cond t (w ∷ claimers k es) (claimers k es)) hit ∙ ap (λ (who : List ℕ). w ∷ who) (ap (λ (i : ℕ). claimers i es) e ∙ old.1)),
+        ap (λ (i : ℕ). contents i es) e ∙ old.2,
+        ap (λ (t : Bool). cond t (eqb (claims es) k) (is_latest k w es)) (eq-eqb w w refl) ∙ hit,
+        lives,
+      )
+
       tells : TellsAll m.workers (claiming w ∷ es) (set m.pieces m.next (claimed w))
       tells k st e = ⊎_elim
           (λ (x : (k ≡ m.next) × (claimed w ≡ st)). subst (Tells m.workers k (suc (claims es)) (claimers k (claiming w ∷ es)) (λ v. is_latest k v (claiming w ∷ es)) (contents k es)) x.1 (fresh k x.0))
@@ -179,13 +182,14 @@ module _ {P : Type 0} where
     where
       old : Tells m.workers i (claims es) (claimers i es) (λ v. is_latest i v es) (contents i es) (held w)
       old = s.tells i (held w) at
+
       tells : TellsAll m.workers (putting w p ∷ es) (set m.pieces i (done w p))
       tells k st e = ⊎_elim
           (λ (x : (k ≡ i) × (done w p ≡ st)). subst (Tells m.workers k (claims es) (claimers k es) (λ v. is_latest k v es) (contents k (putting w p ∷ es))) x.1
-              (subst (λ (j : ℕ). Tells m.workers j (claims es) (claimers j es) (λ v. is_latest j v es) (contents j (putting w p ∷ es)) (done w p)) (sym x.0)
-              (old.0, old.1, ap (λ (t : Bool). cond t (p ∷ contents i es) (contents i es)) old.3 ∙ ap (λ (ps : List P). p ∷ ps) old.2, (false, old.4))))
+          (subst (λ (j : ℕ). Tells m.workers j (claims es) (claimers j es) (λ v. is_latest j v es) (contents j (putting w p ∷ es)) (done w p)) (sym x.0)
+          (old.0, old.1, ap (λ (t : Bool). cond t (p ∷ contents i es) (contents i es)) old.3 ∙ ap (λ (ps : List P). p ∷ ps) old.2, (false, old.4))))
           (λ (x : (k ≢ i) × (get_elem? m.pieces k ≡ some st)). subst (λ (ps : List P). Tells m.workers k (claims es) (claimers k es) (λ v. is_latest k v es) ps st)
-              (sym (ap (λ (t : Bool). cond t (p ∷ contents k es) (contents k es)) (one_latest i k w es old.3 x.0))) (s.tells k st x.1))
+          (sym (ap (λ (t : Bool). cond t (p ∷ contents k es) (contents k es)) (one_latest i k w es old.3 x.0))) (s.tells k st x.1))
           (at_set m.pieces i k (done w p) st e)
 
   module _ (ws ws' : List Worker) (k c : ℕ) (who : List ℕ) (latest : ℕ → Bool) (what : List P) where
@@ -200,9 +204,14 @@ module _ {P : Type 0} where
     tells_handed v w t ne into from keeps waiting h = h
     tells_handed v w t ne into from keeps (claimed u) h = (h.0, h.1, h.2, h.3, keeps u (λ e. untold true true (some-injective _ _ (sym from ∙ ap (get_elem? ws) (sym e) ∙ h.4))) ∙ h.4)
     tells_handed v w t ne into from keeps (held u) h = (h.0, h.1, h.2, h.3, keeps u (λ e. untold true true (some-injective _ _ (sym from ∙ ap (get_elem? ws) (sym e) ∙ h.4))) ∙ h.4)
-    tells_handed v w t ne into from keeps (done u p) h = (h.0, h.1, h.2, dite (ℕ_discrete u w)
-        (λ e. (t, ap (λ (x : Bool). get_elem? ws' (cond x v u)) (eq-eqb u w e) ∙ keeps v ne ∙ into))
-        (λ n. (h.3.0, ap (λ (x : Bool). get_elem? ws' (cond x v u)) (ne_eqb u w n) ∙ keeps u n ∙ h.3.1)))
+    tells_handed v w t ne into from keeps (done u p) h = (
+      h.0,
+      h.1,
+      h.2,
+      dite (ℕ_discrete u w)
+          (λ e. (t, ap (λ (x : Bool). get_elem? ws' (cond x v u)) (eq-eqb u w e) ∙ keeps v ne ∙ into))
+          (λ n. (h.3.0, ap (λ (x : Bool). get_elem? ws' (cond x v u)) (ne_eqb u w n) ∙ keeps u n ∙ h.3.1)),
+    )
 
   splits_it : (n : ℕ) (es : List (Event P)) (m : Machine P) → Sound n es m → length m.workers < MAX_SEATS → Sound n (splitting ∷ es) (machine m.next m.pieces (m.workers ++ worker true false ∷ []))
   splits_it n es m s room = record {

@@ -114,8 +114,15 @@ module _ {P : Type 0} where
         follows_split left = record {
           machine = machine k.machine.next k.machine.pieces more;
           events = splitting ∷ k.events;
-          run = (k.machine, k.run, ((v.told, ap (get_elem? k.machine.workers) (sym (shows.as_first first).0) ∙ shows.as_worker ∙ ap (λ (b : Bool). some (worker b v.told)) (shows.as_first first).1),
-              (let d = (shows.as_first first).3 in omega arith), refl));
+          run = (
+            k.machine,
+            k.run,
+            (
+              (v.told, ap (get_elem? k.machine.workers) (sym (shows.as_first first).0) ∙ shows.as_worker ∙ ap (λ (b : Bool). some (worker b v.told)) (shows.as_first first).1),
+              (let d = (shows.as_first first).3 in omega arith),
+              refl,
+            ),
+          );
           few = k.few;
           words = k.words;
           slots = k.slots;
@@ -124,7 +131,7 @@ module _ {P : Type 0} where
           views = λ j u e. ⊎_elim
               (λ x. seat_by handed s.views k.machine (machine k.machine.next k.machine.pieces more) id (one_more_away v) k.views (lent left) (λ i w ne a old. beside i w ne old) j u x)
               (λ (x : (j ≡ length (set s.views id (one_more_away v))) × (newcomer_of v ≡ u)). subst (Shows handed (machine k.machine.next k.machine.pieces more) j) x.1
-                  (subst (λ (i : ℕ). Shows handed (machine k.machine.next k.machine.pieces more) i (newcomer_of v)) (sym (x.0 ∙ length-set s.views id (one_more_away v) ∙ k.seats)) fresh))
+              (subst (λ (i : ℕ). Shows handed (machine k.machine.next k.machine.pieces more) i (newcomer_of v)) (sym (x.0 ∙ length-set s.views id (one_more_away v) ∙ k.seats)) fresh))
               (snoc_back (set s.views id (one_more_away v)) (newcomer_of v) u j e);
         }
 
@@ -138,8 +145,8 @@ module _ {P : Type 0} where
   both_listed id other (held u) ne free = ap (λ (l : List (Option P)). listed id (held u) ++ l) (not_listed other (held u) free) ∙ append-nil (listed id (held u))
   both_listed id other (done u p) ne free = dite (ℕ_discrete u other)
       (λ e. let hit = eq-eqb u other e in
-          ap₂ (λ (a b : List (Option P)). a ++ b) (not_listed id (done u p) (λ x. ne (sym x ∙ e))) (ap (λ (t : Bool). cond t (Some p ∷ []) []) hit)
-          ∙ sym (ap (λ (t : Bool). cond t (Some p ∷ []) []) (eq-eqb id id refl)) ∙ sym (ap (λ (t : Bool). listed id (done (cond t id u) p)) hit))
+      ap₂ (λ (a b : List (Option P)). a ++ b) (not_listed id (done u p) (λ x. ne (sym x ∙ e))) (ap (λ (t : Bool). cond t (Some p ∷ []) []) hit)
+      ∙ sym (ap (λ (t : Bool). cond t (Some p ∷ []) []) (eq-eqb id id refl)) ∙ sym (ap (λ (t : Bool). listed id (done (cond t id u) p)) hit))
       (λ n. ap (λ (l : List (Option P)). listed id (done u p) ++ l) (not_listed other (done u p) n) ∙ append-nil (listed id (done u p)) ∙ sym (ap (λ (t : Bool). listed id (done (cond t id u) p)) (ne_eqb u other n)))
 
   same_listed : (j id other : ℕ) (st : Status P) → j ≢ id → j ≢ other → listed j st ≡ listed j (handed_over id other st)
@@ -260,8 +267,8 @@ module _ {P : Type 0} where
       views = λ j u e. ⊎_elim
           (λ (x : (j ≡ other) × (spent ≡ u)). subst (Shows handed after j) x.1 (subst (λ (i : ℕ). Shows handed after i spent) (sym x.0) gone))
           (λ (x : (j ≢ other) × (get_elem? (set s.views id (joined v w)) j ≡ some u)). ⊎_elim
-              (λ (y : (j ≡ id) × (joined v w ≡ u)). subst (Shows handed after j) y.1 (subst (λ (i : ℕ). Shows handed after i (joined v w)) (sym y.0) gains))
-              (λ (y : (j ≢ id) × (get_elem? s.views j ≡ some u)). aside j u y.0 x.0 (k.views j u y.1)) (at_set s.views id j (joined v w) u x.1))
+          (λ (y : (j ≡ id) × (joined v w ≡ u)). subst (Shows handed after j) y.1 (subst (λ (i : ℕ). Shows handed after i (joined v w)) (sym y.0) gains))
+          (λ (y : (j ≢ id) × (get_elem? s.views j ≡ some u)). aside j u y.0 x.0 (k.views j u y.1)) (at_set s.views id j (joined v w) u x.1))
           (at_set (set s.views id (joined v w)) other j spent u e);
     }
 
@@ -281,21 +288,24 @@ module _ {P : Type 0} where
 
   pub looks : (handed : List P) (slots id : ℕ) (me : Me (Option P) (View P)) → Allows (Follows handed) slots id me 0 (λ n. n) (Looks (step slots 0 0 0 none) me)
   looks handed slots id me s k long at bound = (
-      me.0,
-      keeps,
-      tt,
-      record {
-        machine = k.machine;
-        events = k.events;
-        run = k.run;
-        few = k.few;
-        words = ap (λ (ws : List ℕ). set ws 0 (get_or ws 0 0)) k.words;
-        slots = k.slots;
-        seats = length-set s.views id me.0 ∙ k.seats;
-        homes = k.homes;
-        views = λ j v e. k.views j v (ap (λ (vs : List (View P)). get_elem? vs j) (sym (set_again s.views id me.0 at)) ∙ e);
-      },
-      (refl, λ j. let shows = k.views id me.0 at in dite (dec_lt j (length k.machine.pieces))
+    me.0,
+    keeps,
+    tt,
+    record {
+      machine = k.machine;
+      events = k.events;
+      run = k.run;
+      few = k.few;
+      words = ap (λ (ws : List ℕ). set ws 0 (get_or ws 0 0)) k.words;
+      slots = k.slots;
+      seats = length-set s.views id me.0 ∙ k.seats;
+      homes = k.homes;
+      views = λ j v e. k.views j v (ap (λ (vs : List (View P)). get_elem? vs j) (sym (set_again s.views id me.0 at)) ∙ e);
+    },
+    (
+      refl,
+      λ j. let shows = k.views id me.0 at in dite (dec_lt j (length k.machine.pieces))
           (λ lt. let st = there k.machine.pieces j lt in subst (λ (l : List (Option P)). length l ≤ 1) (sym (shows.lists j st.0 st.1)) (at_most_one id st.0))
-          (λ ge. subst (λ (l : List (Option P)). length l ≤ 1) (sym (shows.no_more j (omega (arith, ge)))) (omega arith))),
-    )
+          (λ ge. subst (λ (l : List (Option P)). length l ≤ 1) (sym (shows.no_more j (omega (arith, ge)))) (omega arith)),
+    ),
+  )

@@ -15,6 +15,7 @@ module _ {P : Type 0} where
       map_snoc : (ps : List P) (p : P) → map Some (ps ++ p ∷ []) ≡ map Some ps ++ Some p ∷ []
       map_snoc [] p = refl
       map_snoc (q ∷ ps) p = ap (λ (l : List (Option P)). Some q ∷ l) (map_snoc ps p)
+
       taken : (xs : List (Option P)) (i : ℕ) (x : Option P) → get_elem? xs i ≡ some x → take (suc i) xs ≡ take i xs ++ x ∷ []
       taken [] i x e = absurd (some-ne-none x (sym e))
       taken (y ∷ xs) zero x e = ap (λ (z : Option P). z ∷ []) (some-injective y x e)

@@ -22,7 +22,11 @@ module _ {P : Type 0} where
   abbrev pub IsSameSeat : SeatFor P → SeatFor P → Type 0
   IsSameSeat old new = (new.table_id ≡ old.table_id) × (new.id ≡ old.id)
 
-  -- the numbers that the seat claimed or took over, each with the piece that was put under it
+  -- one is the first seat, with as many seats out, where the other is
+  abbrev pub IsAsFirst : SeatFor P → SeatFor P → Type 0
+  IsAsFirst old new = (new.me.0.first ≡ old.me.0.first) × (new.me.0.away ≡ old.me.0.away)
+
+  -- what the seat knows: among it the numbers that it claimed or took over, each with the piece that was put under it
   abbrev pub view_of : SeatFor P → View P
   view_of seat = seat.me.0
 
@@ -32,7 +36,8 @@ module _ {P : Type 0} where
 
   -- it claimed the number k, and has not taken the piece: its slot has what was handed in
   abbrev pub HasClaimed : SeatFor P → ℕ → Type 0
-  HasClaimed seat k = (seat.me.0.busy ≡ true) × (seat.me.0.hand ≡ k) × ((p : P) × (get_elem? seat.me.0.handed k ≡ some p) × (seat.me.1 ≡ (k, Some p) ∷ []))
+  HasClaimed seat k = (seat.me.0.busy ≡ true) × (seat.me.0.hand ≡ k)
+      × ((p : P) × (get_elem? seat.me.0.handed k ≡ some p) × (seat.me.1 ≡ (k, Some p) ∷ []))
 
   -- it took the piece of the number k, and has not put it: its slot has nothing
   abbrev pub HasTaken : SeatFor P → ℕ → Type 0
@@ -51,4 +56,5 @@ module _ {P : Type 0} where
 
   -- as many pieces as were handed in, each as it was put; the seat's list is all their numbers, each once
   abbrev pub IsWhole : List P → View P → Type 0
-  IsWhole pieces v = (length pieces ≡ length v.handed) × AllBelow (length pieces) v.entries × ((k : ℕ) (p : P) → get_elem? pieces k ≡ some p → under k v.entries ≡ Some p ∷ [])
+  IsWhole pieces v = (length pieces ≡ length v.handed) × AllBelow (length pieces) v.entries
+      × ((k : ℕ) (p : P) → get_elem? pieces k ≡ some p → under k v.entries ≡ Some p ∷ [])

@@ -1,5 +1,6 @@
 -- The claim machine, over plain data: workers claim pieces by number, take what they claimed, and put it back done.
-use Rattle.std.specs.Prelude.{◌≡◌, ◌≢◌, ℕ, zero, suc, ◌<◌, ◌≤◌, ◌==◌, Bool, true, false, List, [], ◌∷◌, ◌++◌, map, length, replicate, slice_set, if◌then◌else◌}
+use Rattle.std.specs.Prelude.{◌≡◌, ◌≢◌, ℕ, suc, ◌<◌, ◌≤◌, ◌==◌, if◌then◌else◌, Bool, true, false}
+use Rattle.std.specs.Prelude.{List, [], ◌∷◌, ◌++◌, map, length, replicate, slice_set}
 use mathlib.Core.Option.{some}
 use lib.ListN.{get_elem?}
 use Rattle.mq_claims.specs.declared.limits.TheConstants.{MAX_SEATS}
@@ -60,11 +61,14 @@ module _ {P : Type 0} where
       × ((k : ℕ) (st : Status P) → get_elem? m.pieces k ≡ some st → ¬ (IsInHand w st))
       × (m.next < length m.pieces → m' ≡ machine (suc m.next) (slice_set m.pieces m.next (claimed w)) m.workers)
       × (length m.pieces ≤ m.next → m' ≡ machine (suc m.next) m.pieces (slice_set m.workers w (worker true true)))
-  Leads m (taking w) m' = (k : ℕ) × (get_elem? m.pieces k ≡ some (claimed w)) × (m' ≡ machine m.next (slice_set m.pieces k (held w)) m.workers)
-  Leads m (putting w p) m' = (k : ℕ) × (get_elem? m.pieces k ≡ some (held w)) × (m' ≡ machine m.next (slice_set m.pieces k (done w p)) m.workers)
+  Leads m (taking w) m' = (k : ℕ) × (get_elem? m.pieces k ≡ some (claimed w))
+      × (m' ≡ machine m.next (slice_set m.pieces k (held w)) m.workers)
+  Leads m (putting w p) m' = (k : ℕ) × (get_elem? m.pieces k ≡ some (held w))
+      × (m' ≡ machine m.next (slice_set m.pieces k (done w p)) m.workers)
   Leads m splitting m' = ((t : Bool) × (get_elem? m.workers 0 ≡ some (worker true t))) × (length m.workers < MAX_SEATS)
       × (m' ≡ machine m.next m.pieces (m.workers ++ worker true false ∷ []))
-  Leads m (joining v w) m' = (v ≢ w) × ((t : Bool) × (get_elem? m.workers v ≡ some (worker true t))) × (get_elem? m.workers w ≡ some (worker true true))
+  Leads m (joining v w) m' = (v ≢ w) × ((t : Bool) × (get_elem? m.workers v ≡ some (worker true t)))
+      × (get_elem? m.workers w ≡ some (worker true true))
       × (m' ≡ machine m.next (map (handed_over v w) m.pieces) (slice_set m.workers w (worker false true)))
 
   -- a run: its events, the last one first, lead from the first state to the last

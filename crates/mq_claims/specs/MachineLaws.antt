@@ -13,7 +13,8 @@ EachIsClaimedOnce P = (n : ℕ) (es : List (Event P)) (m : Machine P) → Run (s
 module _ {P : Type 0} where
   -- worker 0 lives, no other does, and it was told that nothing is left
   abbrev pub IsOver : Machine P → Type 0
-  IsOver m = (get_elem? m.workers 0 ≡ some (worker true true)) × ((w : ℕ) (x : Worker) → get_elem? m.workers w ≡ some x → x.live ≡ true → w ≡ 0)
+  IsOver m = (get_elem? m.workers 0 ≡ some (worker true true))
+      × ((w : ℕ) (x : Worker) → get_elem? m.workers w ≡ some x → x.live ≡ true → w ≡ 0)
 
   abbrev pub is_done : Status P → Bool
   is_done waiting = false
@@ -34,4 +35,5 @@ AllIsDone P = (n : ℕ) (es : List (Event P)) (m : Machine P) → Run (start n) 
 
 -- the pieces done and those in hand are as many as were claimed
 abbrev pub PiecesAreCounted : Type 0 → Type 0
-PiecesAreCounted P = (n : ℕ) (es : List (Event P)) (m : Machine P) → Run (start n) es m → count_by is_done m.pieces + count_by is_in_hand m.pieces ≡ min n m.next
+PiecesAreCounted P = (n : ℕ) (es : List (Event P)) (m : Machine P) → Run (start n) es m →
+    count_by is_done m.pieces + count_by is_in_hand m.pieces ≡ min n m.next

@@ -39,7 +39,8 @@ module _ {P : Type 0} where
     pub has_out : (k : ℕ) (st : Status P) → get_elem? m.pieces k ≡ some st → IsInHand id st → (v.busy ≡ true) × (k ≡ v.hand)
     -- No rule sees a seat's own slots, so a piece in hand stands as claimed until it is put: then the machine takes it and puts it.
     pub in_hand : v.busy ≡ true → get_elem? m.pieces v.hand ≡ some (claimed id)
-    pub as_first : v.first ≡ true → (id ≡ 0) × (v.live ≡ true) × (count_by is_live m.workers ≡ suc v.away) × (length m.workers + v.splits ≤ MAX_SEATS)
+    pub as_first : v.first ≡ true → (id ≡ 0) × (v.live ≡ true) × (count_by is_live m.workers ≡ suc v.away)
+        × (length m.workers + v.splits ≤ MAX_SEATS)
 
   pub record Follows (handed : List P) (s : State (Option P) (View P)) : Type 0 where
     pub machine : Machine P
@@ -62,7 +63,7 @@ module _ {P : Type 0} where
   abbrev pub Claims : Step (Option P) → Me (Option P) (View P) → ℕ → Me (Option P) (View P) → Type 0
   Claims st me found me' =
       (found < length me.0.handed → (me'.0 ≡ with_claim me.0 found) × AllBelow found me.0.entries
-          × ((p : P) × (get_elem? me.0.handed found ≡ some p) × (me'.1 ≡ (found, Some p) ∷ me.1)))
+      × ((p : P) × (get_elem? me.0.handed found ≡ some p) × (me'.1 ≡ (found, Some p) ∷ me.1)))
       × (length me.0.handed ≤ found → me' ≡ (told_none me.0 found, me.1))
 
   -- a put gives the slot back, and its piece stands in the list

@@ -20,17 +20,28 @@ module _ {P : Type 0} where
   abbrev pub NoTwice : List (Entry P) → Type 0
   NoTwice es = (k : ℕ) → length (under k es) ≤ 1
 
+  -- a seat that has claimed nothing yet
+  abbrev pub newcomer : List P → View P
+  newcomer handed = record {
+    handed = handed;
+    entries = [];
+    told = false;
+    found = 0;
+    busy = false;
+    hand = 0;
+    live = true;
+    first = false;
+    splits = 0;
+    away = 0;
+  }
+
   -- the first seat, which may split this many times
   abbrev pub beginner : List P → ℕ → View P
-  beginner handed splits = record { handed = handed; entries = []; told = false; found = 0; busy = false; hand = 0; live = true; first = true; splits = splits; away = 0 }
-
-  -- any other seat
-  abbrev pub newcomer : List P → View P
-  newcomer handed = record { handed = handed; entries = []; told = false; found = 0; busy = false; hand = 0; live = true; first = false; splits = 0; away = 0 }
+  beginner handed splits = record (newcomer handed) { first = true; splits = splits }
 
   -- a seat that was joined into another
   abbrev pub spent : View P
-  spent = record { handed = []; entries = []; told = true; found = 0; busy = false; hand = 0; live = false; first = false; splits = 0; away = 0 }
+  spent = record (newcomer []) { told = true; live = false }
 
   abbrev pub with_claim : View P → ℕ → View P
   with_claim v k = record v { entries = entry k None ∷ v.entries; busy = true; hand = k }

@@ -4,9 +4,10 @@ ghost use Rattle.std.specs.Prelude.{◌≡◌, ◌-◌, ◌<◌, ◌≤◌, true
 ghost use mathlib.Core.Option.{some};
 ghost use lib.ListN.{get_elem?};
 ghost use Rattle.mq_claims.specs.Views.{AllBelow, NoTwice, beginner, newcomer, with_claim, told_none, with_put, one_more_away, joined};
-ghost use Rattle.mq_claims.specs.Calls.{handed_in, IsSeatOf, IsSameSeat, view_of, MayClaim, HasClaimed, HasTaken, MaySplit, IsFinished, MayClose, IsWhole};
+ghost use Rattle.mq_claims.specs.Calls.{handed_in, view_of, IsSeatOf, IsSameSeat, IsWhole};
+ghost use Rattle.mq_claims.specs.Calls.{MayClaim, HasClaimed, HasTaken, MaySplit, IsFinished, MayClose};
 
-use crate::board::{Board, Seat};
+use crate::board::{Board, DONE, NEXT, Seat, WORDS};
 use crate::limits::{MAX_PIECES, MAX_SEATS};
 use crate::slots::{emptied, filled};
 use crate::view::{Claiming, Lending, Looking, Putting, Setting};
@@ -31,7 +32,7 @@ impl<P> Board<P> {
             handed: Snapshot::of(&pieces),
             seats,
         };
-        match Table::new(alloc, &[0, 0], filled(alloc, pieces)?, &setting) {
+        match Table::new(alloc, &[0; WORDS], filled(alloc, pieces)?, &setting) {
             Ok((table, seat)) => Ok((Board { table, count }, seat)),
             Err(_refused) => Err(Memory),
         }
@@ -47,7 +48,7 @@ impl<P> Board<P> {
         ensures none { IfNone result (length (handed_in self.now) ≤ (view_of seat.new).found) }
         ensures told { IfNone result (seat.new.me ≡ (told_none (view_of seat.old) (view_of seat.new).found, [])) }
     {
-        let found = self.table.shared.fetch_add::<Claiming>(seat, 0, 1);
+        let found = self.table.shared.fetch_add::<Claiming>(seat, NEXT, 1);
         if found < self.count as u64 {
             Some(found as u32)
         } else {
@@ -81,7 +82,7 @@ impl<P> Board<P> {
             None => {}
             Some(_) => unreachable!(),
         }
-        self.table.shared.fetch_add::<Putting>(seat, 1, 1);
+        self.table.shared.fetch_add::<Putting>(seat, DONE, 1);
     }
 
     /// A further seat of the board, whose list is empty and which may not split.
@@ -106,7 +107,7 @@ impl<P> Board<P> {
     {
         self.table.shared.join_seat::<Lending>(into, other);
         // The join itself tells nothing of the table, so the seat looks once more.
-        self.table.shared.load::<Looking>(into, 0);
+        self.table.shared.load::<Looking>(into, NEXT);
     }
 
     /// The pieces in order of their numbers, each as it was put. After Memory the pieces are gone.

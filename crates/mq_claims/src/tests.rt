@@ -1,5 +1,5 @@
-ghost use Rattle.std.specs.Prelude.{◌≡◌, true, length, IfOk, IfSome, IfNone};
-ghost use Rattle.mq_claims.specs.Calls.{IsSeatOf, MayClaim, IsFinished};
+ghost use Rattle.std.specs.Prelude.{◌≡◌, length, IfOk, IfSome, IfNone};
+ghost use Rattle.mq_claims.specs.Calls.{IsSeatOf, IsAsFirst, MayClaim, IsFinished};
 
 use crate::{Board, MAX_PIECES, Seat};
 use mq_values::Memory;
@@ -17,7 +17,11 @@ fn numbers(alloc: Global, count: usize) -> Result<Vec<usize>, Memory>
 
 // Whether there are `count` pieces, and each was put with 5,000 added to its number.
 fn each_was_put(pieces: &[usize], count: usize) -> bool {
-    pieces.len() == count && pieces.iter().enumerate().all(|(k, piece)| *piece == k.wrapping_add(5000))
+    pieces.len() == count
+        && pieces
+            .iter()
+            .enumerate()
+            .all(|(k, piece)| *piece == k.wrapping_add(5000))
 }
 
 // Claims a piece, and puts it with 5,000 added.
@@ -25,7 +29,7 @@ fn claim_and_put(board: &Board<usize>, seat: &mut Seat<usize>) -> Option<u32>
     requires own { IsSeatOf board.now seat.old }
     requires free { MayClaim seat.old }
     ensures own { IsSeatOf board.now seat.new }
-    ensures first { (seat.new.me.0.first ≡ seat.old.me.0.first) × (seat.new.me.0.away ≡ seat.old.me.0.away) }
+    ensures first { IsAsFirst seat.old seat.new }
     ensures free { IfSome result (λ _. MayClaim seat.new) }
     ensures told { IfNone result (IsFinished seat.new) }
 {
@@ -39,7 +43,7 @@ fn claim_and_put(board: &Board<usize>, seat: &mut Seat<usize>) -> Option<u32>
 fn work(board: &Board<usize>, mut seat: Seat<usize>, turns: usize) -> Option<Seat<usize>>
     requires own { IsSeatOf board.now seat }
     requires free { MayClaim seat }
-    ensures { IfSome result (λ s. IsSeatOf board.now s × IsFinished s × (s.me.0.first ≡ seat.me.0.first) × (s.me.0.away ≡ seat.me.0.away)) }
+    ensures { IfSome result (λ s. IsSeatOf board.now s × IsFinished s × IsAsFirst seat s) }
 {
     'claims: for _ in 0..turns {
         if claim_and_put(board, &mut seat).is_none() {
@@ -59,14 +63,14 @@ fn work_beside(
 ) -> Option<(Seat<usize>, Seat<usize>)>
     requires own { IsSeatOf board.now one × IsSeatOf board.now other }
     requires free { MayClaim one × MayClaim other }
-    ensures one { IfSome result (λ r. IsSeatOf board.now r.0 × IsFinished r.0 × (r.0.me.0.first ≡ one.me.0.first) × (r.0.me.0.away ≡ one.me.0.away)) }
+    ensures one { IfSome result (λ r. IsSeatOf board.now r.0 × IsFinished r.0 × IsAsFirst one r.0) }
     ensures other { IfSome result (λ r. IsSeatOf board.now r.1 × IsFinished r.1) }
 {
     let (one, other) = thread::join(
         rt,
         move ||
             requires { IsSeatOf board.now one × MayClaim one }
-            ensures { IfSome result (λ s. IsSeatOf board.entry.now s × IsFinished s × (s.me.0.first ≡ one.me.0.first) × (s.me.0.away ≡ one.me.0.away)) }
+            ensures { IfSome result (λ s. IsSeatOf board.entry.now s × IsFinished s × IsAsFirst one s) }
         { work(board, one, turns) },
         move ||
             requires { IsSeatOf board.now other × MayClaim other }
@@ -90,7 +94,10 @@ fn three_pieces_are_claimed_in_turn(rt: HostRuntime) -> Result<(), Fail> {
         panic!(rt; "two were claimed")
     };
     assert!(rt; [first, second, third] == [0, 1, 2]);
-    let (None, None) = (claim_and_put(&board, &mut two), claim_and_put(&board, &mut one)) else {
+    let (None, None) = (
+        claim_and_put(&board, &mut two),
+        claim_and_put(&board, &mut one),
+    ) else {
         panic!(rt; "all were claimed")
     };
     board.join(&mut one, two);
@@ -123,7 +130,7 @@ fn work_by_fours(
     requires free { MayClaim pairs.0.0 × MayClaim pairs.0.1 × MayClaim pairs.1.0 × MayClaim pairs.1.1 }
     ensures own { IfSome result (λ r. IsSeatOf board.now r.0.0 × IsSeatOf board.now r.0.1 × IsSeatOf board.now r.1.0 × IsSeatOf board.now r.1.1) }
     ensures told { IfSome result (λ r. IsFinished r.0.0 × IsFinished r.0.1 × IsFinished r.1.0 × IsFinished r.1.1) }
-    ensures first { IfSome result (λ r. (r.0.0.me.0.first ≡ pairs.0.0.me.0.first) × (r.0.0.me.0.away ≡ pairs.0.0.me.0.away)) }
+    ensures first { IfSome result (λ r. IsAsFirst pairs.0.0 r.0.0) }
 {
     let (pair, others) = pairs;
     let (pair, others) = thread::join(
@@ -131,7 +138,7 @@ fn work_by_fours(
         move ||
             requires { IsSeatOf board.now pair.0 × MayClaim pair.0 × IsSeatOf board.now pair.1 × MayClaim pair.1 }
             ensures own { IfSome result (λ r. IsSeatOf board.entry.now r.0 × IsFinished r.0 × IsSeatOf board.entry.now r.1 × IsFinished r.1) }
-            ensures first { IfSome result (λ r. (r.0.me.0.first ≡ pair.0.me.0.first) × (r.0.me.0.away ≡ pair.0.me.0.away)) }
+            ensures first { IfSome result (λ r. IsAsFirst pair.0 r.0) }
         { work_beside(rt, board, pair.0, pair.1, turns) },
         move ||
             requires { IsSeatOf board.now others.0 × MayClaim others.0 × IsSeatOf board.now others.1 × MayClaim others.1 }
