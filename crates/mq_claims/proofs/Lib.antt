@@ -1,0 +1,9 @@
+pub mod ClaimLemmas
+pub mod EndLemmas
+pub mod LawLemmas
+pub mod ListLemmas
+pub mod PutLemmas
+pub mod RuleLemmas
+pub mod RunLemmas
+pub mod SeatLemmas
+pub mod SlotLemmas

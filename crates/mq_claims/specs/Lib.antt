@@ -1,0 +1,5 @@
+pub mod Calls
+pub mod Machine
+pub mod MachineLaws
+pub mod Rule
+pub mod Views
