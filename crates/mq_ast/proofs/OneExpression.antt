@@ -14,6 +14,7 @@ use Rattle.mq_ast.specs.declared.terminals.Symbol.TheVariants as sign
 use Rattle.mq_ast.specs.declared.terminals.Terminal.{Terminal}
 use Rattle.mq_ast.specs.declared.terminals.Terminal.TheVariants as terminal
 use Rattle.mq_ast.specs.Tokens.{Tok, Word, Name, terminal_at, closer, minus, star}
+use Rattle.mq_ast.specs.declared.levels.TheConstants as level
 use Rattle.mq_ast.specs.Continuing.{loose, Stops, Ends}
 use Rattle.mq_ast.specs.Chains.{arm}
 use Rattle.mq_ast.specs.GrammarNames.{PathE, path_one, path_two, KindE, kind_int, kind_decimal, kind_text}
@@ -22,41 +23,41 @@ use Rattle.mq_ast.proofs.Common.{Same, same_flip, begin, cut, first, Begins}
 
 -- no token that goes on at a level below stands before the rest of a chain, a test or a list
 
-pub or_stop : {xs : List E} {from to : List Tok} → MoreOr xs from to → Stops 7 to → Stops 6 from
+pub or_stop : {xs : List E} {from to : List Tok} → MoreOr xs from to → Stops level.EXPRESSION to → Stops level.CONJUNCTION from
 or_stop or_end s = omega arith
 or_stop (or_more d ds) s = omega arith
 
-pub and_stop : {xs : List E} {from to : List Tok} → MoreAnd xs from to → Stops 6 to → Stops 5 from
+pub and_stop : {xs : List E} {from to : List Tok} → MoreAnd xs from to → Stops level.CONJUNCTION to → Stops level.TEST from
 and_stop and_end s = omega arith
 and_stop (and_more d ds) s = omega arith
 
-pub tail_stop : {a b : E} {from to : List Tok} → TestTail a b from to → Stops 5 to → Stops 4 from
+pub tail_stop : {a b : E} {from to : List Tok} → TestTail a b from to → Stops level.TEST to → Stops level.SUM from
 tail_stop tail_none s = omega arith
 tail_stop _ s = omega arith
 
-pub sum_stop : {xs : List SumTerm} {from to : List Tok} → MoreSum xs from to → Stops 4 to → Stops 3 from
+pub sum_stop : {xs : List SumTerm} {from to : List Tok} → MoreSum xs from to → Stops level.SUM to → Stops level.PRODUCT from
 sum_stop sum_end s = omega arith
 sum_stop (sum_more d ds) s = omega arith
 
-pub prod_stop : {xs : List ProdTerm} {from to : List Tok} → MoreProd xs from to → Stops 3 to → Stops 2 from
+pub prod_stop : {xs : List ProdTerm} {from to : List Tok} → MoreProd xs from to → Stops level.PRODUCT to → Stops level.PRIMARY from
 prod_stop prod_end s = omega arith
 prod_stop (prod_more d ds) s = omega arith
 
-pub exprs_stop : {xs : List E} {from to : List Tok} → MoreExprs xs from to → Ends (terminal.Sign sign.Comma) to → Stops 7 from
+pub exprs_stop : {xs : List E} {from to : List Tok} → MoreExprs xs from to → Ends (terminal.Sign sign.Comma) to → Stops level.EXPRESSION from
 exprs_stop exprs_end s = s.0
 exprs_stop (exprs_more d ds) s = omega arith
 
-pub places_stop : {ps : List Place} {from to : List Tok} → MorePlaces ps from to → Ends (terminal.Sign sign.Comma) to → Stops 7 from
+pub places_stop : {ps : List Place} {from to : List Tok} → MorePlaces ps from to → Ends (terminal.Sign sign.Comma) to → Stops level.EXPRESSION from
 places_stop places_end s = s.0
 places_stop (places_more d ds) s = omega arith
 
 pub brackets_front : {ps : List Place} {from to : List Tok} → Brackets ps from to → terminal_at from ≡ terminal.Sign sign.OpenSquare
 brackets_front (brackets d ds) = refl
 
-pub brackets_stop : {ps : List Place} {from to : List Tok} → Brackets ps from to → Stops 1 from
+pub brackets_stop : {ps : List Place} {from to : List Tok} → Brackets ps from to → Stops level.PATH from
 brackets_stop (brackets d ds) = omega arith
 
-pub whens_stop : {xs : List Arm} {from to : List Tok} → Whens xs from to → Ends (terminal.Word word.When) to → Stops 7 from
+pub whens_stop : {xs : List Arm} {from to : List Tok} → Whens xs from to → Ends (terminal.Word word.When) to → Stops level.EXPRESSION from
 whens_stop whens_end s = s.0
 whens_stop (whens_more d e ds) s = omega arith
 
@@ -123,30 +124,30 @@ expr_no_for d = let h = expr_begins d in absurd (omega arith)
 
 -- what ends at once
 
-pub or_stay : {xs : List E} {from to : List Tok} → MoreOr xs from to → Stops 7 from → to ≡ from
+pub or_stay : {xs : List E} {from to : List Tok} → MoreOr xs from to → Stops level.EXPRESSION from → to ≡ from
 or_stay or_end s = refl
 or_stay (or_more d ds) s = absurd (omega arith)
 
-pub and_stay : {xs : List E} {from to : List Tok} → MoreAnd xs from to → Stops 6 from → to ≡ from
+pub and_stay : {xs : List E} {from to : List Tok} → MoreAnd xs from to → Stops level.CONJUNCTION from → to ≡ from
 and_stay and_end s = refl
 and_stay (and_more d ds) s = absurd (omega arith)
 
-pub tail_stay : {a b : E} {from to : List Tok} → TestTail a b from to → Stops 5 from → Same a b from to
+pub tail_stay : {a b : E} {from to : List Tok} → TestTail a b from to → Stops level.TEST from → Same a b from to
 tail_stay tail_none s = (refl, refl)
 tail_stay _ s = absurd (omega arith)
 
-pub sum_stay : {xs : List SumTerm} {from to : List Tok} → MoreSum xs from to → Stops 4 from → to ≡ from
+pub sum_stay : {xs : List SumTerm} {from to : List Tok} → MoreSum xs from to → Stops level.SUM from → to ≡ from
 sum_stay sum_end s = refl
 sum_stay (sum_more d ds) s = absurd (omega arith)
 
-pub prod_stay : {xs : List ProdTerm} {from to : List Tok} → MoreProd xs from to → Stops 3 from → to ≡ from
+pub prod_stay : {xs : List ProdTerm} {from to : List Tok} → MoreProd xs from to → Stops level.PRODUCT from → to ≡ from
 prod_stay prod_end s = refl
 prod_stay (prod_more d ds) s = absurd (omega arith)
 
 -- a name with a closing bracket behind it is an expression that ends there
 
-pub stops_closed : {from to : List Tok} → to ≡ closer ∷ from → Stops 7 to
-stops_closed {from} {to} e = let P : List Tok → Type 0 = λ m. Stops 7 m in let h : Stops 7 (closer ∷ from) = omega arith in subst P (sym e) h
+pub stops_closed : {from to : List Tok} → to ≡ closer ∷ from → Stops level.EXPRESSION to
+stops_closed {from} {to} e = let P : List Tok → Type 0 = λ m. Stops level.EXPRESSION m in let h : Stops level.EXPRESSION (closer ∷ from) = omega arith in subst P (sym e) h
 
 pub prim_name_ends : {a : E} {n : List ℕ} {from to : List Tok} → PrimE a (Name n ∷ closer ∷ from) to → to ≡ closer ∷ from
 prim_name_ends (prim_path path_one) = refl
@@ -173,12 +174,12 @@ and_name_ends (and d ds) = let h = not_name_ends d in let s = stops_closed h in 
 pub name_ends : {a : E} {n : List ℕ} {from to : List Tok} → Expr a (Name n ∷ closer ∷ from) to → to ≡ closer ∷ from
 name_ends (expr d ds) = let h = and_name_ends d in let s = stops_closed h in let e = or_stay ds (omega arith) in cc
 
-pub no_square : (to : List Tok) → Stops 2 to → terminal_at to ≡ terminal.Sign sign.OpenSquare → ⊥
-no_square to s e = let P : Terminal → Type 0 = λ t. 2 < loose t in let h : 2 < loose (terminal.Sign sign.OpenSquare) = subst P e s in absurd (omega arith)
+pub no_square : (to : List Tok) → Stops level.PRIMARY to → terminal_at to ≡ terminal.Sign sign.OpenSquare → ⊥
+no_square to s e = let P : Terminal → Type 0 = λ t. level.PRIMARY < loose t in let h : level.PRIMARY < loose (terminal.Sign sign.OpenSquare) = subst P e s in absurd (omega arith)
 
 -- paths and kinds
 
-pub path_same : {p p' : Path} {from to to' : List Tok} → PathE p from to → PathE p' from to' → Stops 1 to → Stops 1 to' → Same p p' to to'
+pub path_same : {p p' : Path} {from to to' : List Tok} → PathE p from to → PathE p' from to' → Stops level.PATH to → Stops level.PATH to' → Same p p' to to'
 path_same path_one path_one s s' = (refl, refl)
 path_same path_one path_two s s' = absurd (omega arith)
 path_same path_two path_one s s' = absurd (omega arith)
@@ -189,8 +190,8 @@ kind_same kind_int kind_int = (refl, refl)
 kind_same (kind_decimal i) (kind_decimal i') = (refl, refl)
 kind_same kind_text kind_text = (refl, refl)
 
-pub stops_when : (to : List Tok) → terminal_at to ≡ terminal.Word word.When → Stops 7 to
-stops_when to e = let P : Terminal → Type 0 = λ t. 7 < loose t in let h : 7 < loose (terminal.Word word.When) = omega arith in subst P (sym e) h
+pub stops_when : (to : List Tok) → terminal_at to ≡ terminal.Word word.When → Stops level.EXPRESSION to
+stops_when to e = let P : Terminal → Type 0 = λ t. level.EXPRESSION < loose t in let h : level.EXPRESSION < loose (terminal.Word word.When) = omega arith in subst P (sym e) h
 
 pub begin_tail : {a a' b : E} {from from' to : List Tok} → a ≡ a' → from ≡ from' → TestTail a' b from' to → TestTail a b from to
 begin_tail {a} {a'} {b} {from} {from'} {to} e f t =
@@ -199,13 +200,13 @@ begin_tail {a} {a'} {b} {from} {from'} {to} e f t =
     subst P (sym e) (subst Q (sym f) t)
 
 mutual
-  pub expr_same : {a a' : E} {from to to' : List Tok} → Expr a from to → Expr a' from to' → Stops 7 to → Stops 7 to' → Same a a' to to'
+  pub expr_same : {a a' : E} {from to to' : List Tok} → Expr a from to → Expr a' from to' → Stops level.EXPRESSION to → Stops level.EXPRESSION to' → Same a a' to to'
   expr_same (expr d ds) (expr d' ds') s s' =
       let p = and_same d d' (or_stop ds s) (or_stop ds' s') in
       let q = or_same ds (begin MoreOr p.1 ds') s s' in
       (cc, q.1)
 
-  pub or_same : {xs xs' : List E} {from to to' : List Tok} → MoreOr xs from to → MoreOr xs' from to' → Stops 7 to → Stops 7 to' → Same xs xs' to to'
+  pub or_same : {xs xs' : List E} {from to to' : List Tok} → MoreOr xs from to → MoreOr xs' from to' → Stops level.EXPRESSION to → Stops level.EXPRESSION to' → Same xs xs' to to'
   or_same or_end or_end s s' = (refl, refl)
   or_same or_end (or_more d ds) s s' = absurd (omega arith)
   or_same (or_more d ds) or_end s s' = absurd (omega arith)
@@ -214,13 +215,13 @@ mutual
       let q = or_same ds (begin MoreOr p.1 ds') s s' in
       (cc, q.1)
 
-  pub and_same : {a a' : E} {from to to' : List Tok} → AndE a from to → AndE a' from to' → Stops 6 to → Stops 6 to' → Same a a' to to'
+  pub and_same : {a a' : E} {from to to' : List Tok} → AndE a from to → AndE a' from to' → Stops level.CONJUNCTION to → Stops level.CONJUNCTION to' → Same a a' to to'
   and_same (and d ds) (and d' ds') s s' =
       let p = not_same d d' (and_stop ds s) (and_stop ds' s') in
       let q = more_and_same ds (begin MoreAnd p.1 ds') s s' in
       (cc, q.1)
 
-  pub more_and_same : {xs xs' : List E} {from to to' : List Tok} → MoreAnd xs from to → MoreAnd xs' from to' → Stops 6 to → Stops 6 to' → Same xs xs' to to'
+  pub more_and_same : {xs xs' : List E} {from to to' : List Tok} → MoreAnd xs from to → MoreAnd xs' from to' → Stops level.CONJUNCTION to → Stops level.CONJUNCTION to' → Same xs xs' to to'
   more_and_same and_end and_end s s' = (refl, refl)
   more_and_same and_end (and_more d ds) s s' = absurd (omega arith)
   more_and_same (and_more d ds) and_end s s' = absurd (omega arith)
@@ -229,18 +230,18 @@ mutual
       let q = more_and_same ds (begin MoreAnd p.1 ds') s s' in
       (cc, q.1)
 
-  pub not_same : {a a' : E} {from to to' : List Tok} → NotE a from to → NotE a' from to' → Stops 5 to → Stops 5 to' → Same a a' to to'
+  pub not_same : {a a' : E} {from to to' : List Tok} → NotE a from to → NotE a' from to' → Stops level.TEST to → Stops level.TEST to' → Same a a' to to'
   not_same (not_plain d) (not_plain d') s s' = test_same d d' s s'
   not_same (not_plain d) (not_not d') s s' = absurd (test_no_not d)
   not_same (not_not d) (not_plain d') s s' = absurd (test_no_not d')
   not_same (not_not d) (not_not d') s s' = let p = test_same d d' s s' in (cc, p.1)
 
-  pub test_same : {a a' : E} {from to to' : List Tok} → TestE a from to → TestE a' from to' → Stops 5 to → Stops 5 to' → Same a a' to to'
+  pub test_same : {a a' : E} {from to to' : List Tok} → TestE a from to → TestE a' from to' → Stops level.TEST to → Stops level.TEST to' → Same a a' to to'
   test_same (test d t) (test d' t') s s' =
       let p = sum_same d d' (tail_stop t s) (tail_stop t' s') in
       tail_same t (begin_tail p.0 p.1 t') s s'
 
-  pub tail_same : {a b b' : E} {from to to' : List Tok} → TestTail a b from to → TestTail a b' from to' → Stops 5 to → Stops 5 to' → Same b b' to to'
+  pub tail_same : {a b b' : E} {from to to' : List Tok} → TestTail a b from to → TestTail a b' from to' → Stops level.TEST to → Stops level.TEST to' → Same b b' to to'
   tail_same tail_none t' s s' = tail_stay t' s
   tail_same t tail_none s s' = same_flip (tail_stay t s')
   tail_same (tail_cmp d) (tail_cmp d') s s' = let p = sum_same d d' (omega arith) (omega arith) in (cc, p.1)
@@ -278,13 +279,13 @@ mutual
       let q = more_exprs_same ds (begin MoreExprs p.1 ds') s s' in
       (cc, q.1)
 
-  pub sum_same : {a a' : E} {from to to' : List Tok} → SumE a from to → SumE a' from to' → Stops 4 to → Stops 4 to' → Same a a' to to'
+  pub sum_same : {a a' : E} {from to to' : List Tok} → SumE a from to → SumE a' from to' → Stops level.SUM to → Stops level.SUM to' → Same a a' to to'
   sum_same (sum d ds) (sum d' ds') s s' =
       let p = prod_same d d' (sum_stop ds s) (sum_stop ds' s') in
       let q = more_sum_same ds (begin MoreSum p.1 ds') s s' in
       (cc, q.1)
 
-  pub more_sum_same : {xs xs' : List SumTerm} {from to to' : List Tok} → MoreSum xs from to → MoreSum xs' from to' → Stops 4 to → Stops 4 to' → Same xs xs' to to'
+  pub more_sum_same : {xs xs' : List SumTerm} {from to to' : List Tok} → MoreSum xs from to → MoreSum xs' from to' → Stops level.SUM to → Stops level.SUM to' → Same xs xs' to to'
   more_sum_same sum_end sum_end s s' = (refl, refl)
   more_sum_same sum_end (sum_more d ds) s s' = absurd (omega arith)
   more_sum_same (sum_more d ds) sum_end s s' = absurd (omega arith)
@@ -293,13 +294,13 @@ mutual
       let q = more_sum_same ds (begin MoreSum p.1 ds') s s' in
       (cc, q.1)
 
-  pub prod_same : {a a' : E} {from to to' : List Tok} → ProdE a from to → ProdE a' from to' → Stops 3 to → Stops 3 to' → Same a a' to to'
+  pub prod_same : {a a' : E} {from to to' : List Tok} → ProdE a from to → ProdE a' from to' → Stops level.PRODUCT to → Stops level.PRODUCT to' → Same a a' to to'
   prod_same (prod d ds) (prod d' ds') s s' =
       let p = sign_same d d' (prod_stop ds s) (prod_stop ds' s') in
       let q = more_prod_same ds (begin MoreProd p.1 ds') s s' in
       (cc, q.1)
 
-  pub more_prod_same : {xs xs' : List ProdTerm} {from to to' : List Tok} → MoreProd xs from to → MoreProd xs' from to' → Stops 3 to → Stops 3 to' → Same xs xs' to to'
+  pub more_prod_same : {xs xs' : List ProdTerm} {from to to' : List Tok} → MoreProd xs from to → MoreProd xs' from to' → Stops level.PRODUCT to → Stops level.PRODUCT to' → Same xs xs' to to'
   more_prod_same prod_end prod_end s s' = (refl, refl)
   more_prod_same prod_end (prod_more d ds) s s' = absurd (omega arith)
   more_prod_same (prod_more d ds) prod_end s s' = absurd (omega arith)
@@ -308,13 +309,13 @@ mutual
       let q = more_prod_same ds (begin MoreProd p.1 ds') s s' in
       (cc, q.1)
 
-  pub sign_same : {a a' : E} {from to to' : List Tok} → SignE a from to → SignE a' from to' → Stops 2 to → Stops 2 to' → Same a a' to to'
+  pub sign_same : {a a' : E} {from to to' : List Tok} → SignE a from to → SignE a' from to' → Stops level.PRIMARY to → Stops level.PRIMARY to' → Same a a' to to'
   sign_same (sign_plain d) (sign_plain d') s s' = prim_same d d' s s'
   sign_same (sign_plain d) (sign_minus d') s s' = absurd (prim_no_minus d)
   sign_same (sign_minus d) (sign_plain d') s s' = absurd (prim_no_minus d')
   sign_same (sign_minus d) (sign_minus d') s s' = let p = prim_same d d' s s' in (cc, p.1)
 
-  pub prim_same : {a a' : E} {from to to' : List Tok} → PrimE a from to → PrimE a' from to' → Stops 2 to → Stops 2 to' → Same a a' to to'
+  pub prim_same : {a a' : E} {from to to' : List Tok} → PrimE a from to → PrimE a' from to' → Stops level.PRIMARY to → Stops level.PRIMARY to' → Same a a' to to'
   prim_same prim_num prim_num s s' = (refl, refl)
   prim_same prim_text prim_text s s' = (refl, refl)
   prim_same prim_null prim_null s s' = (refl, refl)
@@ -387,7 +388,7 @@ mutual
       let q = places_same ds (begin MorePlaces p.1 ds') s s' in
       (cc, q.1)
 
-  pub place_same : {p p' : Place} {from to to' : List Tok} → PlaceE p from to → PlaceE p' from to' → Stops 7 to → Stops 7 to' → Same p p' to to'
+  pub place_same : {p p' : Place} {from to to' : List Tok} → PlaceE p from to → PlaceE p' from to' → Stops level.EXPRESSION to → Stops level.EXPRESSION to' → Same p p' to to'
   place_same place_any place_any s s' = (refl, refl)
   place_same place_any (place_expr d') s s' = absurd (expr_no_any d')
   place_same (place_expr d) place_any s s' = absurd (expr_no_any d)

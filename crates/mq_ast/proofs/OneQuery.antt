@@ -11,6 +11,7 @@ use Rattle.mq_lexer.specs.declared.keywords.Keyword.TheVariants as word
 use Rattle.mq_ast.specs.declared.terminals.Symbol.TheVariants as sign
 use Rattle.mq_ast.specs.declared.terminals.Terminal.TheVariants as terminal
 use Rattle.mq_ast.specs.Tokens.{Tok, terminal_at, star}
+use Rattle.mq_ast.specs.declared.levels.TheConstants as level
 use Rattle.mq_ast.specs.Continuing.{Stops, Not, EndsKeys}
 use Rattle.mq_ast.specs.OneTree.{OneTree}
 use Rattle.mq_ast.specs.GrammarNames.{PathE}
@@ -23,7 +24,7 @@ use Rattle.mq_ast.proofs.OneList.{some_same, many_same, many_stop, stops_not}
 
 -- aliases and items of lists
 
-pub alias_same : {o o' : Option (List ℕ)} {from to to' : List Tok} → AliasE o from to → AliasE o' from to' → Stops 8 to → Stops 8 to' → Same o o' to to'
+pub alias_same : {o o' : Option (List ℕ)} {from to to' : List Tok} → AliasE o from to → AliasE o' from to' → Stops level.ITEM to → Stops level.ITEM to' → Same o o' to to'
 alias_same alias_none alias_none s s' = (refl, refl)
 alias_same alias_none alias_as s s' = absurd (omega arith)
 alias_same alias_none alias_name s s' = absurd (omega arith)
@@ -32,12 +33,12 @@ alias_same alias_name alias_none s s' = absurd (omega arith)
 alias_same alias_as alias_as s s' = (refl, refl)
 alias_same alias_name alias_name s s' = (refl, refl)
 
-pub alias_stop : {o : Option (List ℕ)} {from to : List Tok} → AliasE o from to → Stops 8 to → Stops 7 from
+pub alias_stop : {o : Option (List ℕ)} {from to : List Tok} → AliasE o from to → Stops level.ITEM to → Stops level.EXPRESSION from
 alias_stop alias_none s = omega arith
 alias_stop alias_as s = omega arith
 alias_stop alias_name s = omega arith
 
-pub sel_same : OneTree SelE (Stops 8)
+pub sel_same : OneTree SelE (Stops level.ITEM)
 sel_same _ _ _ _ _ (sel d o) (sel d' o') s s' =
     let p = expr_same d d' (alias_stop o s) (alias_stop o' s') in
     let q = alias_same o (begin AliasE p.1 o') s s' in
@@ -45,20 +46,20 @@ sel_same _ _ _ _ _ (sel d o) (sel d' o') s s' =
 
 -- the end of a list of items
 abbrev pub EndsSels : List Tok → Type 0
-EndsSels ts = Stops 8 ts × Not (terminal.Sign sign.Comma) ts
+EndsSels ts = Stops level.ITEM ts × Not (terminal.Sign sign.Comma) ts
 
 pub sels_same : {xs xs' : List Sel} {from to to' : List Tok} → SomeOf SelE xs from to → SomeOf SelE xs' from to' → EndsSels to → EndsSels to' → Same xs xs' to to'
-sels_same = some_same Sel SelE (Stops 8) EndsSels sel_same (λ ts s. s.0) (λ ts. omega arith) (λ a ts mid s d. s.1 refl)
+sels_same = some_same Sel SelE (Stops level.ITEM) EndsSels sel_same (λ ts s. s.0) (λ ts. omega arith) (λ a ts mid s d. s.1 refl)
 
 pub cols_same : {xs xs' : List Sel} {from to to' : List Tok} → Cols xs from to → Cols xs' from to' → Same xs xs' to to'
 cols_same (cols d) (cols d') = let p = sels_same d d' (omega arith, λ e. cc) (omega arith, λ e. cc) in (p.0, cut p.1)
 
 -- FROM
 
-pub item_same : {on on' : Option E} {i i' : FromItem} {from to to' : List Tok} → ItemE on i from to → ItemE on' i' from to' → Stops 8 to → Stops 8 to' → (on ≡ on' → i ≡ i') × (to ≡ to')
+pub item_same : {on on' : Option E} {i i' : FromItem} {from to to' : List Tok} → ItemE on i from to → ItemE on' i' from to' → Stops level.ITEM to → Stops level.ITEM to' → (on ≡ on' → i ≡ i') × (to ≡ to')
 item_same (item d) (item d') s s' = let p = alias_same d d' s s' in ((λ e. cc), p.1)
 
-pub join_same : OneTree JoinE (Stops 8)
+pub join_same : OneTree JoinE (Stops level.ITEM)
 join_same _ _ _ _ _ (join_comma d) (join_comma d') s s' =
     let p = item_same d d' s s' in
     (p.0 refl, p.1)
@@ -74,21 +75,21 @@ join_same _ _ _ _ _ (join_inner d f) (join_inner d' f') s s' =
     let q = expr_same f (begin Expr (cut p.1) f') (omega arith) (omega arith) in
     (p.0 (ap Some q.0), q.1)
 
-pub join_begins : (i : FromItem) (from to : List Tok) → JoinE i from to → Stops 8 from
+pub join_begins : (i : FromItem) (from to : List Tok) → JoinE i from to → Stops level.ITEM from
 join_begins _ _ _ (join_comma d) = omega arith
 join_begins _ _ _ _ = omega arith
 
-pub join_not_stop : (i : FromItem) (from to : List Tok) → Stops 9 from → JoinE i from to → ⊥
+pub join_not_stop : (i : FromItem) (from to : List Tok) → Stops level.SOURCES from → JoinE i from to → ⊥
 join_not_stop _ _ _ s (join_comma d) = absurd (omega arith)
 join_not_stop _ _ _ s _ = absurd (omega arith)
 
-pub joins_stop : {xs : List FromItem} {from to : List Tok} → ManyOf JoinE xs from to → Stops 9 to → Stops 8 from
-joins_stop = many_stop FromItem JoinE (Stops 8) (Stops 9) join_same (λ ts s. omega arith) join_begins join_not_stop
+pub joins_stop : {xs : List FromItem} {from to : List Tok} → ManyOf JoinE xs from to → Stops level.SOURCES to → Stops level.ITEM from
+joins_stop = many_stop FromItem JoinE (Stops level.ITEM) (Stops level.SOURCES) join_same (λ ts s. omega arith) join_begins join_not_stop
 
-pub joins_same : {xs xs' : List FromItem} {from to to' : List Tok} → ManyOf JoinE xs from to → ManyOf JoinE xs' from to' → Stops 9 to → Stops 9 to' → Same xs xs' to to'
-joins_same = many_same FromItem JoinE (Stops 8) (Stops 9) join_same (λ ts s. omega arith) join_begins join_not_stop
+pub joins_same : {xs xs' : List FromItem} {from to to' : List Tok} → ManyOf JoinE xs from to → ManyOf JoinE xs' from to' → Stops level.SOURCES to → Stops level.SOURCES to' → Same xs xs' to to'
+joins_same = many_same FromItem JoinE (Stops level.ITEM) (Stops level.SOURCES) join_same (λ ts s. omega arith) join_begins join_not_stop
 
-pub from_same : {xs xs' : List FromItem} {from to to' : List Tok} → FromE xs from to → FromE xs' from to' → Stops 9 to → Stops 9 to' → Same xs xs' to to'
+pub from_same : {xs xs' : List FromItem} {from to to' : List Tok} → FromE xs from to → FromE xs' from to' → Stops level.SOURCES to → Stops level.SOURCES to' → Same xs xs' to to'
 from_same (items d ds) (items d' ds') s s' =
     let p = item_same d d' (joins_stop ds s) (joins_stop ds' s') in
     let q = joins_same ds (begin (ManyOf JoinE) p.1 ds') s s' in
@@ -106,40 +107,40 @@ select_same select_star (select_list d') s s' = absurd (sels_no_star d')
 select_same (select_list d) select_star s s' = absurd (sels_no_star d)
 select_same (select_list d) (select_list d') s s' = let p = sels_same d d' s s' in (refl, p.0, p.1)
 
-pub where_same : {o o' : Option E} {from to to' : List Tok} → WhereE o from to → WhereE o' from to' → Stops 10 to → Stops 10 to' → Same o o' to to'
+pub where_same : {o o' : Option E} {from to to' : List Tok} → WhereE o from to → WhereE o' from to' → Stops level.FILTERED to → Stops level.FILTERED to' → Same o o' to to'
 where_same where_none where_none s s' = (refl, refl)
 where_same where_none (where_some d') s s' = absurd (omega arith)
 where_same (where_some d) where_none s s' = absurd (omega arith)
 where_same (where_some d) (where_some d') s s' = let p = expr_same d d' (omega arith) (omega arith) in (cc, p.1)
 
-pub where_stop : {o : Option E} {from to : List Tok} → WhereE o from to → Stops 10 to → Stops 9 from
+pub where_stop : {o : Option E} {from to : List Tok} → WhereE o from to → Stops level.FILTERED to → Stops level.SOURCES from
 where_stop where_none s = omega arith
 where_stop (where_some d) s = omega arith
 
 -- the end of the paths of GROUP BY
 abbrev pub EndsPaths : List Tok → Type 0
-EndsPaths ts = Stops 1 ts × Not (terminal.Sign sign.Comma) ts
+EndsPaths ts = Stops level.PATH ts × Not (terminal.Sign sign.Comma) ts
 
-pub path_one : OneTree PathE (Stops 1)
+pub path_one : OneTree PathE (Stops level.PATH)
 path_one _ _ _ _ _ d d' s s' = path_same d d' s s'
 
 pub paths_same : {xs xs' : List Path} {from to to' : List Tok} → SomeOf PathE xs from to → SomeOf PathE xs' from to' → EndsPaths to → EndsPaths to' → Same xs xs' to to'
-paths_same = some_same Path PathE (Stops 1) EndsPaths path_one (λ ts s. s.0) (λ ts. omega arith) (λ a ts mid s d. s.1 refl)
+paths_same = some_same Path PathE (Stops level.PATH) EndsPaths path_one (λ ts s. s.0) (λ ts. omega arith) (λ a ts mid s d. s.1 refl)
 
-pub ends_paths : (ts : List Tok) → Stops 11 ts → EndsPaths ts
-ends_paths ts s = (omega arith, stops_not 11 (terminal.Sign sign.Comma) ts (omega arith) s)
+pub ends_paths : (ts : List Tok) → Stops level.PLAIN ts → EndsPaths ts
+ends_paths ts s = (omega arith, stops_not level.PLAIN (terminal.Sign sign.Comma) ts (omega arith) s)
 
-pub group_same : {xs xs' : List Path} {from to to' : List Tok} → GroupE xs from to → GroupE xs' from to' → Stops 11 to → Stops 11 to' → Same xs xs' to to'
+pub group_same : {xs xs' : List Path} {from to to' : List Tok} → GroupE xs from to → GroupE xs' from to' → Stops level.PLAIN to → Stops level.PLAIN to' → Same xs xs' to to'
 group_same group_none group_none s s' = (refl, refl)
 group_same group_none (group_some d') s s' = absurd (omega arith)
 group_same (group_some d) group_none s s' = absurd (omega arith)
 group_same (group_some d) (group_some d') s s' = paths_same d d' (ends_paths _ s) (ends_paths _ s')
 
-pub group_stop : {xs : List Path} {from to : List Tok} → GroupE xs from to → Stops 11 to → Stops 10 from
+pub group_stop : {xs : List Path} {from to : List Tok} → GroupE xs from to → Stops level.PLAIN to → Stops level.FILTERED from
 group_stop group_none s = omega arith
 group_stop (group_some d) s = omega arith
 
-pub plain_same : {p p' : Plain} {from to to' : List Tok} → PlainE p from to → PlainE p' from to' → Stops 11 to → Stops 11 to' → Same p p' to to'
+pub plain_same : {p p' : Plain} {from to to' : List Tok} → PlainE p from to → PlainE p' from to' → Stops level.PLAIN to → Stops level.PLAIN to' → Same p p' to to'
 plain_same (plain d f w g) (plain d' f' w' g') s s' =
     let p = select_same d d' (omega arith, λ e. cc) (omega arith, λ e. cc) in
     let h = group_stop g s in

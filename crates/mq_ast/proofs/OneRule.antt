@@ -11,6 +11,8 @@ use Rattle.mq_lexer.specs.declared.keywords.Keyword.TheVariants as word
 use Rattle.mq_ast.specs.declared.terminals.Symbol.TheVariants as sign
 use Rattle.mq_ast.specs.declared.terminals.Terminal.TheVariants as terminal
 use Rattle.mq_ast.specs.Tokens.{Tok, Word, terminal_at, opener, closer}
+use Rattle.mq_ast.specs.declared.levels.TheConstants as level
+use Rattle.mq_ast.specs.declared.clauses.TheConstants as clause
 use Rattle.mq_ast.specs.Continuing.{Stops, Not, Ends, Past}
 use Rattle.mq_ast.specs.OneTree.{OneTree}
 use Rattle.mq_ast.specs.GrammarLists.{SomeOf, some_of}
@@ -24,19 +26,19 @@ use Rattle.mq_ast.proofs.OneQuery.{plain_same, plain_front, order_same}
 
 -- modes
 
-pub mode_same : {m m' : Mode} {from to to' : List Tok} → ModeE m from to → ModeE m' from to' → Past 6 to → Past 6 to' → Same m m' to to'
+pub mode_same : {m m' : Mode} {from to to' : List Tok} → ModeE m from to → ModeE m' from to' → Past clause.MODE to → Past clause.MODE to' → Same m m' to to'
 mode_same mode_update mode_update s s' = (refl, refl)
 mode_same mode_upsert mode_upsert s s' = (refl, refl)
 mode_same mode_upsert mode_upsert_all s s' = absurd (omega arith)
 mode_same mode_upsert_all mode_upsert s s' = absurd (omega arith)
 mode_same mode_upsert_all mode_upsert_all s s' = (refl, refl)
 
-pub mode_not_past : {m : Mode} {from to : List Tok} → ModeE m from to → Past 6 from → ⊥
+pub mode_not_past : {m : Mode} {from to : List Tok} → ModeE m from to → Past clause.MODE from → ⊥
 mode_not_past mode_update s = absurd (omega arith)
 mode_not_past mode_upsert s = absurd (omega arith)
 mode_not_past mode_upsert_all s = absurd (omega arith)
 
-pub maybe_mode_same : {m m' : Option Mode} {from to to' : List Tok} → MaybeMode m from to → MaybeMode m' from to' → Past 6 to → Past 6 to' → Same m m' to to'
+pub maybe_mode_same : {m m' : Option Mode} {from to to' : List Tok} → MaybeMode m from to → MaybeMode m' from to' → Past clause.MODE to → Past clause.MODE to' → Same m m' to to'
 maybe_mode_same mode_none mode_none s s' = (refl, refl)
 maybe_mode_same mode_none (mode_some d') s s' = absurd (mode_not_past d' s)
 maybe_mode_same (mode_some d) mode_none s s' = absurd (mode_not_past d s')
@@ -53,14 +55,14 @@ tuple_one _ _ _ _ _ d d' s s' = tuple_same d d'
 pub tuples_same : {xs xs' : List (List E)} {from to to' : List Tok} → SomeOf Tuple xs from to → SomeOf Tuple xs' from to' → NoComma to → NoComma to' → Same xs xs' to to'
 tuples_same = some_same (List E) Tuple Whatever NoComma tuple_one (λ ts s. tt) (λ ts. tt) (λ a ts mid s d. s refl)
 
-pub alone_same : OneTree AloneE (Stops 7)
+pub alone_same : OneTree AloneE (Stops level.EXPRESSION)
 alone_same _ _ _ _ _ (alone d) (alone d') s s' = let p = expr_same d d' s s' in (cc, p.1)
 
 abbrev pub EndsExprs : List Tok → Type 0
 EndsExprs ts = Ends (terminal.Sign sign.Comma) ts
 
 pub alones_same : {xs xs' : List (List E)} {from to to' : List Tok} → SomeOf AloneE xs from to → SomeOf AloneE xs' from to' → EndsExprs to → EndsExprs to' → Same xs xs' to to'
-alones_same = some_same (List E) AloneE (Stops 7) EndsExprs alone_same (λ ts s. s.0) (λ ts. omega arith) (λ a ts mid s d. s.1 refl)
+alones_same = some_same (List E) AloneE (Stops level.EXPRESSION) EndsExprs alone_same (λ ts s. s.0) (λ ts. omega arith) (λ a ts mid s d. s.1 refl)
 
 pub alones_no_plain : {xs : List (List E)} {from to : List Tok} → SomeOf AloneE xs from to → terminal_at from ≡ terminal.Word word.Select → ⊥
 alones_no_plain (some_of (alone d) ds) e = expr_no_select d e
@@ -86,11 +88,11 @@ pub down_same : {b b' : Bool} {from to to' : List Tok} → DownE b from to → D
 down_same down_no down_no = (refl, refl)
 down_same down_yes down_yes = (refl, refl)
 
-pub down_stop : {b : Bool} {from to : List Tok} → DownE b from to → Stops 7 from
+pub down_stop : {b : Bool} {from to : List Tok} → DownE b from to → Stops level.EXPRESSION from
 down_stop down_no = omega arith
 down_stop down_yes = omega arith
 
-pub lit_same : OneTree LitE (Stops 7)
+pub lit_same : OneTree LitE (Stops level.EXPRESSION)
 lit_same _ _ _ _ _ lit_any lit_any s s' = (refl, refl)
 lit_same _ _ _ _ _ lit_any (lit_expr d') s s' = absurd (expr_no_any d')
 lit_same _ _ _ _ _ (lit_expr d) lit_any s s' = absurd (expr_no_any d)
@@ -108,7 +110,7 @@ lit_same _ _ _ _ _ (lit_range d f g h) (lit_range d' f' g' h') s s' =
     (cc, u.1)
 
 pub lits_same : {ps ps' : List LeftPlace} {from to to' : List Tok} → SomeOf LitE ps from to → SomeOf LitE ps' from to' → EndsExprs to → EndsExprs to' → Same ps ps' to to'
-lits_same = some_same LeftPlace LitE (Stops 7) EndsExprs lit_same (λ ts s. s.0) (λ ts. omega arith) (λ a ts mid s d. s.1 refl)
+lits_same = some_same LeftPlace LitE (Stops level.EXPRESSION) EndsExprs lit_same (λ ts s. s.0) (λ ts. omega arith) (λ a ts mid s d. s.1 refl)
 
 pub lits_no_tuple : {ps : List LeftPlace} {from to : List Tok} → SomeOf LitE ps (Word word.For ∷ opener ∷ from) to → ⊥
 lits_no_tuple (some_of (lit_expr d) ds) = expr_no_for d
@@ -124,7 +126,7 @@ left_same (left_tuples n t) (left_tuples n' t') s s' =
 
 -- rules
 
-pub rule_same : OneTree RuleE (Stops 7)
+pub rule_same : OneTree RuleE (Stops level.EXPRESSION)
 rule_same _ _ _ _ _ (rule {n = n} m l o d) (rule {n = n'} m' l' o' d') s s' =
     let p = maybe_mode_same m m' (omega arith) (omega arith) in
     let name : n ≡ n' = cc in
@@ -134,7 +136,7 @@ rule_same _ _ _ _ _ (rule {n = n} m l o d) (rule {n = n'} m' l' o' d') s s' =
     (cc, u.1)
 
 pub rules_same : {rs rs' : List RuleTree} {from to to' : List Tok} → SomeOf RuleE rs from to → SomeOf RuleE rs' from to' → EndsExprs to → EndsExprs to' → Same rs rs' to to'
-rules_same = some_same RuleTree RuleE (Stops 7) EndsExprs rule_same (λ ts s. s.0) (λ ts. omega arith) (λ a ts mid s d. s.1 refl)
+rules_same = some_same RuleTree RuleE (Stops level.EXPRESSION) EndsExprs rule_same (λ ts s. s.0) (λ ts. omega arith) (λ a ts mid s d. s.1 refl)
 
 pub mode_no_closer : {m : Mode} {from to : List Tok} → ModeE m (closer ∷ from) to → ⊥
 mode_no_closer d = elim d [ ]

@@ -3,8 +3,10 @@
 //! Which tree reads which tokens is the relation of specs/: `Expression`, `Query`, `Model`, `Rule` and `Statement`.
 #![tactic(auto)]
 
+pub mod clauses;
 mod expressions;
 mod laws;
+pub mod levels;
 mod queries;
 mod statements;
 mod terminals;
