@@ -1,11 +1,14 @@
 -- Words and steps that the proofs of one tree share.
-use Rattle.std.proofs.Common.{◌≡◌, ℕ, ◌≤◌, List, ◌∷◌, sym, subst}
+use Rattle.std.proofs.Common.{◌≡◌, ℕ, ◌≤◌, List, ◌∷◌, Option, None, Some, sym, subst}
+use Rattle.mq_lexer.specs.declared.keywords.Keyword.{Keyword}
 use Rattle.mq_lexer.specs.declared.keywords.Keyword.TheVariants as word
+use Rattle.mq_values.specs.declared.operators.Func.{Func}
 use Rattle.mq_ast.specs.declared.terminals.Symbol.TheVariants as sign
 use Rattle.mq_values.specs.declared.operators.SumOp.TheVariants as op
 use Rattle.mq_ast.specs.declared.terminals.Terminal.{Terminal}
 use Rattle.mq_ast.specs.declared.terminals.Terminal.TheVariants.{Word, Aggregate, Sign, Name, Number, Text}
 use Rattle.mq_ast.specs.Tokens.{Tok, terminal_at}
+use Rattle.mq_ast.specs.Calls.{call_of}
 
 -- equal values that end at equal places
 abbrev pub Same : {A : Type 0} → A → A → List Tok → List Tok → Type 0
@@ -18,32 +21,48 @@ same_flip p = (sym p.0, sym p.1)
 abbrev pub begin : {A : Type 0} (R : A → List Tok → List Tok → Type 0) {x : A} {from from' to : List Tok} → from ≡ from' → R x from' to → R x from to
 begin R {x} {from} {from'} {to} e d = let P : List Tok → Type 0 = λ m. R x m to in subst P (sym e) d
 
+pub none_some : {A : Type 0} {a : A} → None ≡ Some a → ⊥
+none_some e = cc
+
 pub cut : {k k' : Tok} {xs ys : List Tok} → k ∷ xs ≡ k' ∷ ys → xs ≡ ys
 cut e = cc
 
--- what a token can begin: 1 a primary expression, 2 a signed one, 3 an expression, 4 none of these
+-- what a token can begin: a primary expression, one with a sign, an expression, or none of these
+abbrev pub PRIMARY : ℕ
+PRIMARY = 1
+
+abbrev pub SIGNED : ℕ
+SIGNED = 2
+
+abbrev pub WHOLE : ℕ
+WHOLE = 3
+
+abbrev pub NOTHING : ℕ
+NOTHING = 4
+
+abbrev pub first_word : Option (Func × ℕ) → Keyword → ℕ
+first_word (Some _) _ = PRIMARY
+first_word None word.Null = PRIMARY
+first_word None word.Case = PRIMARY
+first_word None word.Cast = PRIMARY
+first_word None word.Round = PRIMARY
+first_word None word.Cv = PRIMARY
+first_word None word.IterationNumber = PRIMARY
+first_word None word.Previous = PRIMARY
+first_word None word.Presentv = PRIMARY
+first_word None word.Presentnnv = PRIMARY
+first_word None word.Not = WHOLE
+first_word None _ = NOTHING
+
 abbrev pub first : Terminal → ℕ
-first Name = 1
-first Number = 1
-first Text = 1
-first (Sign sign.Open) = 1
-first (Word word.Null) = 1
-first (Aggregate _) = 1
-first (Word word.Case) = 1
-first (Word word.Cast) = 1
-first (Word word.Abs) = 1
-first (Word word.Floor) = 1
-first (Word word.Length) = 1
-first (Word word.Round) = 1
-first (Word word.Nvl) = 1
-first (Word word.Cv) = 1
-first (Word word.IterationNumber) = 1
-first (Word word.Previous) = 1
-first (Word word.Presentv) = 1
-first (Word word.Presentnnv) = 1
-first (Sign (sign.Sum op.Sub)) = 2
-first (Word word.Not) = 3
-first _ = 4
+first Name = PRIMARY
+first Number = PRIMARY
+first Text = PRIMARY
+first (Sign sign.Open) = PRIMARY
+first (Word k) = first_word (call_of k) k
+first (Aggregate _) = PRIMARY
+first (Sign (sign.Sum op.Sub)) = SIGNED
+first _ = NOTHING
 
 abbrev pub Begins : ℕ → List Tok → Type 0
 Begins n ts = first (terminal_at ts) ≤ n

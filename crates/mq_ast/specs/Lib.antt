@@ -2,11 +2,13 @@ pub mod Tokens
 pub mod Spelling
 pub mod Continuing
 pub mod Chains
+pub mod Calls
 pub mod OneTree
 pub mod GrammarNames
 pub mod GrammarLists
 pub mod GrammarExpression
 pub mod GrammarQuery
 pub mod GrammarRule
+pub mod GrammarHead
 pub mod GrammarModel
 pub mod GrammarStatement

@@ -7,6 +7,7 @@ pub mod clauses;
 mod expressions;
 mod laws;
 pub mod levels;
+pub mod parts;
 mod queries;
 mod statements;
 mod terminals;
