@@ -29,7 +29,7 @@ pub data RoundInt : Number → List Tok → List Tok → Type 0 where
 pub data IterateE : Option Number × Option E → List Tok → List Tok → Type 0 where
   iterate_none : {to : List Tok} → IterateE (None, None) to to
   iterate_some : {n : Number} {u : Option E} {from mid to : List Tok} →
-    RoundInt n from mid → UntilE u mid to → IterateE (Some n, u) (Word word.Iterate ∷ from) to
+      RoundInt n from mid → UntilE u mid to → IterateE (Some n, u) (Word word.Iterate ∷ from) to
 
 abbrev pub head_of : Option Mode → Bool → Option Number × Option E → Head
 head_of m b p = record { mode = m; auto = b; iterate = p.0; until = p.1 }
@@ -38,4 +38,4 @@ head_of m b p = record { mode = m; auto = b; iterate = p.0; until = p.1 }
 pub data HeadE : Head → List Tok → List Tok → Type 0 where
   head_none : {to : List Tok} → HeadE (head_of None false (None, None)) to to
   head_some : {m : Option Mode} {b : Bool} {p : Option Number × Option E} {from mid next to : List Tok} →
-    MaybeMode m from mid → AutoE b mid next → IterateE p next to → HeadE (head_of m b p) (Word word.Rules ∷ from) to
+      MaybeMode m from mid → AutoE b mid next → IterateE p next to → HeadE (head_of m b p) (Word word.Rules ∷ from) to

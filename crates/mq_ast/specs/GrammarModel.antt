@@ -39,12 +39,12 @@ pub data ReturnE : Bool → List Tok → List Tok → Type 0 where
 -- name ON '(' plain ')'
 pub data RefSourceE : List ℕ × Plain → List Tok → List Tok → Type 0 where
   ref_source : {n : List ℕ} {p : Plain} {from to : List Tok} →
-    PlainE p from (closer ∷ to) → RefSourceE (n, p) (Name n ∷ Word word.On ∷ opener ∷ from) to
+      PlainE p from (closer ∷ to) → RefSourceE (n, p) (Name n ∷ Word word.On ∷ opener ∷ from) to
 
 -- DIMENSION BY cols MEASURES
 pub data DimsE : List Sel → List Tok → List Tok → Type 0 where
   dims : {ds : List Sel} {from to : List Tok} →
-    Cols ds from (Word word.Measures ∷ to) → DimsE ds (Word word.Dimension ∷ Word word.By ∷ from) to
+      Cols ds from (Word word.Measures ∷ to) → DimsE ds (Word word.Dimension ∷ Word word.By ∷ from) to
 
 -- DIMENSION BY cols MEASURES cols
 pub data AxesE : List Sel × List Sel → List Tok → List Tok → Type 0 where
@@ -56,13 +56,13 @@ ref_of s x os = record { name = s.0; query = s.1; dims = x.0; measures = x.1; op
 -- ref := REFERENCE name ON '(' plain ')' DIMENSION BY cols MEASURES cols {opt}
 pub data RefE : RefTree → List Tok → List Tok → Type 0 where
   reference : {s : List ℕ × Plain} {x : List Sel × List Sel} {os : List Opt} {from mid next to : List Tok} →
-    RefSourceE s from mid → AxesE x mid next → ManyOf OptE os next to → RefE (ref_of s x os) (Word word.Reference ∷ from) to
+      RefSourceE s from mid → AxesE x mid next → ManyOf OptE os next to → RefE (ref_of s x os) (Word word.Reference ∷ from) to
 
 -- {opt} [RETURN (ALL | UPDATED) ROWS] {ref}
 pub data FrontE : Front → List Tok → List Tok → Type 0 where
   front : {os : List Opt} {b : Bool} {rs : List RefTree} {from mid next to : List Tok} →
-    ManyOf OptE os from mid → ReturnE b mid next → ManyOf RefE rs next to →
-    FrontE (record { opts = os; updated = b; refs = rs }) from to
+      ManyOf OptE os from mid → ReturnE b mid next → ManyOf RefE rs next to →
+      FrontE (record { opts = os; updated = b; refs = rs }) from to
 
 -- [MAIN name]
 pub data MainE : Option (List ℕ) → List Tok → List Tok → Type 0 where
@@ -77,12 +77,12 @@ pub data PartsE : List Sel → List Tok → List Tok → Type 0 where
 -- [MAIN name] [PARTITION BY cols] DIMENSION BY cols MEASURES cols
 pub data BodyE : Body → List Tok → List Tok → Type 0 where
   body : {o : Option (List ℕ)} {ps : List Sel} {x : List Sel × List Sel} {from mid next to : List Tok} →
-    MainE o from mid → PartsE ps mid next → AxesE x next to → BodyE (record { main = o; parts = ps; axes = x }) from to
+      MainE o from mid → PartsE ps mid next → AxesE x next to → BodyE (record { main = o; parts = ps; axes = x }) from to
 
 -- {opt} rules, where rules := the head of `rules`, and '(' [rule {',' rule}] ')'
 pub data TailE : Tail → List Tok → List Tok → Type 0 where
   tail : {os : List Opt} {h : Head} {rs : List RuleTree} {from mid next to : List Tok} →
-    ManyOf OptE os from mid → HeadE h mid next → RuleList rs next to → TailE (record { opts = os; head = h; rules = rs }) from to
+      ManyOf OptE os from mid → HeadE h mid next → RuleList rs next to → TailE (record { opts = os; head = h; rules = rs }) from to
 
 abbrev pub model_of : Front → Body → Tail → ModelTree
 model_of f b e = record {
@@ -105,7 +105,7 @@ model_of f b e = record {
 --          [PARTITION BY cols] DIMENSION BY cols MEASURES cols {opt} rules
 pub data ModelE : ModelTree → List Tok → List Tok → Type 0 where
   model : {f : Front} {b : Body} {e : Tail} {from mid next to : List Tok} →
-    FrontE f from mid → BodyE b mid next → TailE e next to → ModelE (model_of f b e) (Word word.Model ∷ from) to
+      FrontE f from mid → BodyE b mid next → TailE e next to → ModelE (model_of f b e) (Word word.Model ∷ from) to
 
 -- [model]
 pub data MaybeModel : Option ModelTree → List Tok → List Tok → Type 0 where
@@ -115,7 +115,7 @@ pub data MaybeModel : Option ModelTree → List Tok → List Tok → Type 0 wher
 -- [model] [ORDER BY key {',' key}]
 pub data EndE : Option ModelTree × List OrderKey → List Tok → List Tok → Type 0 where
   ending : {m : Option ModelTree} {ks : List OrderKey} {from mid to : List Tok} →
-    MaybeModel m from mid → OrderE ks mid to → EndE (m, ks) from to
+      MaybeModel m from mid → OrderE ks mid to → EndE (m, ks) from to
 
 abbrev pub query_of : Plain → Option ModelTree × List OrderKey → Query
 query_of p x = record { plain = p; model = x.0; order = x.1 }
@@ -123,4 +123,4 @@ query_of p x = record { plain = p; model = x.0; order = x.1 }
 -- query := plain [model] [ORDER BY key {',' key}]
 pub data QueryE : Query → List Tok → List Tok → Type 0 where
   query : {p : Plain} {x : Option ModelTree × List OrderKey} {from mid to : List Tok} →
-    PlainE p from mid → EndE x mid to → QueryE (query_of p x) from to
+      PlainE p from mid → EndE x mid to → QueryE (query_of p x) from to

@@ -40,7 +40,7 @@ pub data Cols : List Sel → List Tok → List Tok → Type 0 where
 -- item := name [[AS] name], with the condition that stands behind it
 pub data ItemE : Option E → FromItem → List Tok → List Tok → Type 0 where
   item : {on : Option E} {n : List ℕ} {o : Option (List ℕ)} {from to : List Tok} →
-    AliasE o from to → ItemE on (item_of n o on) (Name n ∷ from) to
+      AliasE o from to → ItemE on (item_of n o on) (Name n ∷ from) to
 
 -- ',' | CROSS JOIN
 pub data BareFront : List Tok → List Tok → Type 0 where
@@ -68,7 +68,7 @@ pub data JoinE : FromItem → List Tok → List Tok → Type 0 where
 -- from := item {',' item | [INNER] JOIN item ON e | CROSS JOIN item}
 pub data FromE : List FromItem → List Tok → List Tok → Type 0 where
   items : {i : FromItem} {xs : List FromItem} {from mid to : List Tok} →
-    ItemE None i from mid → ManyOf JoinE xs mid to → FromE (i ∷ xs) from to
+      ItemE None i from mid → ManyOf JoinE xs mid to → FromE (i ∷ xs) from to
 
 abbrev pub shown_of : Bool → List Sel → Shown
 shown_of star sels = record { star = star; sels = sels }
@@ -94,7 +94,7 @@ source_of froms filter group = record { froms = froms; filter = filter; group = 
 -- from [WHERE e] [GROUP BY path {',' path}]
 pub data SourceE : Source → List Tok → List Tok → Type 0 where
   source : {fs : List FromItem} {o : Option E} {gs : List Path} {from mid last to : List Tok} →
-    FromE fs from mid → WhereE o mid last → GroupE gs last to → SourceE (source_of fs o gs) from to
+      FromE fs from mid → WhereE o mid last → GroupE gs last to → SourceE (source_of fs o gs) from to
 
 abbrev pub plain_of : Shown → Source → Plain
 plain_of x y = record { star = x.star; sels = x.sels; froms = y.froms; filter = y.filter; group = y.group }
@@ -102,7 +102,7 @@ plain_of x y = record { star = x.star; sels = x.sels; froms = y.froms; filter = 
 -- plain := SELECT ('*' | sel {',' sel}) FROM from [WHERE e] [GROUP BY path {',' path}]
 pub data PlainE : Plain → List Tok → List Tok → Type 0 where
   plain : {x : Shown} {y : Source} {from mid to : List Tok} →
-    ShownE x from mid → SourceE y mid to → PlainE (plain_of x y) (Word word.Select ∷ from) to
+      ShownE x from mid → SourceE y mid to → PlainE (plain_of x y) (Word word.Select ∷ from) to
 
 -- [ASC | DESC]
 pub data DirectionE : Bool → List Tok → List Tok → Type 0 where

@@ -58,7 +58,7 @@ range_of a b c = record { start = a; finish = b.0; down = b.1; step = c }
 -- FROM e TO e (INCREMENT | DECREMENT) e
 pub data RangeE : Range → List Tok → List Tok → Type 0 where
   range : {a c : E} {b : E × Bool} {from mid next to : List Tok} →
-    StartE a from mid → FinishE b mid next → Expr c next to → RangeE (range_of a b c) from to
+      StartE a from mid → FinishE b mid next → Expr c next to → RangeE (range_of a b c) from to
 
 abbrev pub place_of : List ℕ → Range → LeftPlace
 place_of n r = left_place.ForRange n r.start r.finish r.step r.down
@@ -70,7 +70,7 @@ pub data LitE : LeftPlace → List Tok → List Tok → Type 0 where
   lit_any : {to : List Tok} → LitE left_place.Any (Word word.Any ∷ to) to
   lit_expr : {a : E} {from to : List Tok} → Expr a from to → LitE (left_place.Expr a) from to
   lit_in : {n : List ℕ} {l : ForList} {from to : List Tok} →
-    ForListE AloneE l from to → LitE (left_place.ForIn n l) (Word word.For ∷ Name n ∷ Word word.In ∷ from) to
+      ForListE AloneE l from to → LitE (left_place.ForIn n l) (Word word.For ∷ Name n ∷ Word word.In ∷ from) to
   lit_range : {n : List ℕ} {r : Range} {from to : List Tok} → RangeE r from to → LitE (place_of n r) (Word word.For ∷ Name n ∷ from) to
 
 -- left := lit {',' lit}
@@ -78,8 +78,8 @@ pub data LitE : LeftPlace → List Tok → List Tok → Type 0 where
 pub data LeftE : LeftTree → List Tok → List Tok → Type 0 where
   left_places : {ps : List LeftPlace} {from to : List Tok} → SomeOf LitE ps from to → LeftE (left_tree.Places ps) from to
   left_tuples : {ns : List (List ℕ)} {l : ForList} {from mid to : List Tok} →
-    SomeOf NameE ns from (closer ∷ Word word.In ∷ mid) → ForListE Tuple l mid to →
-    LeftE (left_tree.Tuples ns l) (Word word.For ∷ opener ∷ from) to
+      SomeOf NameE ns from (closer ∷ Word word.In ∷ mid) → ForListE Tuple l mid to →
+      LeftE (left_tree.Tuples ns l) (Word word.For ∷ opener ∷ from) to
 
 -- [mode] name '['
 pub data RuleFront : Option Mode × List ℕ → List Tok → List Tok → Type 0 where
@@ -88,7 +88,7 @@ pub data RuleFront : Option Mode × List ℕ → List Tok → List Tok → Type 
 -- [ORDER BY key {',' key}] '=' e
 pub data RuleRight : List OrderKey × E → List Tok → List Tok → Type 0 where
   rule_right : {ks : List OrderKey} {a : E} {from mid to : List Tok} →
-    OrderE ks from (equal ∷ mid) → Expr a mid to → RuleRight (ks, a) from to
+      OrderE ks from (equal ∷ mid) → Expr a mid to → RuleRight (ks, a) from to
 
 abbrev pub rule_of : Option Mode × List ℕ → LeftTree → List OrderKey × E → RuleTree
 rule_of f l r = record { mode = f.0; measure = f.1; left = l; order = r.0; right = r.1 }
@@ -96,7 +96,7 @@ rule_of f l r = record { mode = f.0; measure = f.1; left = l; order = r.0; right
 -- rule := [mode] name '[' left ']' [ORDER BY key {',' key}] '=' e
 pub data RuleE : RuleTree → List Tok → List Tok → Type 0 where
   rule : {f : Option Mode × List ℕ} {l : LeftTree} {r : List OrderKey × E} {from mid next to : List Tok} →
-    RuleFront f from mid → LeftE l mid (close_square ∷ next) → RuleRight r next to → RuleE (rule_of f l r) from to
+      RuleFront f from mid → LeftE l mid (close_square ∷ next) → RuleRight r next to → RuleE (rule_of f l r) from to
 
 -- '(' [rule {',' rule}] ')'
 pub data RuleList : List RuleTree → List Tok → List Tok → Type 0 where

@@ -1,6 +1,6 @@
 -- Two queries without MODEL that read the same tokens are equal.
 use Rattle.std.proofs.Common.{◌≡◌, ℕ, List, ◌∷◌, refl, ap, arith}
-use Rattle.std.specs.Prelude.{Option, None, Some, Bool}
+use Rattle.std.specs.Prelude.{Option, None, Some}
 use Rattle.mq_ast.specs.declared.expressions.Path.{Path}
 use Rattle.mq_ast.specs.declared.expressions.E.{E}
 use Rattle.mq_ast.specs.declared.queries.Sel.{Sel}
@@ -22,9 +22,9 @@ use Rattle.mq_ast.specs.GrammarQuery.{AliasE, alias_none, alias_as, alias_name, 
 use Rattle.mq_ast.specs.GrammarQuery.{front_comma, front_cross, front_join, front_inner, condition, OnE, on_item, JoinE, join_bare, join_on, FromE, items}
 use Rattle.mq_ast.specs.GrammarQuery.{ShownE, shown_star, shown_list, WhereE, where_none, where_some, GroupE, group_none, group_some, SourceE, source, PlainE, plain}
 use Rattle.mq_ast.specs.GrammarQuery.{DirectionE, direction_none, direction_asc, direction_desc, KeyE, key, OrderE, order_none, order_some}
-use Rattle.mq_ast.proofs.Common.{Same, begin, cut}
-use Rattle.mq_ast.proofs.OneExpression.{expr_same, expr_no_star, path_same}
-use Rattle.mq_ast.proofs.OneList.{some_same, many_same, many_stop, stops_not}
+use Rattle.mq_ast.specs.Laws.CommonLemmas.{Same, begin, cut}
+use Rattle.mq_ast.specs.Laws.OneExpressionLemmas.{expr_same, expr_no_star, path_same}
+use Rattle.mq_ast.specs.Laws.OneListLemmas.{some_same, many_same, many_stop, stops_not}
 
 -- aliases and items of lists
 

@@ -18,14 +18,13 @@ use Rattle.mq_ast.specs.Continuing.{Stops, Not, Ends, Past}
 use Rattle.mq_ast.specs.OneTree.{OneTree}
 use Rattle.mq_ast.specs.GrammarLists.{SomeOf, some_of}
 use Rattle.mq_ast.specs.GrammarExpression.{Expr, Tuple, tuple}
-use Rattle.mq_ast.specs.GrammarQuery.{OrderE}
 use Rattle.mq_ast.specs.GrammarRule.{AloneE, alone, ModeE, mode_update, mode_upsert, mode_upsert_all, MaybeMode, mode_none, mode_some, ForListE, for_values, for_rows}
 use Rattle.mq_ast.specs.GrammarRule.{DownE, down_no, down_yes, StartE, start, FinishE, finish, RangeE, range, LitE, lit_any, lit_expr, lit_in, lit_range, LeftE, left_places, left_tuples}
 use Rattle.mq_ast.specs.GrammarRule.{RuleFront, rule_front, RuleRight, rule_right, RuleE, rule, RuleList, rules_none, rules_some}
-use Rattle.mq_ast.proofs.Common.{Same, begin, cut}
-use Rattle.mq_ast.proofs.OneExpression.{expr_same, tuple_same, expr_no_any, expr_no_for, expr_no_select}
-use Rattle.mq_ast.proofs.OneList.{some_same, names_same, Whatever}
-use Rattle.mq_ast.proofs.OneQuery.{plain_same, plain_front, order_same}
+use Rattle.mq_ast.specs.Laws.CommonLemmas.{Same, begin, cut}
+use Rattle.mq_ast.specs.Laws.OneExpressionLemmas.{expr_same, tuple_same, expr_no_any, expr_no_for, expr_no_select}
+use Rattle.mq_ast.specs.Laws.OneListLemmas.{some_same, names_same, Whatever}
+use Rattle.mq_ast.specs.Laws.OneQueryLemmas.{plain_same, plain_front, order_same}
 
 -- modes
 
@@ -152,23 +151,23 @@ left_same (left_tuples n t) (left_tuples n' t') s s' =
 
 -- rules
 
-pub front_same : {a a' : Option Mode × List ℕ} {from to to' : List Tok} → RuleFront a from to → RuleFront a' from to' → Same a a' to to'
-front_same (rule_front {n = n} m) (rule_front {n = n'} m') =
+pub rule_front_same : {a a' : Option Mode × List ℕ} {from to to' : List Tok} → RuleFront a from to → RuleFront a' from to' → Same a a' to to'
+rule_front_same (rule_front {n = n} m) (rule_front {n = n'} m') =
     let p = maybe_mode_same m m' (omega arith) (omega arith) in
     let e : n ≡ n' = cc in
     (cc, cut (cut p.1))
 
-pub right_same : OneTree RuleRight (Stops level.EXPRESSION)
-right_same _ _ _ _ _ (rule_right o d) (rule_right o' d') s s' =
+pub rule_right_same : OneTree RuleRight (Stops level.EXPRESSION)
+rule_right_same _ _ _ _ _ (rule_right o d) (rule_right o' d') s s' =
     let r = order_same o o' (λ e. cc) (λ e. cc) (λ e. cc, λ e. cc, λ e. cc) (λ e. cc, λ e. cc, λ e. cc) in
     let u = expr_same d (begin Expr (cut r.1) d') s s' in
     (cc, u.1)
 
 pub rule_same : OneTree RuleE (Stops level.EXPRESSION)
 rule_same _ _ _ _ _ (rule f l r) (rule f' l' r') s s' =
-    let p = front_same f f' in
+    let p = rule_front_same f f' in
     let q = left_same l (begin LeftE p.1 l') (omega arith, λ e. cc) (omega arith, λ e. cc) in
-    let u = right_same _ _ _ _ _ r (begin RuleRight (cut q.1) r') s s' in
+    let u = rule_right_same _ _ _ _ _ r (begin RuleRight (cut q.1) r') s s' in
     (cc, u.1)
 
 pub rules_same : {rs rs' : List RuleTree} {from to to' : List Tok} → SomeOf RuleE rs from to → SomeOf RuleE rs' from to' → EndsExprs to → EndsExprs to' → Same rs rs' to to'

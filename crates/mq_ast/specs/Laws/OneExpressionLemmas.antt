@@ -20,7 +20,7 @@ use Rattle.mq_ast.specs.Continuing.{loose, Stops, Ends}
 use Rattle.mq_ast.specs.Chains.{arm}
 use Rattle.mq_ast.specs.GrammarNames.{PathE, path_one, path_two, KindE, kind_int, kind_decimal, kind_text}
 use Rattle.mq_ast.specs.GrammarExpression.{Expr, MoreOr, AndE, MoreAnd, NotE, TestE, TestTail, Tuple, Exprs, MoreExprs, SumE, MoreSum, ProdE, MoreProd, SignE, PrimE, Brackets, MorePlaces, PlaceE, CaseE, Whens, ElseE, expr, or_end, or_more, and, and_end, and_more, not_plain, not_not, test, tail_none, tail_cmp, tail_between, tail_not_between, tail_in, tail_not_in, tail_null, tail_not_null, tail_present, tail_not_present, tail_any, tuple, exprs, exprs_end, exprs_more, sum, sum_end, sum_more, prod, prod_end, prod_more, sign_plain, sign_minus, prim_num, prim_text, prim_null, prim_path, prim_cell, prim_round, prim_agg, prim_count, prim_range, prim_case, prim_cast, prim_to, prim_call, prim_cv, prim_cv_name, prim_turn, prim_previous, prim_presentv, prim_presentnnv, brackets, places_end, places_more, place_any, place_expr, case_none, case_some, whens_end, whens_more, else_none, else_some}
-use Rattle.mq_ast.proofs.Common.{Same, same_flip, begin, cut, none_some, PRIMARY, SIGNED, WHOLE, first, first_word, Begins}
+use Rattle.mq_ast.specs.Laws.CommonLemmas.{Same, same_flip, begin, cut, none_some, PRIMARY, SIGNED, WHOLE, first, first_word, Begins}
 
 -- no token that goes on at a level below stands before the rest of a chain, a test or a list
 

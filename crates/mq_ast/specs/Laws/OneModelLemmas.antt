@@ -1,5 +1,5 @@
 -- Two MODEL clauses, and two queries, that read the same tokens are equal.
-use Rattle.std.proofs.Common.{◌≡◌, ℕ, ◌<◌, List, refl, sym, subst, arith}
+use Rattle.std.proofs.Common.{ℕ, ◌<◌, List, refl, sym, subst, arith}
 use Rattle.std.specs.Prelude.{Option, Bool}
 use Rattle.mq_values.specs.Number.{Number}
 use Rattle.mq_ast.specs.declared.expressions.E.{E}
@@ -18,7 +18,7 @@ use Rattle.mq_lexer.specs.declared.keywords.Keyword.TheVariants as word
 use Rattle.mq_ast.specs.declared.terminals.Symbol.TheVariants as sign
 use Rattle.mq_ast.specs.declared.terminals.Terminal.{Terminal}
 use Rattle.mq_ast.specs.declared.terminals.Terminal.TheVariants as terminal
-use Rattle.mq_ast.specs.Tokens.{Tok, terminal_at}
+use Rattle.mq_ast.specs.Tokens.{Tok}
 use Rattle.mq_ast.specs.declared.levels.TheConstants as level
 use Rattle.mq_ast.specs.declared.clauses.TheConstants as clause
 use Rattle.mq_ast.specs.Continuing.{part, Stops, Not, EndsKeys, Opens, Past}
@@ -29,11 +29,11 @@ use Rattle.mq_ast.specs.GrammarRule.{RuleList, rules_none, rules_some}
 use Rattle.mq_ast.specs.GrammarHead.{AutoE, auto_none, auto_yes, auto_no, UntilE, until_none, until_some, RoundInt, round_int, IterateE, iterate_none, iterate_some, HeadE, head_none, head_some}
 use Rattle.mq_ast.specs.GrammarModel.{OptE, opt_ignore, opt_keep, opt_unique, WhichE, which_all, which_updated, ReturnE, return_none, return_rows, RefSourceE, ref_source, DimsE, dims, AxesE, axes, RefE, reference}
 use Rattle.mq_ast.specs.GrammarModel.{FrontE, front, MainE, main_none, main_some, PartsE, parts_none, parts_some, BodyE, body, TailE, tail, ModelE, model, MaybeModel, model_none, model_some, EndE, ending, QueryE, query}
-use Rattle.mq_ast.proofs.Common.{Same, begin, cut}
-use Rattle.mq_ast.proofs.OneExpression.{expr_same}
-use Rattle.mq_ast.proofs.OneList.{many_same, stops_not, Whatever}
-use Rattle.mq_ast.proofs.OneQuery.{plain_same, cols_same, order_same}
-use Rattle.mq_ast.proofs.OneRule.{maybe_mode_same, rule_list_same}
+use Rattle.mq_ast.specs.Laws.CommonLemmas.{Same, begin, cut}
+use Rattle.mq_ast.specs.Laws.OneExpressionLemmas.{expr_same}
+use Rattle.mq_ast.specs.Laws.OneListLemmas.{many_same, stops_not, Whatever}
+use Rattle.mq_ast.specs.Laws.OneQueryLemmas.{plain_same, cols_same, order_same}
+use Rattle.mq_ast.specs.Laws.OneRuleLemmas.{maybe_mode_same, rule_list_same}
 
 -- options
 
@@ -101,8 +101,8 @@ pub refs_past : {rs : List RefTree} {from to : List Tok} → ManyOf RefE rs from
 refs_past many_end s = omega arith
 refs_past (many_more (reference d x o) ds) s = omega arith
 
-pub front_same : OneTree FrontE (Past clause.REFERENCE)
-front_same _ _ _ _ _ (front o b f) (front o' b' f') s s' =
+pub model_front_same : OneTree FrontE (Past clause.REFERENCE)
+model_front_same _ _ _ _ _ (front o b f) (front o' b' f') s s' =
     let k = refs_past f s in
     let k' = refs_past f' s' in
     let p = opts_same o o' (return_past b k) (return_past b' k') in
@@ -132,8 +132,8 @@ pub parts_past : {ps : List Sel} {from to : List Tok} → PartsE ps from to → 
 parts_past parts_none s = omega arith
 parts_past (parts_some d) s = omega arith
 
-pub body_same : {x x' : Body} {from to to' : List Tok} → BodyE x from to → BodyE x' from to' → Same x x' to to'
-body_same (body m p x) (body m' p' x') =
+pub model_body_same : {x x' : Body} {from to to' : List Tok} → BodyE x from to → BodyE x' from to' → Same x x' to to'
+model_body_same (body m p x) (body m' p' x') =
     let k = axes_past x in
     let k' = axes_past x' in
     let q = main_same m m' (parts_past p k) (parts_past p' k') in
@@ -141,8 +141,8 @@ body_same (body m p x) (body m' p' x') =
     let v = axes_same x (begin AxesE u.1 x') in
     (cc, v.1)
 
-pub body_past : {x : Body} {from to : List Tok} → BodyE x from to → Past clause.REFERENCE from
-body_past (body m p x) = main_past m (parts_past p (axes_past x))
+pub model_body_past : {x : Body} {from to : List Tok} → BodyE x from to → Past clause.REFERENCE from
+model_body_past (body m p x) = main_past m (parts_past p (axes_past x))
 
 -- RULES
 
@@ -207,8 +207,8 @@ pub rules_open : {rs : List RuleTree} {from to : List Tok} → RuleList rs from 
 rules_open rules_none = refl
 rules_open (rules_some d) = refl
 
-pub tail_same : {x x' : Tail} {from to to' : List Tok} → TailE x from to → TailE x' from to' → Same x x' to to'
-tail_same (tail o h l) (tail o' h' l') =
+pub model_tail_same : {x x' : Tail} {from to to' : List Tok} → TailE x from to → TailE x' from to' → Same x x' to to'
+model_tail_same (tail o h l) (tail o' h' l') =
     let p = opts_same o o' (head_past h (rules_open l)) (head_past h' (rules_open l')) in
     let q = head_same _ _ _ _ _ h (begin HeadE p.1 h') (rules_open l) (rules_open l') in
     let r = rule_list_same l (begin RuleList q.1 l') in
@@ -218,9 +218,9 @@ tail_same (tail o h l) (tail o' h' l') =
 
 pub model_same : {m m' : ModelTree} {from to to' : List Tok} → ModelE m from to → ModelE m' from to' → Same m m' to to'
 model_same (model f b e) (model f' b' e') =
-    let p = front_same _ _ _ _ _ f f' (body_past b) (body_past b') in
-    let q = body_same b (begin BodyE p.1 b') in
-    let r = tail_same e (begin TailE q.1 e') in
+    let p = model_front_same _ _ _ _ _ f f' (model_body_past b) (model_body_past b') in
+    let q = model_body_same b (begin BodyE p.1 b') in
+    let r = model_tail_same e (begin TailE q.1 e') in
     (cc, r.1)
 
 pub maybe_model_same : {m m' : Option ModelTree} {from to to' : List Tok} → MaybeModel m from to → MaybeModel m' from to' → Not (terminal.Word word.Model) to → Not (terminal.Word word.Model) to' → Same m m' to to'
