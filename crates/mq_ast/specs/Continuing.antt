@@ -49,9 +49,25 @@ Not t ts = terminal_at ts ≢ t
 abbrev pub Ends : Terminal → List Tok → Type 0
 Ends t ts = Stops level.EXPRESSION ts × Not t ts
 
+-- a member of a list ends here, and no comma follows
+abbrev pub EndsList : (List Tok → Type 0) → List Tok → Type 0
+EndsList stop ts = stop ts × Not (Sign sign.Comma) ts
+
+-- the end of a key of ORDER BY
+abbrev pub EndsKey : List Tok → Type 0
+EndsKey ts = Not (Word word.Asc) ts × Not (Word word.Desc) ts
+
 -- the end of the keys of ORDER BY
 abbrev pub EndsKeys : List Tok → Type 0
 EndsKeys ts = Not (Sign sign.Comma) ts × Not (Word word.Asc) ts × Not (Word word.Desc) ts
+
+-- neither ORDER stands here nor what goes on behind a key
+abbrev pub EndsOrder : List Tok → Type 0
+EndsOrder ts = Not (Word word.Order) ts × EndsKeys ts
+
+-- the opening bracket of the rules stands here
+abbrev pub Opens : List Tok → Type 0
+Opens ts = terminal_at ts ≡ Sign sign.Open
 
 -- the end of the columns of CREATE TABLE: a comma there is that of PRIMARY KEY
 abbrev pub EndsCols : List Tok → Type 0

@@ -1,6 +1,6 @@
 //! The grammar reads tokens in one way only: laws on functions that do nothing. Two trees of one level that read the
 //! tokens from one place, each up to a place where no token stands that goes on at that level, are equal and end at
-//! the same place (docs/MEANING.md, "Reading").
+//! the same place (docs/MEANING.md, "The grammar of the whole language").
 
 ghost use Rattle.std.specs.Prelude.{◌≡◌, List};
 ghost use Rattle.mq_ast.specs.declared.statements.Stmt.{Stmt};

@@ -1,26 +1,30 @@
 -- Two queries without MODEL that read the same tokens are equal.
 use Rattle.std.proofs.Common.{◌≡◌, ℕ, List, ◌∷◌, refl, ap, arith}
-use Rattle.std.specs.Prelude.{Option, Some, Bool}
+use Rattle.std.specs.Prelude.{Option, None, Some}
 use Rattle.mq_ast.specs.declared.expressions.Path.{Path}
 use Rattle.mq_ast.specs.declared.expressions.E.{E}
 use Rattle.mq_ast.specs.declared.queries.Sel.{Sel}
 use Rattle.mq_ast.specs.declared.queries.FromItem.{FromItem}
 use Rattle.mq_ast.specs.declared.queries.OrderKey.{OrderKey}
 use Rattle.mq_ast.specs.declared.queries.Plain.{Plain}
+use Rattle.mq_ast.specs.declared.parts.Shown.{Shown}
 use Rattle.mq_lexer.specs.declared.keywords.Keyword.TheVariants as word
 use Rattle.mq_ast.specs.declared.terminals.Symbol.TheVariants as sign
 use Rattle.mq_ast.specs.declared.terminals.Terminal.TheVariants as terminal
 use Rattle.mq_ast.specs.Tokens.{Tok, terminal_at, star}
 use Rattle.mq_ast.specs.declared.levels.TheConstants as level
-use Rattle.mq_ast.specs.Continuing.{Stops, Not, EndsKeys}
+use Rattle.mq_ast.specs.Continuing.{Stops, Not, EndsKey, EndsKeys}
 use Rattle.mq_ast.specs.OneTree.{OneTree}
 use Rattle.mq_ast.specs.GrammarNames.{PathE}
 use Rattle.mq_ast.specs.GrammarLists.{SomeOf, some_of, ManyOf}
 use Rattle.mq_ast.specs.GrammarExpression.{Expr}
-use Rattle.mq_ast.specs.GrammarQuery.{AliasE, alias_none, alias_as, alias_name, SelE, sel, Cols, cols, ItemE, item, JoinE, join_comma, join_on, join_inner, join_cross, FromE, items, SelectE, select_star, select_list, WhereE, where_none, where_some, GroupE, group_none, group_some, PlainE, plain, KeyE, key_plain, key_asc, key_desc, OrderE, order_none, order_some}
-use Rattle.mq_ast.proofs.Common.{Same, begin, cut}
-use Rattle.mq_ast.proofs.OneExpression.{expr_same, expr_no_star, path_same}
-use Rattle.mq_ast.proofs.OneList.{some_same, many_same, many_stop, stops_not}
+use Rattle.mq_ast.specs.GrammarQuery.{AliasE, alias_none, alias_as, alias_name, SelE, sel, Cols, cols, ItemE, item}
+use Rattle.mq_ast.specs.GrammarQuery.{front_comma, front_cross, front_join, front_inner, condition, OnE, on_item, JoinE, join_bare, join_on, FromE, items}
+use Rattle.mq_ast.specs.GrammarQuery.{ShownE, shown_star, shown_list, WhereE, where_none, where_some, GroupE, group_none, group_some, SourceE, source, PlainE, plain}
+use Rattle.mq_ast.specs.GrammarQuery.{DirectionE, direction_none, direction_asc, direction_desc, KeyE, key, OrderE, order_none, order_some}
+use Rattle.mq_ast.specs.Laws.CommonLemmas.{Same, begin, cut}
+use Rattle.mq_ast.specs.Laws.OneExpressionLemmas.{expr_same, expr_no_star, path_same}
+use Rattle.mq_ast.specs.Laws.OneListLemmas.{some_same, many_same, many_stop, stops_not}
 
 -- aliases and items of lists
 
@@ -59,29 +63,36 @@ cols_same (cols d) (cols d') = let p = sels_same d d' (omega arith, λ e. cc) (o
 pub item_same : {on on' : Option E} {i i' : FromItem} {from to to' : List Tok} → ItemE on i from to → ItemE on' i' from to' → Stops level.ITEM to → Stops level.ITEM to' → (on ≡ on' → i ≡ i') × (to ≡ to')
 item_same (item d) (item d') s s' = let p = alias_same d d' s s' in ((λ e. cc), p.1)
 
+pub on_same : OneTree OnE (Stops level.ITEM)
+on_same _ _ _ _ _ (on_item d (condition f)) (on_item d' (condition f')) s s' =
+    let p = item_same d d' (omega arith) (omega arith) in
+    let q = expr_same f (begin Expr (cut p.1) f') (omega arith) (omega arith) in
+    (p.0 (ap Some q.0), q.1)
+
+bare_item_same : {i i' : FromItem} {from to to' : List Tok} → ItemE None i from to → ItemE None i' from to' → Stops level.ITEM to → Stops level.ITEM to' → Same i i' to to'
+bare_item_same d d' s s' = let p = item_same d d' s s' in (p.0 refl, p.1)
+
 pub join_same : OneTree JoinE (Stops level.ITEM)
-join_same _ _ _ _ _ (join_comma d) (join_comma d') s s' =
-    let p = item_same d d' s s' in
-    (p.0 refl, p.1)
-join_same _ _ _ _ _ (join_cross d) (join_cross d') s s' =
-    let p = item_same d d' s s' in
-    (p.0 refl, p.1)
-join_same _ _ _ _ _ (join_on d f) (join_on d' f') s s' =
-    let p = item_same d d' (omega arith) (omega arith) in
-    let q = expr_same f (begin Expr (cut p.1) f') (omega arith) (omega arith) in
-    (p.0 (ap Some q.0), q.1)
-join_same _ _ _ _ _ (join_inner d f) (join_inner d' f') s s' =
-    let p = item_same d d' (omega arith) (omega arith) in
-    let q = expr_same f (begin Expr (cut p.1) f') (omega arith) (omega arith) in
-    (p.0 (ap Some q.0), q.1)
+join_same _ _ _ _ _ (join_bare front_comma d) (join_bare front_comma d') s s' = bare_item_same d d' s s'
+join_same _ _ _ _ _ (join_bare front_cross d) (join_bare front_cross d') s s' = bare_item_same d d' s s'
+join_same _ _ _ _ _ (join_bare front_comma d) (join_on o' d') s s' = elim o' [ ]
+join_same _ _ _ _ _ (join_bare front_cross d) (join_on o' d') s s' = elim o' [ ]
+join_same _ _ _ _ _ (join_on front_join d) (join_bare b' d') s s' = elim b' [ ]
+join_same _ _ _ _ _ (join_on front_inner d) (join_bare b' d') s s' = elim b' [ ]
+join_same _ _ _ _ _ (join_on front_join d) (join_on front_join d') s s' = on_same _ _ _ _ _ d d' s s'
+join_same _ _ _ _ _ (join_on front_inner d) (join_on front_inner d') s s' = on_same _ _ _ _ _ d d' s s'
 
 pub join_begins : (i : FromItem) (from to : List Tok) → JoinE i from to → Stops level.ITEM from
-join_begins _ _ _ (join_comma d) = omega arith
-join_begins _ _ _ _ = omega arith
+join_begins _ _ _ (join_bare front_comma d) = omega arith
+join_begins _ _ _ (join_bare front_cross d) = omega arith
+join_begins _ _ _ (join_on front_join d) = omega arith
+join_begins _ _ _ (join_on front_inner d) = omega arith
 
 pub join_not_stop : (i : FromItem) (from to : List Tok) → Stops level.SOURCES from → JoinE i from to → ⊥
-join_not_stop _ _ _ s (join_comma d) = absurd (omega arith)
-join_not_stop _ _ _ s _ = absurd (omega arith)
+join_not_stop _ _ _ s (join_bare front_comma d) = absurd (omega arith)
+join_not_stop _ _ _ s (join_bare front_cross d) = absurd (omega arith)
+join_not_stop _ _ _ s (join_on front_join d) = absurd (omega arith)
+join_not_stop _ _ _ s (join_on front_inner d) = absurd (omega arith)
 
 pub joins_stop : {xs : List FromItem} {from to : List Tok} → ManyOf JoinE xs from to → Stops level.SOURCES to → Stops level.ITEM from
 joins_stop = many_stop FromItem JoinE (Stops level.ITEM) (Stops level.SOURCES) join_same (λ ts s. omega arith) join_begins join_not_stop
@@ -101,11 +112,11 @@ from_same (items d ds) (items d' ds') s s' =
 pub sels_no_star : {xs : List Sel} {from to : List Tok} → SomeOf SelE xs (star ∷ from) to → ⊥
 sels_no_star (some_of (sel d o) ds) = expr_no_star d
 
-pub select_same : {b b' : Bool} {xs xs' : List Sel} {from to to' : List Tok} → SelectE b xs from to → SelectE b' xs' from to' → EndsSels to → EndsSels to' → (b ≡ b') × (xs ≡ xs') × (to ≡ to')
-select_same select_star select_star s s' = (refl, refl, refl)
-select_same select_star (select_list d') s s' = absurd (sels_no_star d')
-select_same (select_list d) select_star s s' = absurd (sels_no_star d)
-select_same (select_list d) (select_list d') s s' = let p = sels_same d d' s s' in (refl, p.0, p.1)
+pub shown_same : {x x' : Shown} {from to to' : List Tok} → ShownE x from to → ShownE x' from to' → Same x x' to to'
+shown_same shown_star shown_star = (refl, refl)
+shown_same shown_star (shown_list d') = absurd (sels_no_star d')
+shown_same (shown_list d) shown_star = absurd (sels_no_star d)
+shown_same (shown_list d) (shown_list d') = let p = sels_same d d' (omega arith, λ e. cc) (omega arith, λ e. cc) in (cc, cut p.1)
 
 pub where_same : {o o' : Option E} {from to to' : List Tok} → WhereE o from to → WhereE o' from to' → Stops level.FILTERED to → Stops level.FILTERED to' → Same o o' to to'
 where_same where_none where_none s s' = (refl, refl)
@@ -140,32 +151,37 @@ pub group_stop : {xs : List Path} {from to : List Tok} → GroupE xs from to →
 group_stop group_none s = omega arith
 group_stop (group_some d) s = omega arith
 
-pub plain_same : {p p' : Plain} {from to to' : List Tok} → PlainE p from to → PlainE p' from to' → Stops level.PLAIN to → Stops level.PLAIN to' → Same p p' to to'
-plain_same (plain d f w g) (plain d' f' w' g') s s' =
-    let p = select_same d d' (omega arith, λ e. cc) (omega arith, λ e. cc) in
+pub source_same : OneTree SourceE (Stops level.PLAIN)
+source_same _ _ _ _ _ (source f w g) (source f' w' g') s s' =
     let h = group_stop g s in
     let h' = group_stop g' s' in
-    let q = from_same f (begin FromE (cut p.2) f') (where_stop w h) (where_stop w' h') in
+    let q = from_same f f' (where_stop w h) (where_stop w' h') in
     let r = where_same w (begin WhereE q.1 w') h h' in
     let u = group_same g (begin GroupE r.1 g') s s' in
     (cc, u.1)
 
+pub plain_same : {p p' : Plain} {from to to' : List Tok} → PlainE p from to → PlainE p' from to' → Stops level.PLAIN to → Stops level.PLAIN to' → Same p p' to to'
+plain_same (plain d f) (plain d' f') s s' =
+    let p = shown_same d d' in
+    let q = source_same _ _ _ _ _ f (begin SourceE p.1 f') s s' in
+    (cc, q.1)
+
 pub plain_front : {p : Plain} {from to : List Tok} → PlainE p from to → terminal_at from ≡ terminal.Word word.Select
-plain_front (plain d f w g) = refl
+plain_front (plain d f) = refl
 
 -- ORDER BY
 
-abbrev pub EndsKey : List Tok → Type 0
-EndsKey ts = Not (terminal.Word word.Asc) ts × Not (terminal.Word word.Desc) ts
+pub direction_same : OneTree DirectionE EndsKey
+direction_same _ _ _ _ _ direction_none direction_none s s' = (refl, refl)
+direction_same _ _ _ _ _ direction_none direction_asc s s' = absurd (s.0 refl)
+direction_same _ _ _ _ _ direction_none direction_desc s s' = absurd (s.1 refl)
+direction_same _ _ _ _ _ direction_asc direction_none s s' = absurd (s'.0 refl)
+direction_same _ _ _ _ _ direction_desc direction_none s s' = absurd (s'.1 refl)
+direction_same _ _ _ _ _ direction_asc direction_asc s s' = (refl, refl)
+direction_same _ _ _ _ _ direction_desc direction_desc s s' = (refl, refl)
 
 pub key_same : OneTree KeyE EndsKey
-key_same _ _ _ _ _ key_plain key_plain s s' = (refl, refl)
-key_same _ _ _ _ _ key_plain key_asc s s' = absurd (s.0 refl)
-key_same _ _ _ _ _ key_plain key_desc s s' = absurd (s.1 refl)
-key_same _ _ _ _ _ key_asc key_plain s s' = absurd (s'.0 refl)
-key_same _ _ _ _ _ key_desc key_plain s s' = absurd (s'.1 refl)
-key_same _ _ _ _ _ key_asc key_asc s s' = (refl, refl)
-key_same _ _ _ _ _ key_desc key_desc s s' = (refl, refl)
+key_same _ _ _ _ _ (key d) (key d') s s' = let p = direction_same _ _ _ _ _ d d' s s' in (cc, p.1)
 
 pub keys_same : {xs xs' : List OrderKey} {from to to' : List Tok} → SomeOf KeyE xs from to → SomeOf KeyE xs' from to' → EndsKeys to → EndsKeys to' → Same xs xs' to to'
 keys_same = some_same OrderKey KeyE EndsKey EndsKeys key_same (λ ts s. (s.1, s.2)) (λ ts. (λ e. cc, λ e. cc)) (λ a ts mid s d. s.0 refl)

@@ -1,5 +1,5 @@
 -- Two rules that read the same tokens are equal.
-use Rattle.std.proofs.Common.{◌≡◌, List, ◌∷◌, refl, arith}
+use Rattle.std.proofs.Common.{◌≡◌, ℕ, List, ◌∷◌, refl, arith}
 use Rattle.std.specs.Prelude.{Option, Bool}
 use Rattle.mq_values.specs.declared.operators.Mode.{Mode}
 use Rattle.mq_ast.specs.declared.expressions.E.{E}
@@ -7,6 +7,7 @@ use Rattle.mq_ast.specs.declared.queries.ForList.{ForList}
 use Rattle.mq_ast.specs.declared.queries.LeftPlace.{LeftPlace}
 use Rattle.mq_ast.specs.declared.queries.LeftTree.{LeftTree}
 use Rattle.mq_ast.specs.declared.queries.RuleTree.{RuleTree}
+use Rattle.mq_ast.specs.declared.parts.Range.{Range}
 use Rattle.mq_lexer.specs.declared.keywords.Keyword.TheVariants as word
 use Rattle.mq_ast.specs.declared.terminals.Symbol.TheVariants as sign
 use Rattle.mq_ast.specs.declared.terminals.Terminal.TheVariants as terminal
@@ -17,12 +18,13 @@ use Rattle.mq_ast.specs.Continuing.{Stops, Not, Ends, Past}
 use Rattle.mq_ast.specs.OneTree.{OneTree}
 use Rattle.mq_ast.specs.GrammarLists.{SomeOf, some_of}
 use Rattle.mq_ast.specs.GrammarExpression.{Expr, Tuple, tuple}
-use Rattle.mq_ast.specs.GrammarQuery.{OrderE}
-use Rattle.mq_ast.specs.GrammarRule.{AloneE, alone, ModeE, mode_update, mode_upsert, mode_upsert_all, MaybeMode, mode_none, mode_some, ValuesE, values_list, values_rows, TuplesE, tuples_list, tuples_rows, DownE, down_no, down_yes, LitE, lit_any, lit_expr, lit_in, lit_range, LeftE, left_places, left_tuples, RuleE, rule, RuleList, rules_none, rules_some}
-use Rattle.mq_ast.proofs.Common.{Same, begin, cut}
-use Rattle.mq_ast.proofs.OneExpression.{expr_same, tuple_same, expr_no_any, expr_no_for, expr_no_select}
-use Rattle.mq_ast.proofs.OneList.{some_same, names_same, Whatever}
-use Rattle.mq_ast.proofs.OneQuery.{plain_same, plain_front, order_same}
+use Rattle.mq_ast.specs.GrammarRule.{AloneE, alone, ModeE, mode_update, mode_upsert, mode_upsert_all, MaybeMode, mode_none, mode_some, ForListE, for_values, for_rows}
+use Rattle.mq_ast.specs.GrammarRule.{DownE, down_no, down_yes, StartE, start, FinishE, finish, RangeE, range, LitE, lit_any, lit_expr, lit_in, lit_range, LeftE, left_places, left_tuples}
+use Rattle.mq_ast.specs.GrammarRule.{RuleFront, rule_front, RuleRight, rule_right, RuleE, rule, RuleList, rules_none, rules_some}
+use Rattle.mq_ast.specs.Laws.CommonLemmas.{Same, begin, cut}
+use Rattle.mq_ast.specs.Laws.OneExpressionLemmas.{expr_same, tuple_same, expr_no_any, expr_no_for, expr_no_select}
+use Rattle.mq_ast.specs.Laws.OneListLemmas.{some_same, names_same, Whatever}
+use Rattle.mq_ast.specs.Laws.OneQueryLemmas.{plain_same, plain_front, order_same}
 
 -- modes
 
@@ -67,20 +69,27 @@ alones_same = some_same (List E) AloneE (Stops level.EXPRESSION) EndsExprs alone
 pub alones_no_plain : {xs : List (List E)} {from to : List Tok} → SomeOf AloneE xs from to → terminal_at from ≡ terminal.Word word.Select → ⊥
 alones_no_plain (some_of (alone d) ds) e = expr_no_select d e
 
-pub values_same : {l l' : ForList} {from to to' : List Tok} → ValuesE l from (closer ∷ to) → ValuesE l' from (closer ∷ to') → Same l l' to to'
-values_same (values_list d) (values_list d') = let p = alones_same d d' (omega arith, λ e. cc) (omega arith, λ e. cc) in (cc, cut p.1)
-values_same (values_list d) (values_rows q') = absurd (alones_no_plain d (plain_front q'))
-values_same (values_rows q) (values_list d') = absurd (alones_no_plain d' (plain_front q))
-values_same (values_rows q) (values_rows q') = let p = plain_same q q' (omega arith) (omega arith) in (cc, cut p.1)
-
 pub tuples_no_plain : {xs : List (List E)} {from to : List Tok} → SomeOf Tuple xs from to → terminal_at from ≡ terminal.Word word.Select → ⊥
 tuples_no_plain (some_of (tuple d) ds) e = cc
 
-pub rows_same : {l l' : ForList} {from to to' : List Tok} → TuplesE l from (closer ∷ to) → TuplesE l' from (closer ∷ to') → Same l l' to to'
-rows_same (tuples_list d) (tuples_list d') = let p = tuples_same d d' (λ e. cc) (λ e. cc) in (cc, cut p.1)
-rows_same (tuples_list d) (tuples_rows q') = absurd (tuples_no_plain d (plain_front q'))
-rows_same (tuples_rows q) (tuples_list d') = absurd (tuples_no_plain d' (plain_front q))
-rows_same (tuples_rows q) (tuples_rows q') = let p = plain_same q q' (omega arith) (omega arith) in (cc, cut p.1)
+module _ (R : List E → List Tok → List Tok → Type 0) (same : (xs xs' : List (List E)) (from to to' : List Tok) → SomeOf R xs from (closer ∷ to) → SomeOf R xs' from (closer ∷ to') → Same xs xs' to to') (no_plain : (xs : List (List E)) (from to : List Tok) → SomeOf R xs from to → terminal_at from ≡ terminal.Word word.Select → ⊥) where
+  for_list_same : {l l' : ForList} {from to to' : List Tok} → ForListE R l from to → ForListE R l' from to' → Same l l' to to'
+  for_list_same (for_values d) (for_values d') = let p = same _ _ _ _ _ d d' in (cc, p.1)
+  for_list_same (for_values d) (for_rows q') = absurd (no_plain _ _ _ d (plain_front q'))
+  for_list_same (for_rows q) (for_values d') = absurd (no_plain _ _ _ d' (plain_front q))
+  for_list_same (for_rows q) (for_rows q') = let p = plain_same q q' (omega arith) (omega arith) in (cc, cut p.1)
+
+alones_closed : {xs xs' : List (List E)} {from to to' : List Tok} → SomeOf AloneE xs from (closer ∷ to) → SomeOf AloneE xs' from (closer ∷ to') → Same xs xs' to to'
+alones_closed d d' = let p = alones_same d d' (omega arith, λ e. cc) (omega arith, λ e. cc) in (p.0, cut p.1)
+
+tuples_closed : {xs xs' : List (List E)} {from to to' : List Tok} → SomeOf Tuple xs from (closer ∷ to) → SomeOf Tuple xs' from (closer ∷ to') → Same xs xs' to to'
+tuples_closed d d' = let p = tuples_same d d' (λ e. cc) (λ e. cc) in (p.0, cut p.1)
+
+pub values_same : {l l' : ForList} {from to to' : List Tok} → ForListE AloneE l from to → ForListE AloneE l' from to' → Same l l' to to'
+values_same = for_list_same AloneE (λ xs ys from to to' d d'. alones_closed d d') (λ xs from to d e. alones_no_plain d e)
+
+pub rows_same : {l l' : ForList} {from to to' : List Tok} → ForListE Tuple l from to → ForListE Tuple l' from to' → Same l l' to to'
+rows_same = for_list_same Tuple (λ xs ys from to to' d d'. tuples_closed d d') (λ xs from to d e. tuples_no_plain d e)
 
 -- left sides
 
@@ -92,22 +101,38 @@ pub down_stop : {b : Bool} {from to : List Tok} → DownE b from to → Stops le
 down_stop down_no = omega arith
 down_stop down_yes = omega arith
 
+pub start_same : {a a' : E} {from to to' : List Tok} → StartE a from to → StartE a' from to' → Same a a' to to'
+start_same (start d) (start d') = let p = expr_same d d' (omega arith) (omega arith) in (p.0, cut p.1)
+
+pub finish_same : {a a' : E × Bool} {from to to' : List Tok} → FinishE a from to → FinishE a' from to' → Same a a' to to'
+finish_same (finish d b) (finish d' b') =
+    let p = expr_same d d' (down_stop b) (down_stop b') in
+    let q = down_same b (begin DownE p.1 b') in
+    (cc, q.1)
+
+pub range_same : OneTree RangeE (Stops level.EXPRESSION)
+range_same _ _ _ _ _ (range x y z) (range x' y' z') s s' =
+    let p = start_same x x' in
+    let q = finish_same y (begin FinishE p.1 y') in
+    let r = expr_same z (begin Expr q.1 z') s s' in
+    (cc, r.1)
+
+range_no_in : {r : Range} {from to : List Tok} → RangeE r (Word word.In ∷ from) to → ⊥
+range_no_in (range x y z) = elim x [ ]
+
 pub lit_same : OneTree LitE (Stops level.EXPRESSION)
 lit_same _ _ _ _ _ lit_any lit_any s s' = (refl, refl)
 lit_same _ _ _ _ _ lit_any (lit_expr d') s s' = absurd (expr_no_any d')
 lit_same _ _ _ _ _ (lit_expr d) lit_any s s' = absurd (expr_no_any d)
 lit_same _ _ _ _ _ (lit_expr d) (lit_expr d') s s' = let p = expr_same d d' s s' in (cc, p.1)
 lit_same _ _ _ _ _ (lit_expr d) (lit_in l') s s' = absurd (expr_no_for d)
-lit_same _ _ _ _ _ (lit_expr d) (lit_range d' f' g' h') s s' = absurd (expr_no_for d)
+lit_same _ _ _ _ _ (lit_expr d) (lit_range r') s s' = absurd (expr_no_for d)
 lit_same _ _ _ _ _ (lit_in l) (lit_expr d') s s' = absurd (expr_no_for d')
-lit_same _ _ _ _ _ (lit_range d f g h) (lit_expr d') s s' = absurd (expr_no_for d')
+lit_same _ _ _ _ _ (lit_range r) (lit_expr d') s s' = absurd (expr_no_for d')
+lit_same _ _ _ _ _ (lit_in l) (lit_range r') s s' = absurd (range_no_in r')
+lit_same _ _ _ _ _ (lit_range r) (lit_in l') s s' = absurd (range_no_in r)
 lit_same _ _ _ _ _ (lit_in l) (lit_in l') s s' = let p = values_same l l' in (cc, p.1)
-lit_same _ _ _ _ _ (lit_range d f g h) (lit_range d' f' g' h') s s' =
-    let p = expr_same d d' (omega arith) (omega arith) in
-    let q = expr_same f (begin Expr (cut p.1) f') (down_stop g) (down_stop g') in
-    let r = down_same g (begin DownE q.1 g') in
-    let u = expr_same h (begin Expr r.1 h') s s' in
-    (cc, u.1)
+lit_same _ _ _ _ _ (lit_range r) (lit_range r') s s' = let p = range_same _ _ _ _ _ r r' s s' in (cc, p.1)
 
 pub lits_same : {ps ps' : List LeftPlace} {from to to' : List Tok} → SomeOf LitE ps from to → SomeOf LitE ps' from to' → EndsExprs to → EndsExprs to' → Same ps ps' to to'
 lits_same = some_same LeftPlace LitE (Stops level.EXPRESSION) EndsExprs lit_same (λ ts s. s.0) (λ ts. omega arith) (λ a ts mid s d. s.1 refl)
@@ -121,18 +146,28 @@ left_same (left_places d) (left_tuples n' t') s s' = absurd (lits_no_tuple d)
 left_same (left_tuples n t) (left_places d') s s' = absurd (lits_no_tuple d')
 left_same (left_tuples n t) (left_tuples n' t') s s' =
     let p = names_same n n' (λ e. cc) (λ e. cc) in
-    let q = rows_same t (begin TuplesE (cut (cut (cut p.1))) t') in
+    let q = rows_same t (begin (ForListE Tuple) (cut (cut p.1)) t') in
     (cc, q.1)
 
 -- rules
 
-pub rule_same : OneTree RuleE (Stops level.EXPRESSION)
-rule_same _ _ _ _ _ (rule {n = n} m l o d) (rule {n = n'} m' l' o' d') s s' =
+pub rule_front_same : {a a' : Option Mode × List ℕ} {from to to' : List Tok} → RuleFront a from to → RuleFront a' from to' → Same a a' to to'
+rule_front_same (rule_front {n = n} m) (rule_front {n = n'} m') =
     let p = maybe_mode_same m m' (omega arith) (omega arith) in
-    let name : n ≡ n' = cc in
-    let q = left_same l (begin LeftE (cut (cut p.1)) l') (omega arith, λ e. cc) (omega arith, λ e. cc) in
-    let r = order_same o (begin OrderE (cut q.1) o') (λ e. cc) (λ e. cc) (λ e. cc, λ e. cc, λ e. cc) (λ e. cc, λ e. cc, λ e. cc) in
+    let e : n ≡ n' = cc in
+    (cc, cut (cut p.1))
+
+pub rule_right_same : OneTree RuleRight (Stops level.EXPRESSION)
+rule_right_same _ _ _ _ _ (rule_right o d) (rule_right o' d') s s' =
+    let r = order_same o o' (λ e. cc) (λ e. cc) (λ e. cc, λ e. cc, λ e. cc) (λ e. cc, λ e. cc, λ e. cc) in
     let u = expr_same d (begin Expr (cut r.1) d') s s' in
+    (cc, u.1)
+
+pub rule_same : OneTree RuleE (Stops level.EXPRESSION)
+rule_same _ _ _ _ _ (rule f l r) (rule f' l' r') s s' =
+    let p = rule_front_same f f' in
+    let q = left_same l (begin LeftE p.1 l') (omega arith, λ e. cc) (omega arith, λ e. cc) in
+    let u = rule_right_same _ _ _ _ _ r (begin RuleRight (cut q.1) r') s s' in
     (cc, u.1)
 
 pub rules_same : {rs rs' : List RuleTree} {from to to' : List Tok} → SomeOf RuleE rs from to → SomeOf RuleE rs' from to' → EndsExprs to → EndsExprs to' → Same rs rs' to to'
@@ -142,7 +177,7 @@ pub mode_no_closer : {m : Mode} {from to : List Tok} → ModeE m (closer ∷ fro
 mode_no_closer d = elim d [ ]
 
 pub rules_no_closer : {rs : List RuleTree} {from to : List Tok} → SomeOf RuleE rs (closer ∷ from) to → ⊥
-rules_no_closer (some_of (rule (mode_some m) l o d) ds) = mode_no_closer m
+rules_no_closer (some_of (rule (rule_front (mode_some m)) l r) ds) = mode_no_closer m
 
 pub rule_list_same : {rs rs' : List RuleTree} {from to to' : List Tok} → RuleList rs from to → RuleList rs' from to' → Same rs rs' to to'
 rule_list_same rules_none rules_none = (refl, refl)

@@ -1,7 +1,8 @@
 -- Two expressions that read the same tokens are equal.
 use Rattle.std.proofs.Common.{◌≡◌, ℕ, ◌<◌, ◌≤◌, List, ◌∷◌, refl, sym, ap, subst, arith}
-use Rattle.std.specs.Prelude.{Option}
+use Rattle.std.specs.Prelude.{Option, Some}
 use Rattle.mq_values.specs.declared.value.Kind.{Kind}
+use Rattle.mq_values.specs.declared.operators.Func.{Func}
 use Rattle.mq_ast.specs.declared.expressions.Path.{Path}
 use Rattle.mq_ast.specs.declared.expressions.Place.{Place}
 use Rattle.mq_ast.specs.declared.expressions.SumTerm.{SumTerm}
@@ -18,8 +19,8 @@ use Rattle.mq_ast.specs.declared.levels.TheConstants as level
 use Rattle.mq_ast.specs.Continuing.{loose, Stops, Ends}
 use Rattle.mq_ast.specs.Chains.{arm}
 use Rattle.mq_ast.specs.GrammarNames.{PathE, path_one, path_two, KindE, kind_int, kind_decimal, kind_text}
-use Rattle.mq_ast.specs.GrammarExpression.{Expr, MoreOr, AndE, MoreAnd, NotE, TestE, TestTail, Tuple, Exprs, MoreExprs, SumE, MoreSum, ProdE, MoreProd, SignE, PrimE, Brackets, MorePlaces, PlaceE, CaseE, Whens, ElseE, expr, or_end, or_more, and, and_end, and_more, not_plain, not_not, test, tail_none, tail_cmp, tail_between, tail_not_between, tail_in, tail_not_in, tail_null, tail_not_null, tail_present, tail_not_present, tail_any, tuple, exprs, exprs_end, exprs_more, sum, sum_end, sum_more, prod, prod_end, prod_more, sign_plain, sign_minus, prim_num, prim_text, prim_null, prim_path, prim_cell, prim_round, prim_agg, prim_count, prim_range, prim_case, prim_cast, prim_abs, prim_floor, prim_length, prim_to, prim_nvl, prim_cv, prim_cv_name, prim_turn, prim_previous, prim_presentv, prim_presentnnv, brackets, places_end, places_more, place_any, place_expr, case_none, case_some, whens_end, whens_more, else_none, else_some}
-use Rattle.mq_ast.proofs.Common.{Same, same_flip, begin, cut, first, Begins}
+use Rattle.mq_ast.specs.GrammarExpression.{Expr, MoreOr, AndE, MoreAnd, NotE, TestE, TestTail, Tuple, Exprs, MoreExprs, SumE, MoreSum, ProdE, MoreProd, SignE, PrimE, Brackets, MorePlaces, PlaceE, CaseE, Whens, ElseE, expr, or_end, or_more, and, and_end, and_more, not_plain, not_not, test, tail_none, tail_cmp, tail_between, tail_not_between, tail_in, tail_not_in, tail_null, tail_not_null, tail_present, tail_not_present, tail_any, tuple, exprs, exprs_end, exprs_more, sum, sum_end, sum_more, prod, prod_end, prod_more, sign_plain, sign_minus, prim_num, prim_text, prim_null, prim_path, prim_cell, prim_round, prim_agg, prim_count, prim_range, prim_case, prim_cast, prim_to, prim_call, prim_cv, prim_cv_name, prim_turn, prim_previous, prim_presentv, prim_presentnnv, brackets, places_end, places_more, place_any, place_expr, case_none, case_some, whens_end, whens_more, else_none, else_some}
+use Rattle.mq_ast.specs.Laws.CommonLemmas.{Same, same_flip, begin, cut, none_some, PRIMARY, SIGNED, WHOLE, first, first_word, Begins}
 
 -- no token that goes on at a level below stands before the rest of a chain, a test or a list
 
@@ -70,29 +71,30 @@ else_stop (else_some d) = (omega arith, λ e. cc)
 
 -- what an expression begins with
 
-pub path_begins : {p : Path} {from to : List Tok} → PathE p from to → Begins 1 from
+pub path_begins : {p : Path} {from to : List Tok} → PathE p from to → Begins PRIMARY from
 path_begins path_one = omega arith
 path_begins path_two = omega arith
 
-pub prim_begins : {a : E} {from to : List Tok} → PrimE a from to → Begins 1 from
+pub prim_begins : {a : E} {from to : List Tok} → PrimE a from to → Begins PRIMARY from
 prim_begins (prim_path d) = omega arith
+prim_begins (prim_call {k = k} c d l) = let P : Option (Func × ℕ) → Type 0 = λ o. first_word o k ≤ PRIMARY in subst P (sym c) (omega arith)
 prim_begins _ = omega arith
 
-pub sign_begins : {a : E} {from to : List Tok} → SignE a from to → Begins 2 from
+pub sign_begins : {a : E} {from to : List Tok} → SignE a from to → Begins SIGNED from
 sign_begins (sign_plain d) = let h = prim_begins d in omega arith
 sign_begins (sign_minus d) = omega arith
 
-pub sum_begins : {a : E} {from to : List Tok} → SumE a from to → Begins 2 from
+pub sum_begins : {a : E} {from to : List Tok} → SumE a from to → Begins SIGNED from
 sum_begins (sum (prod d ds) t) = sign_begins d
 
-pub test_begins : {a : E} {from to : List Tok} → TestE a from to → Begins 2 from
+pub test_begins : {a : E} {from to : List Tok} → TestE a from to → Begins SIGNED from
 test_begins (test d t) = sum_begins d
 
-pub not_begins : {a : E} {from to : List Tok} → NotE a from to → Begins 3 from
+pub not_begins : {a : E} {from to : List Tok} → NotE a from to → Begins WHOLE from
 not_begins (not_plain d) = let h = test_begins d in omega arith
 not_begins (not_not d) = omega arith
 
-pub expr_begins : {a : E} {from to : List Tok} → Expr a from to → Begins 3 from
+pub expr_begins : {a : E} {from to : List Tok} → Expr a from to → Begins WHOLE from
 expr_begins (expr (and d ds) t) = not_begins d
 
 -- what cannot begin so
@@ -110,8 +112,8 @@ pub expr_no_star : {a : E} {from to : List Tok} → Expr a (star ∷ from) to �
 expr_no_star d = let h = expr_begins d in absurd (omega arith)
 
 -- an expression that begins with such a token
-pub expr_front : {a : E} {from to : List Tok} (t : Terminal) → Expr a from to → terminal_at from ≡ t → first t ≤ 3
-expr_front t d e = let P : Terminal → Type 0 = λ k. first k ≤ 3 in subst P e (expr_begins d)
+pub expr_front : {a : E} {from to : List Tok} (t : Terminal) → Expr a from to → terminal_at from ≡ t → first t ≤ WHOLE
+expr_front t d e = let P : Terminal → Type 0 = λ k. first k ≤ WHOLE in subst P e (expr_begins d)
 
 pub expr_no_when : {a : E} {from to : List Tok} → Expr a from to → terminal_at from ≡ terminal.Word word.When → ⊥
 expr_no_when d e = let h = expr_front (terminal.Word word.When) d e in absurd (omega arith)
@@ -198,6 +200,9 @@ begin_tail {a} {a'} {b} {from} {from'} {to} e f t =
     let P : E → Type 0 = λ x. TestTail x b from to in
     let Q : List Tok → Type 0 = λ m. TestTail a' b m to in
     subst P (sym e) (subst Q (sym f) t)
+
+one_call : {o : Option (Func × ℕ)} {f f' : Func} {n n' : ℕ} → o ≡ Some (f, n) → o ≡ Some (f', n') → f ≡ f'
+one_call {f = f} {f' = f'} {n = n} {n' = n'} c c' = let p : (f, n) ≡ (f', n') = cc in ap (λ (x : Func × ℕ). x.0) p
 
 mutual
   pub expr_same : {a a' : E} {from to to' : List Tok} → Expr a from to → Expr a' from to' → Stops level.EXPRESSION to → Stops level.EXPRESSION to' → Same a a' to to'
@@ -347,17 +352,34 @@ mutual
       let p = expr_same d d' (omega arith) (omega arith) in
       let q = kind_same k (begin KindE (cut p.1) k') in
       (cc, cut q.1)
-  prim_same (prim_abs d) (prim_abs d') s s' = let p = expr_same d d' (omega arith) (omega arith) in (cc, cut p.1)
-  prim_same (prim_floor d) (prim_floor d') s s' = let p = expr_same d d' (omega arith) (omega arith) in (cc, cut p.1)
-  prim_same (prim_length d) (prim_length d') s s' = let p = expr_same d d' (omega arith) (omega arith) in (cc, cut p.1)
+  prim_same (prim_call c d l) (prim_call c' d' l') s s' =
+      let p = tuple_same d d' in
+      let q = one_call c c' in
+      (cc, p.1)
+  prim_same (prim_call c d l) prim_null s s' = absurd (none_some c)
+  prim_same (prim_call c d l) (prim_case _ _ _) s s' = absurd (none_some c)
+  prim_same (prim_call c d l) (prim_cast _ _) s s' = absurd (none_some c)
+  prim_same (prim_call c d l) (prim_to _ _) s s' = absurd (none_some c)
+  prim_same (prim_call c d l) prim_cv s s' = absurd (none_some c)
+  prim_same (prim_call c d l) prim_cv_name s s' = absurd (none_some c)
+  prim_same (prim_call c d l) prim_turn s s' = absurd (none_some c)
+  prim_same (prim_call c d l) (prim_previous _) s s' = absurd (none_some c)
+  prim_same (prim_call c d l) (prim_presentv _ _ _) s s' = absurd (none_some c)
+  prim_same (prim_call c d l) (prim_presentnnv _ _ _) s s' = absurd (none_some c)
+  prim_same prim_null (prim_call c' d' l') s s' = absurd (none_some c')
+  prim_same (prim_case _ _ _) (prim_call c' d' l') s s' = absurd (none_some c')
+  prim_same (prim_cast _ _) (prim_call c' d' l') s s' = absurd (none_some c')
+  prim_same (prim_to _ _) (prim_call c' d' l') s s' = absurd (none_some c')
+  prim_same prim_cv (prim_call c' d' l') s s' = absurd (none_some c')
+  prim_same prim_cv_name (prim_call c' d' l') s s' = absurd (none_some c')
+  prim_same prim_turn (prim_call c' d' l') s s' = absurd (none_some c')
+  prim_same (prim_previous _) (prim_call c' d' l') s s' = absurd (none_some c')
+  prim_same (prim_presentv _ _ _) (prim_call c' d' l') s s' = absurd (none_some c')
+  prim_same (prim_presentnnv _ _ _) (prim_call c' d' l') s s' = absurd (none_some c')
   prim_same (prim_to {n = n} d i) (prim_to {n = n'} d' i') s s' =
       let p = expr_same d d' (omega arith) (omega arith) in
       let m : n ≡ n' = cc in
       (cc, cc)
-  prim_same (prim_nvl d f) (prim_nvl d' f') s s' =
-      let p = expr_same d d' (omega arith) (omega arith) in
-      let q = expr_same f (begin Expr (cut p.1) f') (omega arith) (omega arith) in
-      (cc, cut q.1)
   prim_same prim_cv prim_cv s s' = (refl, refl)
   prim_same prim_cv_name prim_cv_name s s' = (refl, refl)
   prim_same prim_turn prim_turn s s' = (refl, refl)

@@ -13,12 +13,12 @@ use Rattle.mq_ast.specs.GrammarLists.{SomeOf}
 use Rattle.mq_ast.specs.GrammarExpression.{Tuple}
 use Rattle.mq_ast.specs.GrammarQuery.{WhereE, where_none, where_some}
 use Rattle.mq_ast.specs.GrammarStatement.{NotNullE, null_may, null_not, ColE, col, NamesE, names, PrimaryE, primary_none, primary_some, MaybeNames, names_none, names_some, SetE, set, StmtE, stmt_create_table, stmt_drop_table, stmt_create_view, stmt_drop_view, stmt_insert, stmt_update, stmt_delete, stmt_load, stmt_show, stmt_query}
-use Rattle.mq_ast.proofs.Common.{Same, begin, cut}
-use Rattle.mq_ast.proofs.OneExpression.{expr_same, kind_same}
-use Rattle.mq_ast.proofs.OneList.{some_same, names_same}
-use Rattle.mq_ast.proofs.OneQuery.{where_same}
-use Rattle.mq_ast.proofs.OneRule.{tuples_same, EndsExprs}
-use Rattle.mq_ast.proofs.OneModel.{query_same}
+use Rattle.mq_ast.specs.Laws.CommonLemmas.{Same, begin, cut}
+use Rattle.mq_ast.specs.Laws.OneExpressionLemmas.{expr_same, kind_same}
+use Rattle.mq_ast.specs.Laws.OneListLemmas.{some_same, names_same}
+use Rattle.mq_ast.specs.Laws.OneQueryLemmas.{where_same}
+use Rattle.mq_ast.specs.Laws.OneRuleLemmas.{tuples_same, EndsExprs}
+use Rattle.mq_ast.specs.Laws.OneModelLemmas.{query_same}
 
 pub null_same : {b b' : Bool} {from to to' : List Tok} → NotNullE b from to → NotNullE b' from to' → Stops level.EXPRESSION to → Stops level.EXPRESSION to' → Same b b' to to'
 null_same null_may null_may s s' = (refl, refl)
