@@ -5,8 +5,10 @@ pub mod BaseRows
 pub mod CatalogStub
 pub mod Changes
 pub mod Combinations
+pub mod ConditionLaws
 pub mod Conditions
 pub mod Expression
+pub mod ExpressionLaws
 pub mod Fits
 pub mod FitsExpression
 pub mod FitsStatement
@@ -17,6 +19,7 @@ pub mod LimitsStub
 pub mod Lines
 pub mod Looks
 pub mod Operators
+pub mod PartLaws
 pub mod Partitions
 pub mod Placed
 pub mod Printing

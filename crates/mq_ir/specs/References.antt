@@ -1,7 +1,6 @@
 -- The arrays of references.
-use Rattle.std.specs.Prelude.{ℕ, List, [], ◌∷◌, ◌++◌, length, map, Option, Some, None, Result, Ok, Err, nat_lt, if◌then◌else◌}
+use Rattle.std.specs.Prelude.{List, [], ◌∷◌, ◌++◌, length, map, Result, Ok, Err, nat_lt, if◌then◌else◌}
 use Rattle.std.specs.Option.{option_map_or}
-use Rattle.mq_values.specs.Convert.{cast_of}
 use Rattle.mq_values.specs.declared.faults.FaultKind.TheVariants as kind
 use Rattle.mq_ir.specs.declared.query.RefPart.{RefPart}
 use Rattle.mq_ir.specs.Items.{items_over, items_at, row_leaves}

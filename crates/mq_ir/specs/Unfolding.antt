@@ -1,9 +1,8 @@
 -- The single left sides of a rule.
-use Rattle.std.specs.Prelude.{ℕ, suc, ◌+◌, ◌/◌, ◌==◌, pos, negsuc, ℤ, ◌+ℤ◌, ◌-ℤ◌, ◌*ℤ◌, int_le, unsigned_abs, Bool, true, false, List, [], ◌∷◌, length, map, nat_lt, Option, Some, None, Result, Ok, Err, if◌then◌else◌, slice_index_or}
+use Rattle.std.specs.Prelude.{ℕ, suc, ◌/◌, ◌==◌, pos, ℤ, ◌+ℤ◌, ◌-ℤ◌, ◌*ℤ◌, int_le, unsigned_abs, Bool, List, [], ◌∷◌, length, map, nat_lt, Result, Ok, Err, if◌then◌else◌, slice_index_or}
 use Rattle.std.specs.List.{enumerate_from, find, range_with_len, zip}
 use Rattle.std.specs.Option.{option_map_or}
 use Rattle.mq_values.specs.Convert.{cast_of}
-use Rattle.mq_values.specs.Number.{Number}
 use Rattle.mq_values.specs.declared.faults.FaultKind.{FaultKind}
 use Rattle.mq_values.specs.declared.faults.FaultKind.TheVariants as fault
 use Rattle.mq_values.specs.declared.faults.ValueFault.{ValueFault}
@@ -26,7 +25,7 @@ use Rattle.mq_ir.specs.declared.query.SingleLeft.{SingleLeft}
 use Rattle.mq_ir.specs.declared.query.SinglePlace.{SinglePlace}
 use Rattle.mq_ir.specs.declared.query.SinglePlace.TheVariants as place
 use Rattle.mq_ir.specs.Combinations.{combinations}
-use Rattle.mq_ir.specs.Expression.{Outcome, ev, whole}
+use Rattle.mq_ir.specs.Expression.{Outcome, whole}
 use Rattle.mq_ir.specs.LimitsStub.{SINGLE_LEFT_SIDES}
 use Rattle.mq_ir.specs.Partitions.{Tuple, Cells}
 use Rattle.mq_ir.specs.Placed.{kind_of}
