@@ -1,4 +1,5 @@
 pub mod Affected
+pub mod AffectedLaws
 pub mod Answer
 pub mod Automatic
 pub mod BaseRows
@@ -7,6 +8,7 @@ pub mod Changes
 pub mod Combinations
 pub mod ConditionLaws
 pub mod Conditions
+pub mod CountLaws
 pub mod Expression
 pub mod ExpressionLaws
 pub mod Fits
@@ -23,14 +25,17 @@ pub mod PartLaws
 pub mod Partitions
 pub mod Placed
 pub mod Printing
+pub mod ReadLaws
 pub mod Reads
 pub mod References
 pub mod Results
+pub mod RoundLaws
 pub mod Rounds
 pub mod Sequential
 pub mod Shape
 pub mod Slots
 pub mod Statement
+pub mod StatementLaws
 pub mod Tables
 pub mod Targets
 pub mod Tests

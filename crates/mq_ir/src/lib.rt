@@ -4,10 +4,16 @@
 #![tactic(auto)]
 
 mod expression;
+mod laws_of_order;
+mod laws_of_reads;
+mod laws_of_statements;
 mod query;
 mod statement;
 
 pub use expression::{BoundArm, BoundProd, BoundSum, Expr, Leaf, RangePlace, Test, Worth};
+pub use laws_of_order::{affected_is_least_closed, levelled_stays, rounds_are_enough};
+pub use laws_of_reads::presence_is_of_the_input;
+pub use laws_of_statements::refusals_alter_nothing;
 pub use query::{
     Answer, BoundQuery, CellName, ColRef, FromPart, ItemPart, Iterate, Left, LeftItem, ListSource,
     Look, ModelPart, OutCell, PartInput, PartResult, PartShape, PlainPart, RefArray, RefPart, Rule,
