@@ -7,6 +7,7 @@ use Rattle.mq_values.specs.declared.faults.Refused.{Refused}
 use Rattle.mq_values.specs.declared.faults.Refused.TheVariants as refused
 use Rattle.mq_values.specs.declared.value.Value.{Value}
 use Rattle.mq_values.specs.declared.value.Value.TheVariants.{Null}
+use Rattle.mq_values.specs.Truth.{is_true}
 use Rattle.mq_ir.specs.declared.expression.Expr.{Expr}
 use Rattle.mq_ir.specs.declared.statement.Change.{Change}
 use Rattle.mq_ir.specs.declared.statement.Change.TheVariants.{Insert, Append, Update, Delete}
@@ -14,7 +15,6 @@ use Rattle.mq_ir.specs.declared.statement.Column.{Column}
 use Rattle.mq_ir.specs.declared.statement.Schema.{Schema}
 use Rattle.mq_ir.specs.Expression.{holds}
 use Rattle.mq_ir.specs.Items.{row_leaves}
-use Rattle.mq_ir.specs.Iteration.{is_held}
 use Rattle.mq_ir.specs.Keys.{is_among}
 use Rattle.mq_ir.specs.LimitsStub.{TABLE_ROWS, ALL_VALUES}
 use Rattle.mq_ir.specs.Partitions.{Tuple}
@@ -42,7 +42,7 @@ inserted_row schema (number, es) = each (λ (col, e). column_value [] number col
 -- whether UPDATE or DELETE visits a row as true
 abbrev pub is_chosen : Option Expr → ℕ × Tuple → Result Bool Refused
 is_chosen None row = Ok true
-is_chosen (Some e) (number, row) = marked (refused.ChangeValue number) (holds (row_leaves (row ∷ [])) e) >>= (λ truth. Ok (is_held truth))
+is_chosen (Some e) (number, row) = marked (refused.ChangeValue number) (holds (row_leaves (row ∷ [])) e) >>= (λ truth. Ok (is_true truth))
 
 -- the columns that are set, in text order, over the old row
 abbrev pub set_values : Schema → List (ℕ × Expr) → ℕ × Tuple → Result (List (ℕ × Value)) Refused

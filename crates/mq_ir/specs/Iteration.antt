@@ -3,6 +3,7 @@ use Rattle.std.specs.Prelude.{ℕ, zero, suc, ◌+◌, List, [], length, map, Bo
 use Rattle.std.specs.Map.{keys_of}
 use Rattle.std.specs.Option.{option_and_then, option_map, option_map_or, option_or}
 use Rattle.mq_values.specs.declared.faults.FaultKind.TheVariants as kind
+use Rattle.mq_values.specs.Truth.{is_true}
 use Rattle.mq_ir.specs.declared.expression.Expr.{Expr}
 use Rattle.mq_ir.specs.declared.query.OutCell.{OutCell}
 use Rattle.mq_ir.specs.declared.query.PartInput.{PartInput}
@@ -18,16 +19,11 @@ use Rattle.mq_ir.specs.Results.{◌>>=◌, marked}
 use Rattle.mq_ir.specs.Sequential.{Standing, turn_step}
 use Rattle.mq_ir.specs.Unfolding.{Model}
 
-abbrev pub is_held : Option Bool → Bool
-is_held (Some true) = true
-is_held (Some false) = false
-is_held None = false
-
 -- UNTIL over the cells after a turn and before it; where it is unknown, the turns go on
 abbrev pub until_holds : Model → List Tuple → ℕ → Cells → Cells → Expr → Result Bool Placed
 until_holds model input turn before cells e =
     let site : Site = record { model = model; target = []; turn = turn; set = keys_of cells } in
-    marked (value_fault 0 []) (holds (read_until site input (measure_at cells) (measure_at before)) e) >>= (λ truth. Ok (is_held truth))
+    marked (value_fault 0 []) (holds (read_until site input (measure_at cells) (measure_at before)) e) >>= (λ truth. Ok (is_true truth))
 
 -- whether this turn was the last
 abbrev pub is_last : Model → List Tuple → ℕ → Cells → Cells → Result Bool Placed

@@ -9,7 +9,7 @@ use Rattle.mq_values.specs.declared.faults.FaultKind.TheVariants as kind
 use Rattle.mq_ir.specs.declared.query.PartShape.{PartShape}
 use Rattle.mq_ir.specs.declared.query.Rule.{Rule}
 use Rattle.mq_ir.specs.declared.query.SingleLeft.{SingleLeft}
-use Rattle.mq_ir.specs.Keys.{each_once, is_same}
+use Rattle.mq_ir.specs.Keys.{each_first, is_same}
 use Rattle.mq_ir.specs.LimitsStub.{PARTITION_CELLS}
 use Rattle.mq_ir.specs.Partitions.{Tuple, ascending}
 use Rattle.mq_ir.specs.Placed.{Placed, placed_fault}
@@ -67,4 +67,4 @@ shape_over model keys =
 
 -- the shape that stands where there is a fault of the shape or a cycle: nothing is assigned
 abbrev pub bare_shape : List Tuple → PartShape
-bare_shape keys = record { base = each_once keys; cells = each_once keys; assigned = [] }
+bare_shape keys = record { base = each_first keys; cells = each_first keys; assigned = [] }
