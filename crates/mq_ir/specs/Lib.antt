@@ -26,6 +26,7 @@ pub mod Partitions
 pub mod Placed
 pub mod Printing
 pub mod ReadLaws
+pub mod ReadProofs
 pub mod Reads
 pub mod References
 pub mod Results
@@ -41,3 +42,5 @@ pub mod Targets
 pub mod Tests
 pub mod Unfolding
 pub mod Worth
+pub mod WorthLaws
+pub mod WorthRolls

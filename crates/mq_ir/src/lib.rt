@@ -12,7 +12,10 @@ mod statement;
 
 pub use expression::{BoundArm, BoundProd, BoundSum, Expr, Leaf, RangePlace, Test, Worth};
 pub use laws_of_order::{affected_is_least_closed, levelled_stays, rounds_are_enough};
-pub use laws_of_reads::presence_is_of_the_input;
+pub use laws_of_reads::{
+    presence_is_of_the_input, reads_are_among_looks, same_looks_make_the_same_step,
+    steps_read_their_looks,
+};
 pub use laws_of_statements::refusals_alter_nothing;
 pub use query::{
     Answer, BoundQuery, CellName, ColRef, FromPart, ItemPart, Iterate, Left, LeftItem, ListSource,
