@@ -13,7 +13,7 @@ use Rattle.mq_ir.specs.declared.expression.Leaf.{Leaf, out-Leaf}
 use Rattle.mq_ir.specs.declared.query.FromPart.{FromPart}
 use Rattle.mq_ir.specs.Combinations.{combinations}
 use Rattle.mq_ir.specs.Expression.{Outcome, holds}
-use Rattle.mq_ir.specs.LimitsStub.{BASE_ROWS}
+use Rattle.mq_values.specs.declared.limits.TheConstants.{MAX_BASE_ROWS}
 use Rattle.mq_ir.specs.Partitions.{Tuple}
 use Rattle.mq_ir.specs.Placed.{kind_of}
 use Rattle.mq_ir.specs.Results.{◌>>=◌, each_in_turn, marked}
@@ -50,7 +50,7 @@ all_true leaves (e ∷ es) = holds leaves e >>= (λ t. if is_true t then all_tru
 
 -- one tuple more, as far as there is room for it
 abbrev pub with_row : Places → List Places → Result (List Places) FaultKind
-with_row places kept = if nat_lt (length kept) BASE_ROWS then Ok (kept ++ places ∷ []) else Err kind.TooManyRows
+with_row places kept = if nat_lt (length kept) MAX_BASE_ROWS then Ok (kept ++ places ∷ []) else Err kind.TooManyRows
 
 -- a tuple is kept where all conditions are true of its rows
 abbrev pub row_step : FromPart → List (List Tuple) → Places → List Places → Result (List Places) FaultKind

@@ -11,7 +11,7 @@ use Rattle.mq_ir.specs.declared.query.PartResult.{PartResult}
 use Rattle.mq_ir.specs.declared.query.PartResult.TheVariants.{Rows, Fault}
 use Rattle.mq_ir.specs.Expression.{holds}
 use Rattle.mq_ir.specs.Keys.{is_among}
-use Rattle.mq_ir.specs.LimitsStub.{PARTITION_CELLS}
+use Rattle.mq_values.specs.declared.limits.TheConstants.{MAX_CELLS_OF_PARTITION}
 use Rattle.mq_ir.specs.Partitions.{Tuple, Cells}
 use Rattle.mq_ir.specs.Placed.{Placed, at_partition, placed_fault, value_fault}
 use Rattle.mq_ir.specs.Reads.{Site, measure_at, read_until}
@@ -46,7 +46,7 @@ turn_count model = option_map_or (λ iterate. iterate.turns) model.part.iterate 
 abbrev pub input_fault : PartInput → Option Placed
 input_fault p =
     option_or (option_map (λ key. placed_fault 0 key kind.NotUnique) p.repeated)
-    (if nat_lt PARTITION_CELLS (length p.cells) then Some (placed_fault 0 [] kind.TooManyCells) else None)
+    (if nat_lt MAX_CELLS_OF_PARTITION (length p.cells) then Some (placed_fault 0 [] kind.TooManyCells) else None)
 
 -- the cells that the rules leave, with those that were a target, or the first fault
 abbrev pub cells_left : Model → PartInput → Result Standing Placed

@@ -3,7 +3,6 @@ pub mod AffectedLaws
 pub mod Answer
 pub mod Automatic
 pub mod BaseRows
-pub mod CatalogStub
 pub mod Changes
 pub mod Combinations
 pub mod ConditionLaws
@@ -17,9 +16,9 @@ pub mod FitsStatement
 pub mod Items
 pub mod Iteration
 pub mod Keys
-pub mod LimitsStub
 pub mod Lines
 pub mod Looks
+pub mod Names
 pub mod Operators
 pub mod PartLaws
 pub mod Partitions

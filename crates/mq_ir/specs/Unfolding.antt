@@ -26,7 +26,7 @@ use Rattle.mq_ir.specs.declared.query.SinglePlace.{SinglePlace}
 use Rattle.mq_ir.specs.declared.query.SinglePlace.TheVariants as place
 use Rattle.mq_ir.specs.Combinations.{combinations}
 use Rattle.mq_ir.specs.Expression.{Outcome, whole}
-use Rattle.mq_ir.specs.LimitsStub.{SINGLE_LEFT_SIDES}
+use Rattle.mq_values.specs.declared.limits.TheConstants.{MAX_SINGLE_LEFT_SIDES}
 use Rattle.mq_ir.specs.Partitions.{Tuple, Cells}
 use Rattle.mq_ir.specs.Placed.{kind_of}
 use Rattle.mq_ir.specs.Results.{◌>>=◌, each, marked}
@@ -101,4 +101,4 @@ single rule places = record { measure = rule.measure; places = places; order = r
 abbrev pub unfold_rule : Model → Rule → ℕ → Result (List SingleLeft) FaultKind
 unfold_rule model rule turn =
     marked kind_of (left_places model turn rule.left) >>= (λ all.
-    if nat_lt SINGLE_LEFT_SIDES (length all) then Err fault.TooManyUnfolded else Ok (map (single rule) all))
+    if nat_lt MAX_SINGLE_LEFT_SIDES (length all) then Err fault.TooManyUnfolded else Ok (map (single rule) all))
