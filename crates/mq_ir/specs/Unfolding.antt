@@ -19,7 +19,9 @@ use Rattle.mq_ir.specs.declared.query.LeftItem.{LeftItem}
 use Rattle.mq_ir.specs.declared.query.LeftItem.TheVariants.{At, Sym, List as Listed, Steps}
 use Rattle.mq_ir.specs.declared.query.ListSource.{ListSource}
 use Rattle.mq_ir.specs.declared.query.ListSource.TheVariants.{Values, Rows}
+use Rattle.mq_ir.specs.declared.query.Model.{Model as Lent}
 use Rattle.mq_ir.specs.declared.query.ModelPart.{ModelPart}
+use Rattle.mq_ir.specs.declared.query.RefArray.{RefArray}
 use Rattle.mq_ir.specs.declared.query.Rule.{Rule}
 use Rattle.mq_ir.specs.declared.query.SingleLeft.{SingleLeft}
 use Rattle.mq_ir.specs.declared.query.SinglePlace.{SinglePlace}
@@ -37,6 +39,10 @@ pub record Model : Type 0 where
   pub part : ModelPart
   pub lists : List (List Tuple)
   pub refs : List Cells
+
+-- what a lent model is
+abbrev pub model_of : Lent → Model
+model_of m = record { part = m.part.now; lists = m.lists.now; refs = map (λ (r : RefArray). r.cells) m.refs.now }
 
 -- the expressions of a left side know the turn alone, and see no cells
 abbrev pub left_leaves : ℕ → Leaf → Outcome
