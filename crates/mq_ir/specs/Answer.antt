@@ -24,7 +24,7 @@ use Rattle.mq_ir.specs.Automatic.{automatic}
 use Rattle.mq_ir.specs.Items.{items_over}
 use Rattle.mq_ir.specs.References.{reference_over}
 use Rattle.mq_ir.specs.Iteration.{sequential}
-use Rattle.mq_ir.specs.LimitsStub.{QUERY_CELLS}
+use Rattle.mq_values.specs.declared.limits.TheConstants.{MAX_CELLS_OF_QUERY}
 use Rattle.mq_ir.specs.Partitions.{Tuple, partitions}
 use Rattle.mq_ir.specs.Placed.{at_partition, placed_fault}
 use Rattle.mq_ir.specs.Printing.{printed_rows}
@@ -82,7 +82,7 @@ Gathered = ℕ × List Tuple
 -- the cells of a partition are counted, whether they are returned or not
 abbrev pub with_cells : Model → Tuple → Gathered → List OutCell → Result Gathered QueryFault
 with_cells model key (count, rows) cells =
-    if nat_lt QUERY_CELLS (count + length cells) then Err (at_partition key (placed_fault 0 [] kind.TooManyCells))
+    if nat_lt MAX_CELLS_OF_QUERY (count + length cells) then Err (at_partition key (placed_fault 0 [] kind.TooManyCells))
     else Ok (count + length cells, rows ++ map (columns_of key) (returned model.part cells))
 
 abbrev pub partition_step : Model → PartInput → Gathered → Result Gathered QueryFault

@@ -1,7 +1,7 @@
 -- The base rows of a query: tuples of row places, one place for each FROM item.
-use Rattle.std.specs.Prelude.{ℕ, ◌+◌, Bool, true, false, List, [], ◌∷◌, ◌++◌, length, map, nat_lt, slice_index_or, Option, Some, None, Result, Ok, Err, if◌then◌else◌}
+use Rattle.std.specs.Prelude.{ℕ, Bool, true, false, List, [], ◌∷◌, ◌++◌, length, map, nat_lt, slice_index_or, Result, Ok, Err, if◌then◌else◌}
 use Rattle.std.specs.List.{filter_map, range_with_len, zip}
-use Rattle.std.specs.Option.{option_map_or, option_to_list}
+use Rattle.std.specs.Option.{option_to_list}
 use Rattle.mq_values.specs.Truth.{is_true}
 use Rattle.mq_values.specs.declared.faults.FaultKind.{FaultKind}
 use Rattle.mq_values.specs.declared.faults.FaultKind.TheVariants as kind
@@ -13,7 +13,7 @@ use Rattle.mq_ir.specs.declared.expression.Leaf.{Leaf, out-Leaf}
 use Rattle.mq_ir.specs.declared.query.FromPart.{FromPart}
 use Rattle.mq_ir.specs.Combinations.{combinations}
 use Rattle.mq_ir.specs.Expression.{Outcome, holds}
-use Rattle.mq_ir.specs.LimitsStub.{BASE_ROWS}
+use Rattle.mq_values.specs.declared.limits.TheConstants.{MAX_BASE_ROWS}
 use Rattle.mq_ir.specs.Partitions.{Tuple}
 use Rattle.mq_ir.specs.Placed.{kind_of}
 use Rattle.mq_ir.specs.Results.{◌>>=◌, each_in_turn, marked}
@@ -50,7 +50,7 @@ all_true leaves (e ∷ es) = holds leaves e >>= (λ t. if is_true t then all_tru
 
 -- one tuple more, as far as there is room for it
 abbrev pub with_row : Places → List Places → Result (List Places) FaultKind
-with_row places kept = if nat_lt (length kept) BASE_ROWS then Ok (kept ++ places ∷ []) else Err kind.TooManyRows
+with_row places kept = if nat_lt (length kept) MAX_BASE_ROWS then Ok (kept ++ places ∷ []) else Err kind.TooManyRows
 
 -- a tuple is kept where all conditions are true of its rows
 abbrev pub row_step : FromPart → List (List Tuple) → Places → List Places → Result (List Places) FaultKind

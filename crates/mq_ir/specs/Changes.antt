@@ -7,6 +7,8 @@ use Rattle.mq_values.specs.declared.faults.Refused.{Refused}
 use Rattle.mq_values.specs.declared.faults.Refused.TheVariants as refused
 use Rattle.mq_values.specs.declared.value.Value.{Value}
 use Rattle.mq_values.specs.declared.value.Value.TheVariants.{Null}
+use Rattle.mq_values.specs.Truth.{is_true}
+use Rattle.mq_ir.specs.declared.limit_numbers.TheConstants.{LIMIT_OF_ROWS, LIMIT_OF_VALUES}
 use Rattle.mq_ir.specs.declared.expression.Expr.{Expr}
 use Rattle.mq_ir.specs.declared.statement.Change.{Change}
 use Rattle.mq_ir.specs.declared.statement.Change.TheVariants.{Insert, Append, Update, Delete}
@@ -14,9 +16,8 @@ use Rattle.mq_ir.specs.declared.statement.Column.{Column}
 use Rattle.mq_ir.specs.declared.statement.Schema.{Schema}
 use Rattle.mq_ir.specs.Expression.{holds}
 use Rattle.mq_ir.specs.Items.{row_leaves}
-use Rattle.mq_ir.specs.Iteration.{is_held}
 use Rattle.mq_ir.specs.Keys.{is_among}
-use Rattle.mq_ir.specs.LimitsStub.{TABLE_ROWS, ALL_VALUES}
+use Rattle.mq_values.specs.declared.limits.TheConstants.{MAX_ROWS, MAX_VALUES}
 use Rattle.mq_ir.specs.Partitions.{Tuple}
 use Rattle.mq_ir.specs.Results.{◌>>=◌, each, marked}
 use Rattle.mq_ir.specs.Tables.{Table, Tables}
@@ -42,7 +43,7 @@ inserted_row schema (number, es) = each (λ (col, e). column_value [] number col
 -- whether UPDATE or DELETE visits a row as true
 abbrev pub is_chosen : Option Expr → ℕ × Tuple → Result Bool Refused
 is_chosen None row = Ok true
-is_chosen (Some e) (number, row) = marked (refused.ChangeValue number) (holds (row_leaves (row ∷ [])) e) >>= (λ truth. Ok (is_held truth))
+is_chosen (Some e) (number, row) = marked (refused.ChangeValue number) (holds (row_leaves (row ∷ [])) e) >>= (λ truth. Ok (is_true truth))
 
 -- the columns that are set, in text order, over the old row
 abbrev pub set_values : Schema → List (ℕ × Expr) → ℕ × Tuple → Result (List (ℕ × Value)) Refused
@@ -106,5 +107,5 @@ value_count tables = sum_by (λ t. length t.rows * length t.schema.cols) tables
 
 abbrev pub size_fault : Tables → Table → ℕ → Option Refused
 size_fault tables table added =
-    if nat_lt TABLE_ROWS (length table.rows + added) then Some (refused.Limit 3)
-    else (if nat_lt ALL_VALUES (value_count tables + added * length table.schema.cols) then Some (refused.Limit 4) else None)
+    if nat_lt MAX_ROWS (length table.rows + added) then Some (refused.Limit LIMIT_OF_ROWS)
+    else (if nat_lt MAX_VALUES (value_count tables + added * length table.schema.cols) then Some (refused.Limit LIMIT_OF_VALUES) else None)

@@ -1,5 +1,5 @@
 -- Conditions, and CASE.
-use Rattle.std.specs.Prelude.{Bool, true, false, List, [], ◌∷◌, Result, Ok, Err, Option, Some, None, map, if◌then◌else◌}
+use Rattle.std.specs.Prelude.{true, false, List, [], ◌∷◌, Ok, Option, Some, None, map, if◌then◌else◌}
 use Rattle.mq_values.specs.Truth.{is_true, opposite, both, either, comparison}
 use Rattle.mq_values.specs.declared.operators.CmpOp.{CmpOp}
 use Rattle.mq_values.specs.declared.operators.CmpOp.TheVariants.{Eq, Le, Ge}

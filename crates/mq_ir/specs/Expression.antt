@@ -1,5 +1,5 @@
 -- What an expression means.
-use Rattle.std.specs.Prelude.{Bool, true, false, List, [], ◌∷◌, Result, Ok, Option, Some, None, map, if◌then◌else◌}
+use Rattle.std.specs.Prelude.{Bool, List, Ok, Some, map, if◌then◌else◌}
 use Rattle.std.specs.Option.{option_map}
 use Rattle.mq_values.specs.Arithmetic.{negation_of}
 use Rattle.mq_values.specs.Convert.{cast_of}
@@ -59,11 +59,21 @@ layer_found leaves (layer.PresentV present a b) = a_value (leaves present.0 >>= 
 layer_found leaves (layer.PresentNnv present not_null a b) =
     a_value (leaves present.0 >>= (λ p. taken_if p (leaves not_null.0 >>= (λ v. taken_if v (as_value a.1) (as_value b.1))) (as_value b.1)))
 
+-- an arm of CASE, and a term of a chain, with what their parts are worth
+abbrev pub layer_arm : layer.BoundArm-F Part (Leaf × Unit {0}) (Test × Unit {0}) (BoundArm × (Found × Found)) (BoundProd × (ProdOp × Found)) (BoundSum × (SumOp × Found)) → Found × Found
+layer_arm arm = (arm.test.1, arm.value.1)
+
+abbrev pub layer_factor : layer.BoundProd-F Part (Leaf × Unit {0}) (Test × Unit {0}) (BoundArm × (Found × Found)) (BoundProd × (ProdOp × Found)) (BoundSum × (SumOp × Found)) → ProdOp × Found
+layer_factor term = (term.op, term.e.1)
+
+abbrev pub layer_term : layer.BoundSum-F Part (Leaf × Unit {0}) (Test × Unit {0}) (BoundArm × (Found × Found)) (BoundProd × (ProdOp × Found)) (BoundSum × (SumOp × Found)) → SumOp × Found
+layer_term term = (term.op, term.e.1)
+
 -- What an expression is worth, where `leaves` gives the value of each leaf. ExpressionLaws has it case by case.
 unfoldable pub worth_of : (Leaf → Outcome) → Expr → Found
 worth_of leaves =
     para-Expr Found (Unit {0}) (Unit {0}) (Found × Found) (ProdOp × Found) (SumOp × Found)
-    (layer_found leaves) (λ _. tt) (λ _. tt) (λ arm. (arm.test.1, arm.value.1)) (λ term. (term.op, term.e.1)) (λ term. (term.op, term.e.1))
+    (layer_found leaves) (λ _. tt) (λ _. tt) layer_arm layer_factor layer_term
 
 -- an expression in the place of a value, and in that of a condition
 abbrev pub ev : (Leaf → Outcome) → Expr → Outcome

@@ -19,23 +19,10 @@ use Rattle.mq_ir.specs.declared.query.PlainPart.{PlainPart}
 use Rattle.mq_ir.specs.declared.query.RefPart.{RefPart}
 use Rattle.mq_ir.specs.declared.query.Rule.{Rule}
 use Rattle.mq_ir.specs.declared.statement.Schema.{Schema}
-use Rattle.mq_ir.specs.CatalogStub.{Catalog}
+use Rattle.mq_ir.specs.declared.catalog.Catalog.{Catalog}
+use Rattle.mq_ir.specs.Names.{is_table, width_of}
 use Rattle.mq_ir.specs.FitsExpression.{Scope, expression_fits, kind_fits, test_fits}
-use Rattle.mq_ir.specs.LimitsStub.{DIMENSIONS, FROM_ITEMS, MEASURES, PARTITION_COLUMNS, PRINTED_COLUMNS, REFERENCES, RULES, TURNS}
-use Rattle.mq_ir.specs.Tables.{is_name}
-
-abbrev pub schema_of : Catalog → List ℕ → Option Schema
-schema_of catalog name = option_map_or (λ entry. Some entry.1) (find (λ entry. is_name name entry.0) catalog.tables) None
-
-abbrev pub is_table : Catalog → List ℕ → Bool
-is_table catalog name = list_any (λ entry. is_name name entry.0) catalog.tables
-
-abbrev pub is_view : Catalog → List ℕ → Bool
-is_view catalog name = list_any (λ entry. is_name name entry.0) catalog.views
-
--- the columns of a FROM item; 0 where it is no table
-abbrev pub width_of : Catalog → List ℕ → ℕ
-width_of catalog name = option_map_or (λ schema. length schema.cols) (schema_of catalog name) 0
+use Rattle.mq_values.specs.declared.limits.TheConstants.{MAX_DIMENSIONS, MAX_FROM_ITEMS, MAX_MEASURES, MAX_PARTITION_COLUMNS, MAX_PRINTED_COLUMNS, MAX_REFERENCES, MAX_RULES, MAX_TURNS}
 
 -- an expression over rows: it may name these columns
 abbrev pub row_scope : List ℕ → Scope
@@ -51,7 +38,7 @@ ons_fit columns ons = list_all (λ (n, on). fits_if_there (row_scope (take (n + 
 abbrev pub from_fits : Catalog → FromPart → Bool
 from_fits catalog from =
     let columns = map (width_of catalog) from.tables in
-    list_all (is_table catalog) from.tables && nat_le (length from.tables) FROM_ITEMS && (length from.ons == length from.tables)
+    list_all (is_table catalog) from.tables && nat_le (length from.tables) MAX_FROM_ITEMS && (length from.ons == length from.tables)
     && ons_fit columns from.ons && fits_if_there (row_scope columns) from.filter
 
 abbrev pub group_fits : List ℕ → List ColRef → Bool
@@ -64,14 +51,14 @@ items_fit catalog from items =
 
 abbrev pub plain_fits : Catalog → PlainPart → Bool
 plain_fits catalog p =
-    from_fits catalog p.from && items_fit catalog p.from p.items && nat_le (length p.items.items) PRINTED_COLUMNS
+    from_fits catalog p.from && items_fit catalog p.from p.items && nat_le (length p.items.items) MAX_PRINTED_COLUMNS
 
 abbrev pub reference_fits : Catalog → RefPart → Bool
 reference_fits catalog r =
     let scope = row_scope (length r.source.items.items ∷ []) in
     plain_fits catalog r.source
     && list_all (expression_fits scope) (r.dims ++ r.measures)
-    && nat_le (length r.dims) DIMENSIONS && nat_le (length r.measures) MEASURES
+    && nat_le (length r.dims) MAX_DIMENSIONS && nat_le (length r.measures) MAX_MEASURES
     && (length r.kinds == length r.dims + length r.measures) && list_all kind_fits r.kinds
 
 -- what rules and UNTIL may name
@@ -105,12 +92,12 @@ rule_fits part rule =
 
 abbrev pub iterate_fits : ModelPart → Bool
 iterate_fits part =
-    option_map_or (λ iterate. nat_lt 0 iterate.turns && nat_le iterate.turns TURNS && fits_if_there (model_scope part) iterate.until) part.iterate true
+    option_map_or (λ iterate. nat_lt 0 iterate.turns && nat_le iterate.turns MAX_TURNS && fits_if_there (model_scope part) iterate.until) part.iterate true
 
 abbrev pub model_fits : Catalog → ModelPart → Bool
 model_fits catalog part =
-    nat_le part.parts PARTITION_COLUMNS && nat_le (length part.dims) DIMENSIONS && nat_le (length part.measures) MEASURES
-    && list_all kind_fits (part.dims ++ part.measures) && nat_le (length part.rules) RULES && nat_le (length part.refs) REFERENCES
+    nat_le part.parts MAX_PARTITION_COLUMNS && nat_le (length part.dims) MAX_DIMENSIONS && nat_le (length part.measures) MAX_MEASURES
+    && list_all kind_fits (part.dims ++ part.measures) && nat_le (length part.rules) MAX_RULES && nat_le (length part.refs) MAX_REFERENCES
     && list_all (reference_fits catalog) part.refs && list_all (plain_fits catalog) part.lists
     && list_all (rule_fits part) part.rules && iterate_fits part
 
@@ -121,5 +108,5 @@ column_count q = option_map_or (λ part. part.parts + length part.dims + length 
 abbrev pub query_fits : Catalog → BoundQuery → Bool
 query_fits catalog q =
     from_fits catalog q.from && items_fit catalog q.from q.items && option_map_or (model_fits catalog) q.model true
-    && (length q.items.items == column_count q) && nat_le (length q.print) PRINTED_COLUMNS
+    && (length q.items.items == column_count q) && nat_le (length q.print) MAX_PRINTED_COLUMNS
     && list_all (λ n. nat_lt n (column_count q)) q.print && list_all (λ key. nat_lt key.0 (column_count q)) q.order

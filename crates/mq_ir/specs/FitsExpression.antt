@@ -13,7 +13,7 @@ use Rattle.mq_ir.specs.declared.expression.Expr.{Expr, para-Expr}
 use Rattle.mq_ir.specs.declared.expression.Expr.TheOpen as layer
 use Rattle.mq_ir.specs.declared.expression.Leaf.{Leaf, out-Leaf}
 use Rattle.mq_ir.specs.declared.expression.Test.{Test, para-Test}
-use Rattle.mq_ir.specs.LimitsStub.{SCALE}
+use Rattle.mq_values.specs.declared.limits.TheConstants.{MAX_SCALE}
 use Rattle.mq_ir.specs.Looks.{leaves_of}
 
 -- what an expression may name: the columns of each FROM item, the dimensions and measures of the model, and those of each reference
@@ -25,14 +25,14 @@ pub record Scope : Type 0 where
 
 abbrev pub kind_fits : Kind → Bool
 kind_fits kind.Int = true
-kind_fits (kind.Decimal s) = nat_lt 0 s && nat_le s SCALE
+kind_fits (kind.Decimal s) = nat_lt 0 s && nat_le s MAX_SCALE
 kind_fits kind.Text = true
 
 abbrev pub call_fits : Func → ℕ → Bool
 call_fits Abs n = n == 1
 call_fits Floor n = n == 1
 call_fits Length n = n == 1
-call_fits (Round s) n = nat_le s SCALE && (n == 1)
+call_fits (Round s) n = nat_le s MAX_SCALE && (n == 1)
 call_fits Nvl n = n == 2
 
 -- what may stand inside a leaf: columns, CV and the turn

@@ -12,16 +12,17 @@ use Rattle.mq_ir.specs.declared.statement.Column.{Column}
 use Rattle.mq_ir.specs.declared.statement.Schema.{Schema}
 use Rattle.mq_ir.specs.declared.expression.Expr.{Expr}
 use Rattle.mq_values.specs.declared.value.Value.{Value}
-use Rattle.mq_ir.specs.CatalogStub.{Catalog}
+use Rattle.mq_ir.specs.declared.catalog.Catalog.{Catalog}
 use Rattle.mq_ir.specs.Changes.{table_of}
-use Rattle.mq_ir.specs.Fits.{fits_if_there, is_table, is_view, query_fits, row_scope, schema_of}
+use Rattle.mq_ir.specs.Names.{is_table, is_taken, is_view, schema_of}
+use Rattle.mq_ir.specs.Fits.{fits_if_there, query_fits, row_scope}
 use Rattle.mq_ir.specs.FitsExpression.{expression_fits, kind_fits}
-use Rattle.mq_ir.specs.LimitsStub.{COLUMNS, TABLES, VIEWS}
+use Rattle.mq_values.specs.declared.limits.TheConstants.{MAX_COLUMNS, MAX_TABLES, MAX_VIEWS}
 use Rattle.mq_ir.specs.Partitions.{Tuple}
 
 abbrev pub schema_fits : Schema → Bool
 schema_fits schema =
-    nat_le (length schema.cols) COLUMNS && list_all (λ col. kind_fits col.kind) schema.cols && list_all (λ c. nat_lt c (length schema.cols)) schema.key
+    nat_le (length schema.cols) MAX_COLUMNS && list_all (λ col. kind_fits col.kind) schema.cols && list_all (λ c. nat_lt c (length schema.cols)) schema.key
 
 -- each value is null or of the column's kind, and it is not null where the column is NOT NULL
 abbrev pub value_fits : Column × Value → Bool
@@ -47,14 +48,10 @@ change_fits_schema schema (Delete name filter) = fits_if_there (row_scope (lengt
 abbrev pub change_fits : Catalog → Change → Bool
 change_fits catalog change = option_map_or (λ schema. change_fits_schema schema change) (schema_of catalog (table_of change)) false
 
--- a name that is there already, as a table or as a view
-abbrev pub is_taken : Catalog → List ℕ → Bool
-is_taken catalog name = is_table catalog name || is_view catalog name
-
 abbrev pub fits : Catalog → Bound → Bool
-fits catalog (bound.CreateTable def) = not (is_taken catalog def.name) && nat_lt (length catalog.tables) TABLES && schema_fits def.schema
+fits catalog (bound.CreateTable def) = not (is_taken catalog def.name) && nat_lt (length catalog.tables) MAX_TABLES && schema_fits def.schema
 fits catalog (bound.DropTable name) = is_table catalog name
-fits catalog (bound.CreateView name q) = not (is_taken catalog name) && nat_lt (length catalog.views) VIEWS && query_fits catalog q
+fits catalog (bound.CreateView name q) = not (is_taken catalog name) && nat_lt (length catalog.views) MAX_VIEWS && query_fits catalog q
 fits catalog (bound.DropView name) = is_view catalog name
 fits catalog (bound.Change change) = change_fits catalog change
 fits catalog (bound.Load table file) = is_table catalog table

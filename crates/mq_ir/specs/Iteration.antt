@@ -3,6 +3,7 @@ use Rattle.std.specs.Prelude.{ℕ, zero, suc, ◌+◌, List, [], length, map, Bo
 use Rattle.std.specs.Map.{keys_of}
 use Rattle.std.specs.Option.{option_and_then, option_map, option_map_or, option_or}
 use Rattle.mq_values.specs.declared.faults.FaultKind.TheVariants as kind
+use Rattle.mq_values.specs.Truth.{is_true}
 use Rattle.mq_ir.specs.declared.expression.Expr.{Expr}
 use Rattle.mq_ir.specs.declared.query.OutCell.{OutCell}
 use Rattle.mq_ir.specs.declared.query.PartInput.{PartInput}
@@ -10,7 +11,7 @@ use Rattle.mq_ir.specs.declared.query.PartResult.{PartResult}
 use Rattle.mq_ir.specs.declared.query.PartResult.TheVariants.{Rows, Fault}
 use Rattle.mq_ir.specs.Expression.{holds}
 use Rattle.mq_ir.specs.Keys.{is_among}
-use Rattle.mq_ir.specs.LimitsStub.{PARTITION_CELLS}
+use Rattle.mq_values.specs.declared.limits.TheConstants.{MAX_CELLS_OF_PARTITION}
 use Rattle.mq_ir.specs.Partitions.{Tuple, Cells}
 use Rattle.mq_ir.specs.Placed.{Placed, at_partition, placed_fault, value_fault}
 use Rattle.mq_ir.specs.Reads.{Site, measure_at, read_until}
@@ -18,16 +19,11 @@ use Rattle.mq_ir.specs.Results.{◌>>=◌, marked}
 use Rattle.mq_ir.specs.Sequential.{Standing, turn_step}
 use Rattle.mq_ir.specs.Unfolding.{Model}
 
-abbrev pub is_held : Option Bool → Bool
-is_held (Some true) = true
-is_held (Some false) = false
-is_held None = false
-
 -- UNTIL over the cells after a turn and before it; where it is unknown, the turns go on
 abbrev pub until_holds : Model → List Tuple → ℕ → Cells → Cells → Expr → Result Bool Placed
 until_holds model input turn before cells e =
     let site : Site = record { model = model; target = []; turn = turn; set = keys_of cells } in
-    marked (value_fault 0 []) (holds (read_until site input (measure_at cells) (measure_at before)) e) >>= (λ truth. Ok (is_held truth))
+    marked (value_fault 0 []) (holds (read_until site input (measure_at cells) (measure_at before)) e) >>= (λ truth. Ok (is_true truth))
 
 -- whether this turn was the last
 abbrev pub is_last : Model → List Tuple → ℕ → Cells → Cells → Result Bool Placed
@@ -50,7 +46,7 @@ turn_count model = option_map_or (λ iterate. iterate.turns) model.part.iterate 
 abbrev pub input_fault : PartInput → Option Placed
 input_fault p =
     option_or (option_map (λ key. placed_fault 0 key kind.NotUnique) p.repeated)
-    (if nat_lt PARTITION_CELLS (length p.cells) then Some (placed_fault 0 [] kind.TooManyCells) else None)
+    (if nat_lt MAX_CELLS_OF_PARTITION (length p.cells) then Some (placed_fault 0 [] kind.TooManyCells) else None)
 
 -- the cells that the rules leave, with those that were a target, or the first fault
 abbrev pub cells_left : Model → PartInput → Result Standing Placed

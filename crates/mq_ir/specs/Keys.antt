@@ -16,11 +16,6 @@ is_same a b = is_eq (cmp_key a b)
 abbrev pub is_among : List Tuple → Tuple → Bool
 is_among keys key = list_any (is_same key) keys
 
--- these keys, each once
-abbrev pub each_once : List Tuple → List Tuple
-each_once [] = []
-each_once (key ∷ keys) = if is_among keys key then each_once keys else key ∷ each_once keys
-
 -- these keys, each once, in order of their first
 abbrev pub each_first : List Tuple → List Tuple
 each_first [] = []

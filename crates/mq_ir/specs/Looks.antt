@@ -1,5 +1,5 @@
 -- What the right side of a rule looks at.
-use Rattle.std.specs.Prelude.{List, [], ◌∷◌, ◌++◌, Option, Result, Ok, Err, map}
+use Rattle.std.specs.Prelude.{ℕ, List, [], ◌∷◌, ◌++◌, Option, Result, Ok, Err, map}
 use Rattle.std.specs.List.{flat_map}
 use Rattle.std.specs.Option.{option_map_or}
 use Rattle.mq_values.specs.declared.faults.ValueFault.{ValueFault}
@@ -12,7 +12,8 @@ use Rattle.mq_ir.specs.declared.expression.Leaf.{Leaf, out-Leaf}
 use Rattle.mq_ir.specs.declared.expression.Test.{Test}
 use Rattle.mq_ir.specs.declared.query.Look.{Look}
 use Rattle.mq_ir.specs.declared.query.Look.TheVariants.{Measure, Presence}
-use Rattle.mq_ir.specs.Reads.{Site, cell_named, range_named}
+use Rattle.mq_ir.specs.Partitions.{Tuple}
+use Rattle.mq_ir.specs.Reads.{LeafLayer, Site, cell_named, range_named}
 
 -- the leaves of an expression
 abbrev pub Leaves : Type 0
@@ -52,18 +53,27 @@ leaves_of =
     para-Expr Leaves (Unit {0}) (Unit {0}) Leaves Leaves Leaves
     layer_leaves (λ _. tt) (λ _. tt) (λ arm. arm.test.1 ++ arm.value.1) (λ term. term.e.1) (λ term. term.e.1)
 
-abbrev pub named_or_nothing : {A : Type 0} → (A → List Look) → Result A ValueFault → List Look
-named_or_nothing looks (Ok name) = looks name
-named_or_nothing looks (Err fault) = []
+-- the measures of cells, as looks
+abbrev pub looks_at : ℕ → List Tuple → List Look
+looks_at m = map (λ key. Measure (record { key = key; measure = m }))
+
+abbrev pub look_at : ℕ → Tuple → List Look
+look_at m key = looks_at m (key ∷ [])
+
+abbrev pub looks_named : {A : Type 0} → (A → List Look) → Result A ValueFault → List Look
+looks_named looks (Ok name) = looks name
+looks_named looks (Err fault) = []
 
 -- what a leaf looks at; where one of its operands faults it names nothing
+abbrev pub layer_looks : Site → LeafLayer → List Look
+layer_looks site (layer.Cell m indices) = looks_named (look_at m) (cell_named site site.model.part.dims indices)
+layer_looks site (layer.Range agg m places) = looks_named (looks_at m) (range_named site places)
+layer_looks site (layer.Present indices) = looks_named (λ key. Presence key ∷ []) (cell_named site site.model.part.dims indices)
+layer_looks site (layer.NotNull m indices) = looks_named (look_at m) (cell_named site site.model.part.dims indices)
+layer_looks site _ = []
+
 abbrev pub leaf_looks : Site → Leaf → List Look
-leaf_looks site l = elim (out-Leaf l) [
-  | layer.Cell m indices ↦ named_or_nothing (λ key. Measure (record { key = key; measure = m }) ∷ []) (cell_named site site.model.part.dims indices)
-  | layer.Range agg m places ↦ named_or_nothing (map (λ key. Measure (record { key = key; measure = m }))) (range_named site places)
-  | layer.Present indices ↦ named_or_nothing (λ key. Presence key ∷ []) (cell_named site site.model.part.dims indices)
-  | layer.NotNull m indices ↦ named_or_nothing (λ key. Measure (record { key = key; measure = m }) ∷ []) (cell_named site site.model.part.dims indices)
-  | _ ↦ [] ]
+leaf_looks site l = layer_looks site (out-Leaf l)
 
 -- the looks of a right side, in the order of its references
 abbrev pub looks_of : Site → Expr → List Look

@@ -1,5 +1,5 @@
 -- What operators and functions make of values.
-use Rattle.std.specs.Prelude.{ℕ, List, [], ◌∷◌, Result, Ok, Err, if◌then◌else◌}
+use Rattle.std.specs.Prelude.{List, [], ◌∷◌, Result, Ok, if◌then◌else◌}
 use Rattle.mq_values.specs.Number.{Number}
 use Rattle.mq_values.specs.Arithmetic.{sum_of, difference_of, product_of, quotient_of, magnitude_of, floor_of}
 use Rattle.mq_values.specs.Convert.{joined, number_at, length_of}

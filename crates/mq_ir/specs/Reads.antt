@@ -10,6 +10,9 @@ use Rattle.mq_values.specs.declared.value.Kind.{Kind}
 use Rattle.mq_values.specs.declared.value.Kind.TheVariants as kind
 use Rattle.mq_values.specs.declared.value.Value.{Value}
 use Rattle.mq_values.specs.declared.value.Value.TheVariants as value
+use Rattle.mq_ir.specs.declared.expression.BoundArm.{BoundArm}
+use Rattle.mq_ir.specs.declared.expression.BoundProd.{BoundProd}
+use Rattle.mq_ir.specs.declared.expression.BoundSum.{BoundSum}
 use Rattle.mq_ir.specs.declared.expression.Expr.{Expr}
 use Rattle.mq_ir.specs.declared.expression.Expr.TheOpen as layer
 use Rattle.mq_ir.specs.declared.expression.Leaf.{Leaf, out-Leaf}
@@ -35,12 +38,18 @@ pub record Site : Type 0 where
 abbrev pub Measures : Type 0
 Measures = CellName → Value
 
--- expressions inside a leaf know the target's dimensions and the turn alone
+-- a leaf, taken apart
+abbrev pub LeafLayer : Type 0
+LeafLayer = layer.Leaf-F Expr Leaf Test BoundArm BoundProd BoundSum
+
+-- expressions inside a leaf know the target's dimensions and the turn alone; all else is null there
+abbrev pub inner_layer : Site → LeafLayer → Outcome
+inner_layer site (layer.Cv d) = Ok (slice_index_or site.target d value.Null)
+inner_layer site layer.Turn = Ok (whole site.turn)
+inner_layer site _ = Ok value.Null
+
 abbrev pub inner_leaves : Site → Leaf → Outcome
-inner_leaves site l = elim (out-Leaf l) [
-  | layer.Cv d ↦ Ok (slice_index_or site.target d value.Null)
-  | layer.Turn ↦ Ok (whole site.turn)
-  | _ ↦ Ok value.Null ]
+inner_leaves site l = inner_layer site (out-Leaf l)
 
 -- the tuple that the indices of a single cell name, each converted to its dimension's kind
 abbrev pub cell_named : Site → List Kind → List Expr → Result Tuple ValueFault
@@ -100,20 +109,24 @@ not_null site now m indices = cell_named site site.model.part.dims indices >>= (
 
 -- The leaves of a right side, over the keys of the input and the measures as they are at this moment.
 -- What has no meaning there is null.
+abbrev pub read_layer : Site → List Tuple → Measures → LeafLayer → Outcome
+read_layer site input now (layer.Cell m indices) = cell_value site now m indices
+read_layer site input now (layer.Range agg m places) = range_value site now agg m places
+read_layer site input now (layer.RefCell r m indices) = reference_cell site r m indices
+read_layer site input now (layer.Present indices) = presence site input indices
+read_layer site input now (layer.NotNull m indices) = not_null site now m indices
+read_layer site input now l = inner_layer site l
+
 abbrev pub read : Site → List Tuple → Measures → Leaf → Outcome
-read site input now l = elim (out-Leaf l) [
-  | layer.Cell m indices ↦ cell_value site now m indices
-  | layer.Range agg m places ↦ range_value site now agg m places
-  | layer.RefCell r m indices ↦ reference_cell site r m indices
-  | layer.Present indices ↦ presence site input indices
-  | layer.NotNull m indices ↦ not_null site now m indices
-  | _ ↦ inner_leaves site l ]
+read site input now l = read_layer site input now (out-Leaf l)
 
 -- the leaves of UNTIL: these, and PREVIOUS over the measures as they were when the turn began
+abbrev pub until_layer : Site → List Tuple → Measures → Measures → LeafLayer → Outcome
+until_layer site input now before (layer.Previous m indices) = cell_value site before m indices
+until_layer site input now before l = read_layer site input now l
+
 abbrev pub read_until : Site → List Tuple → Measures → Measures → Leaf → Outcome
-read_until site input now before l = elim (out-Leaf l) [
-  | layer.Previous m indices ↦ cell_value site before m indices
-  | _ ↦ read site input now l ]
+read_until site input now before l = until_layer site input now before (out-Leaf l)
 
 -- what a rule assigns: its right side, converted to the kind of the measure
 abbrev pub right_value : Site → List Tuple → Measures → Rule → Outcome

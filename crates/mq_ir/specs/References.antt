@@ -1,11 +1,10 @@
 -- The arrays of references.
-use Rattle.std.specs.Prelude.{ℕ, List, [], ◌∷◌, ◌++◌, length, map, Option, Some, None, Result, Ok, Err, nat_lt, if◌then◌else◌}
+use Rattle.std.specs.Prelude.{List, [], ◌∷◌, ◌++◌, length, map, Result, Ok, Err, nat_lt, if◌then◌else◌}
 use Rattle.std.specs.Option.{option_map_or}
-use Rattle.mq_values.specs.Convert.{cast_of}
 use Rattle.mq_values.specs.declared.faults.FaultKind.TheVariants as kind
 use Rattle.mq_ir.specs.declared.query.RefPart.{RefPart}
 use Rattle.mq_ir.specs.Items.{items_over, items_at, row_leaves}
-use Rattle.mq_ir.specs.LimitsStub.{REFERENCE_CELLS}
+use Rattle.mq_values.specs.declared.limits.TheConstants.{MAX_CELLS_OF_REFERENCE}
 use Rattle.mq_ir.specs.Partitions.{Tuple, Cells, cells_of, cut, repeated}
 use Rattle.mq_ir.specs.Placed.{Placed, placed_fault}
 use Rattle.mq_ir.specs.Results.{◌>>=◌, each, marked}
@@ -21,7 +20,7 @@ abbrev pub reference_array : List (Tuple × Tuple) → Result Cells Placed
 reference_array rows =
     option_map_or (λ key. Err (placed_fault 0 key kind.NotUnique))
     (repeated (map (λ row. row.0) rows))
-    (if nat_lt REFERENCE_CELLS (length rows) then Err (placed_fault 0 [] kind.TooManyCells) else Ok (cells_of rows))
+    (if nat_lt MAX_CELLS_OF_REFERENCE (length rows) then Err (placed_fault 0 [] kind.TooManyCells) else Ok (cells_of rows))
 
 -- the array of a reference over the items of its query
 abbrev pub reference_of : RefPart → List Tuple → Result Cells Placed

@@ -11,7 +11,7 @@ use Rattle.mq_ir.specs.declared.query.Look.TheVariants.{Measure, Presence}
 use Rattle.mq_ir.specs.declared.query.Rule.{Rule}
 use Rattle.mq_ir.specs.declared.query.SingleLeft.{SingleLeft}
 use Rattle.mq_ir.specs.Keys.{is_among, is_same}
-use Rattle.mq_ir.specs.LimitsStub.{PARTITION_CELLS}
+use Rattle.mq_values.specs.declared.limits.TheConstants.{MAX_CELLS_OF_PARTITION}
 use Rattle.mq_ir.specs.Looks.{looks_of}
 use Rattle.mq_ir.specs.Partitions.{Tuple, Cells, cell_at, with_cell}
 use Rattle.mq_ir.specs.Placed.{Placed, placed_fault, value_fault}
@@ -58,7 +58,7 @@ order_missing act left set found =
 -- why a single left side may not act on these targets, over the cells with those that it creates
 abbrev pub left_fault : Act → SingleLeft → List Tuple → List Tuple → Option Placed
 left_fault act left set found =
-    if nat_lt PARTITION_CELLS (length set) then Some (placed_fault act.number [] kind.TooManyCells)
+    if nat_lt MAX_CELLS_OF_PARTITION (length set) then Some (placed_fault act.number [] kind.TooManyCells)
     else option_map (λ target. placed_fault act.number target kind.SelfOrder) (order_missing act left set found)
 
 -- one target: its measure becomes the value of the right side over the cells as they then stand

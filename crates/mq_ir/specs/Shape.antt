@@ -9,8 +9,8 @@ use Rattle.mq_values.specs.declared.faults.FaultKind.TheVariants as kind
 use Rattle.mq_ir.specs.declared.query.PartShape.{PartShape}
 use Rattle.mq_ir.specs.declared.query.Rule.{Rule}
 use Rattle.mq_ir.specs.declared.query.SingleLeft.{SingleLeft}
-use Rattle.mq_ir.specs.Keys.{each_once, is_same}
-use Rattle.mq_ir.specs.LimitsStub.{PARTITION_CELLS}
+use Rattle.mq_ir.specs.Keys.{each_first, is_same}
+use Rattle.mq_values.specs.declared.limits.TheConstants.{MAX_CELLS_OF_PARTITION}
 use Rattle.mq_ir.specs.Partitions.{Tuple, ascending}
 use Rattle.mq_ir.specs.Placed.{Placed, placed_fault}
 use Rattle.mq_ir.specs.Results.{◌>>=◌, each_in_turn, marked}
@@ -44,7 +44,7 @@ assigns m key a = is_same key a.0 && (m == a.1)
 abbrev pub shape_fault : ℕ → ℕ → List Assignment → List Tuple → List Tuple → Option Placed
 shape_fault number m assigned found set =
     option_or (option_map (λ key. placed_fault number key kind.AssignedTwice) (least_of cmp_key (filter (λ key. list_any (assigns m key) assigned) found)))
-    (if nat_lt PARTITION_CELLS (length set) then Some (placed_fault number [] kind.TooManyCells) else None)
+    (if nat_lt MAX_CELLS_OF_PARTITION (length set) then Some (placed_fault number [] kind.TooManyCells) else None)
 
 -- one single left side
 abbrev pub shape_step : ℕ → Rule → SingleLeft → Growing → Result Growing Placed
@@ -67,4 +67,4 @@ shape_over model keys =
 
 -- the shape that stands where there is a fault of the shape or a cycle: nothing is assigned
 abbrev pub bare_shape : List Tuple → PartShape
-bare_shape keys = record { base = each_once keys; cells = each_once keys; assigned = [] }
+bare_shape keys = record { base = each_first keys; cells = each_first keys; assigned = [] }

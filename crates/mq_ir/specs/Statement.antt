@@ -15,7 +15,7 @@ use Rattle.mq_ir.specs.declared.statement.Change.TheVariants.{Append}
 use Rattle.mq_ir.specs.declared.statement.Schema.{Schema}
 use Rattle.mq_ir.specs.Answer.{answer_of}
 use Rattle.mq_ir.specs.Changes.{Changed, key_fault, rows_added, rows_changed, size_fault, table_of}
-use Rattle.mq_ir.specs.LimitsStub.{FILE_BYTES}
+use Rattle.mq_values.specs.declared.limits.TheConstants.{MAX_FILE_BYTES}
 use Rattle.mq_ir.specs.Lines.{Line, Counted, Done, FaultLine, RefusalLine, RowCount, RowLine}
 use Rattle.mq_ir.specs.Partitions.{Tuple}
 use Rattle.mq_ir.specs.Results.{◌>>=◌}
@@ -83,7 +83,7 @@ drop_table state name =
 -- the bytes of a file that is not too long
 abbrev pub file_bytes : Files → List ℕ → Result (List ℕ) Refused
 file_bytes files name =
-    ok_or (files.bytes_of name) refused.NoFile >>= (λ bytes. if nat_lt FILE_BYTES (length bytes) then Err refused.FileTooLong else Ok bytes)
+    ok_or (files.bytes_of name) refused.NoFile >>= (λ bytes. if nat_lt MAX_FILE_BYTES (length bytes) then Err refused.FileTooLong else Ok bytes)
 
 abbrev pub load_step : Files → State → List ℕ → List ℕ → Result Printed Refused
 load_step files state name file =

@@ -1,5 +1,5 @@
 -- The cells that a single left side assigns.
-use Rattle.std.specs.Prelude.{ℕ, Bool, true, false, not, List, [], ◌∷◌, map, Option, Some, None, slice_index_or, if◌then◌else◌}
+use Rattle.std.specs.Prelude.{Bool, true, false, not, List, [], ◌∷◌, map, if◌then◌else◌}
 use Rattle.std.specs.List.{filter, list_all, list_any, zip}
 use Rattle.std.specs.Ordering.{is_eq, then_cmp}
 use Rattle.std.specs.declared.cmp.Ordering.{Ordering}

@@ -1,5 +1,5 @@
 -- The tests of symbolic places, with their operands evaluated.
-use Rattle.std.specs.Prelude.{List, [], ◌∷◌, Result, Ok, map}
+use Rattle.std.specs.Prelude.{Result, Ok}
 use Rattle.mq_values.specs.Convert.{cast_of}
 use Rattle.mq_values.specs.declared.faults.ValueFault.{ValueFault}
 use Rattle.mq_values.specs.declared.operators.DimTest.{DimTest}

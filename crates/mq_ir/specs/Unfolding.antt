@@ -1,9 +1,8 @@
 -- The single left sides of a rule.
-use Rattle.std.specs.Prelude.{ℕ, suc, ◌+◌, ◌/◌, ◌==◌, pos, negsuc, ℤ, ◌+ℤ◌, ◌-ℤ◌, ◌*ℤ◌, int_le, unsigned_abs, Bool, true, false, List, [], ◌∷◌, length, map, nat_lt, Option, Some, None, Result, Ok, Err, if◌then◌else◌, slice_index_or}
+use Rattle.std.specs.Prelude.{ℕ, suc, ◌/◌, ◌==◌, pos, ℤ, ◌+ℤ◌, ◌-ℤ◌, ◌*ℤ◌, int_le, unsigned_abs, Bool, List, [], ◌∷◌, length, map, nat_lt, Result, Ok, Err, if◌then◌else◌, slice_index_or}
 use Rattle.std.specs.List.{enumerate_from, find, range_with_len, zip}
 use Rattle.std.specs.Option.{option_map_or}
 use Rattle.mq_values.specs.Convert.{cast_of}
-use Rattle.mq_values.specs.Number.{Number}
 use Rattle.mq_values.specs.declared.faults.FaultKind.{FaultKind}
 use Rattle.mq_values.specs.declared.faults.FaultKind.TheVariants as fault
 use Rattle.mq_values.specs.declared.faults.ValueFault.{ValueFault}
@@ -20,14 +19,16 @@ use Rattle.mq_ir.specs.declared.query.LeftItem.{LeftItem}
 use Rattle.mq_ir.specs.declared.query.LeftItem.TheVariants.{At, Sym, List as Listed, Steps}
 use Rattle.mq_ir.specs.declared.query.ListSource.{ListSource}
 use Rattle.mq_ir.specs.declared.query.ListSource.TheVariants.{Values, Rows}
+use Rattle.mq_ir.specs.declared.query.Model.{Model as Lent}
 use Rattle.mq_ir.specs.declared.query.ModelPart.{ModelPart}
+use Rattle.mq_ir.specs.declared.query.RefArray.{RefArray}
 use Rattle.mq_ir.specs.declared.query.Rule.{Rule}
 use Rattle.mq_ir.specs.declared.query.SingleLeft.{SingleLeft}
 use Rattle.mq_ir.specs.declared.query.SinglePlace.{SinglePlace}
 use Rattle.mq_ir.specs.declared.query.SinglePlace.TheVariants as place
 use Rattle.mq_ir.specs.Combinations.{combinations}
-use Rattle.mq_ir.specs.Expression.{Outcome, ev, whole}
-use Rattle.mq_ir.specs.LimitsStub.{SINGLE_LEFT_SIDES}
+use Rattle.mq_ir.specs.Expression.{Outcome, whole}
+use Rattle.mq_values.specs.declared.limits.TheConstants.{MAX_SINGLE_LEFT_SIDES}
 use Rattle.mq_ir.specs.Partitions.{Tuple, Cells}
 use Rattle.mq_ir.specs.Placed.{kind_of}
 use Rattle.mq_ir.specs.Results.{◌>>=◌, each, marked}
@@ -38,6 +39,10 @@ pub record Model : Type 0 where
   pub part : ModelPart
   pub lists : List (List Tuple)
   pub refs : List Cells
+
+-- what a lent model is
+abbrev pub model_of : Lent → Model
+model_of m = record { part = m.part.now; lists = m.lists.now; refs = map (λ (r : RefArray). r.cells) m.refs.now }
 
 -- the expressions of a left side know the turn alone, and see no cells
 abbrev pub left_leaves : ℕ → Leaf → Outcome
@@ -102,4 +107,4 @@ single rule places = record { measure = rule.measure; places = places; order = r
 abbrev pub unfold_rule : Model → Rule → ℕ → Result (List SingleLeft) FaultKind
 unfold_rule model rule turn =
     marked kind_of (left_places model turn rule.left) >>= (λ all.
-    if nat_lt SINGLE_LEFT_SIDES (length all) then Err fault.TooManyUnfolded else Ok (map (single rule) all))
+    if nat_lt MAX_SINGLE_LEFT_SIDES (length all) then Err fault.TooManyUnfolded else Ok (map (single rule) all))

@@ -1,5 +1,5 @@
 -- What an expression is worth: a value, or whether a condition holds.
-use Rattle.std.specs.Prelude.{ℕ, pos, Bool, true, false, not, Result, Ok, Err, Option, Some, None}
+use Rattle.std.specs.Prelude.{ℕ, pos, Bool, true, false, not, Result, Ok, None}
 use Rattle.std.specs.Ordering.{int_eq}
 use Rattle.mq_values.specs.Number.{Number}
 use Rattle.mq_values.specs.Truth.{Truth}
