@@ -23,7 +23,8 @@ module _ {A : Type 0} where
   in_replicate (suc n) zero a b e = some-injective a b e
   in_replicate (suc n) (suc i) a b e = in_replicate n i a b e
 
-  pub map_back : {B : Type 0} (f : A → B) (l : List A) (i : ℕ) (b : B) → get_elem? (map f l) i ≡ some b → (a : A) × (get_elem? l i ≡ some a) × (f a ≡ b)
+  pub map_back : {B : Type 0} (f : A → B) (l : List A) (i : ℕ) (b : B) → get_elem? (map f l) i ≡ some b
+      → (a : A) × (get_elem? l i ≡ some a) × (f a ≡ b)
   map_back f [] i b e = absurd (some-ne-none b (sym e))
   map_back f (x ∷ xs) zero b e = (x, refl, some-injective (f x) b e)
   map_back f (x ∷ xs) (suc i) b e = map_back f xs i b e
@@ -54,4 +55,5 @@ module _ {A : Type 0} where
 
     pub count-none : (n : ℕ) (x : A) → f x ≡ false → count_by f (replicate n x) ≡ 0
     count-none zero x off = refl
-    count-none (suc n) x off = let a = count-cons x (replicate n x) in let b : one x ≡ 0 = ap (λ (t : Bool). cond t 1 0) off in let c = count-none n x off in omega arith
+    count-none (suc n) x off = let a = count-cons x (replicate n x) in let b : one x ≡ 0 = ap (λ (t : Bool). cond t 1 0) off in
+        let c = count-none n x off in omega arith

@@ -1,5 +1,5 @@
 -- The first seat lends a seat out, and takes it back: both keep the rule.
-use Rattle.std.proofs.Common.{◌≡◌, ◌≢◌, ◌⊎◌, ℕ, zero, suc, ◌+◌, ◌-◌, ◌<◌, ◌≤◌, Bool, true, false, cond, eqb, eq-eqb, ne_eqb, Option, Some, None, List, [], ◌∷◌, ◌++◌, map, length, get_or, set, count_by, sym, refl, ap, ap₂, ◌∙◌, subst, ⊎_elim, append-nil, length-set, length-append, arith}
+use Rattle.std.proofs.Common.{◌≡◌, ◌≢◌, ℕ, suc, ◌+◌, ◌-◌, ◌<◌, ◌≤◌, Bool, true, false, cond, eqb, eq-eqb, ne_eqb, Option, Some, None, List, [], ◌∷◌, ◌++◌, map, length, get_or, set, count_by, sym, refl, ap, ap₂, ◌∙◌, subst, ⊎_elim, append-nil, length-set, length-append, arith}
 use Rattle.std.proofs.lemmas.List.{length-map}
 use mathlib.Core.Logic.{dite}
 use mathlib.Core.Option as maybe
@@ -8,15 +8,13 @@ use native.Mathlib.Decide.{ℕ_discrete, dec_lt}
 use lib.ListN.{get_elem?}
 use Rattle.atomic_table.specs.Table.{State, Me, step, keeps, Allows, Splits, Joins}
 use Rattle.atomic_table.proofs.Lists.{at_set, set_here, set_else, set_again, at_longer, at_last, at_map}
-use Rattle.mq_claims.specs.declared.limits.TheConstants.{MAX_SEATS}
-use Rattle.mq_claims.specs.declared.view.Entry.{Entry}
 use Rattle.mq_claims.specs.declared.view.View.{View}
-use Rattle.mq_claims.specs.Machine.{Status, waiting, claimed, held, done, Worker, worker, Machine, machine, Event, splitting, joining, start, IsInHand, handed_over, Run, claims, claimers, is_latest, contents}
+use Rattle.mq_claims.specs.Machine.{Status, waiting, claimed, held, done, Worker, worker, Machine, machine, splitting, joining, IsInHand, handed_over, claims, claimers, is_latest, contents}
 use Rattle.mq_claims.specs.MachineLaws.{is_done}
-use Rattle.mq_claims.specs.Views.{under, newcomer, one_more_away, newcomer_of, joined, spent}
+use Rattle.mq_claims.specs.Views.{newcomer, one_more_away, newcomer_of, joined, spent}
 use Rattle.mq_claims.specs.Rule.{is_live, listed, IsHome, Shows, Follows, Looks}
-use Rattle.mq_claims.proofs.ListLemmas.{there, inside, map_back, count-set, count-snoc, count-map, count-cons}
-use Rattle.mq_claims.proofs.RunLemmas.{untold, Tells, Sound, sound, is_done-handed}
+use Rattle.mq_claims.proofs.ListLemmas.{there, inside, map_back, count-set, count-snoc, count-map}
+use Rattle.mq_claims.proofs.RunLemmas.{untold, Tells, sound, is_done-handed}
 use Rattle.mq_claims.proofs.RuleLemmas.{off, snoc_back, under-append, seat_by}
 
 module _ {P : Type 0} where
@@ -40,17 +38,21 @@ module _ {P : Type 0} where
   in_hand_owns id (done v p) e = absurd e
 
   -- an owner is one of the workers
-  owner_there : (ws : List Worker) (i c : ℕ) (who : List ℕ) (latest : ℕ → Bool) (what : List P) (st : Status P) (id : ℕ) → Tells ws i c who latest what st → Owner id st → id < length ws
+  owner_there : (ws : List Worker) (i c : ℕ) (who : List ℕ) (latest : ℕ → Bool) (what : List P) (st : Status P) (id : ℕ)
+      → Tells ws i c who latest what st → Owner id st → id < length ws
   owner_there ws i c who latest what waiting id h o = absurd o
   owner_there ws i c who latest what (claimed v) id h o = subst (λ (j : ℕ). j < length ws) o (inside ws v _ h.4)
   owner_there ws i c who latest what (held v) id h o = subst (λ (j : ℕ). j < length ws) o (inside ws v _ h.4)
   owner_there ws i c who latest what (done v p) id h o = subst (λ (j : ℕ). j < length ws) o (inside ws v _ h.3.1)
 
   -- a worker that was told none has nothing in hand
-  told_has_none : (ws : List Worker) (i c : ℕ) (who : List ℕ) (latest : ℕ → Bool) (what : List P) (st : Status P) (id : ℕ) → Tells ws i c who latest what st → get_elem? ws id ≡ some (worker true true) → ¬ (IsInHand id st)
+  told_has_none : (ws : List Worker) (i c : ℕ) (who : List ℕ) (latest : ℕ → Bool) (what : List P) (st : Status P) (id : ℕ)
+      → Tells ws i c who latest what st → get_elem? ws id ≡ some (worker true true) → ¬ (IsInHand id st)
   told_has_none ws i c who latest what waiting id h told o = o
-  told_has_none ws i c who latest what (claimed v) id h told o = untold true true (some-injective _ _ (sym told ∙ ap (get_elem? ws) (sym o) ∙ h.4))
-  told_has_none ws i c who latest what (held v) id h told o = untold true true (some-injective _ _ (sym told ∙ ap (get_elem? ws) (sym o) ∙ h.4))
+  told_has_none ws i c who latest what (claimed v) id h told o = untold true true (some-injective _ _ (sym told
+      ∙ ap (get_elem? ws) (sym o) ∙ h.4))
+  told_has_none ws i c who latest what (held v) id h told o = untold true true (some-injective _ _ (sym told
+      ∙ ap (get_elem? ws) (sym o) ∙ h.4))
   told_has_none ws i c who latest what (done v p) id h told o = o
 
   module _ (handed : List P) where
@@ -74,7 +76,8 @@ module _ {P : Type 0} where
         fresh = record {
           same_handed = λ live. shows.same_handed (shows.as_first first).1;
           as_worker = at_last k.machine.workers (worker true false) (length k.machine.workers) refl;
-          lists = λ i st e. sym (not_listed (length k.machine.workers) st (λ o. let lt = owner_there k.machine.workers i _ _ _ _ st (length k.machine.workers) (tells i st e) o in omega arith));
+          lists = λ i st e. sym (not_listed (length k.machine.workers) st
+              (λ o. let lt = owner_there k.machine.workers i _ _ _ _ st (length k.machine.workers) (tells i st e) o in omega arith));
           no_more = λ i le. refl;
           has_out = λ i st e o. let lt = owner_there k.machine.workers i _ _ _ _ st (length k.machine.workers) (tells i st e) (in_hand_owns (length k.machine.workers) st o) in absurd (omega arith);
           in_hand = λ b. off refl b;
@@ -95,11 +98,13 @@ module _ {P : Type 0} where
           no_more = shows.no_more;
           has_out = shows.has_out;
           in_hand = shows.in_hand;
-          as_first = λ f. let h = shows.as_first f in let a = one_live in let b = one_longer in let c = h.2 in let d = h.3 in (h.0, h.1, omega arith, omega arith);
+          as_first = λ f. let h = shows.as_first f in let a = one_live in let b = one_longer in let c = h.2 in let d = h.3 in
+              (h.0, h.1, omega arith, omega arith);
         }
 
         -- a seat beside the first one
-        beside : (j : ℕ) (u : View P) → j ≢ id → Shows handed k.machine j u → Shows handed (machine k.machine.next k.machine.pieces more) j u
+        beside : (j : ℕ) (u : View P) → j ≢ id → Shows handed k.machine j u
+            → Shows handed (machine k.machine.next k.machine.pieces more) j u
         beside j u ne old = record {
           same_handed = old.same_handed;
           as_worker = at_longer k.machine.workers (worker true false ∷ []) j _ old.as_worker;
@@ -118,7 +123,11 @@ module _ {P : Type 0} where
             k.machine,
             k.run,
             (
-              (v.told, ap (get_elem? k.machine.workers) (sym (shows.as_first first).0) ∙ shows.as_worker ∙ ap (λ (b : Bool). some (worker b v.told)) (shows.as_first first).1),
+              (
+                v.told,
+                ap (get_elem? k.machine.workers) (sym (shows.as_first first).0) ∙ shows.as_worker ∙ ap
+                    (λ (b : Bool). some (worker b v.told)) (shows.as_first first).1,
+              ),
               (let d = (shows.as_first first).3 in omega arith),
               refl,
             ),
@@ -126,12 +135,14 @@ module _ {P : Type 0} where
           few = k.few;
           words = k.words;
           slots = k.slots;
-          seats = length-append (set s.views id (one_more_away v)) (newcomer_of v ∷ []) ∙ ap (λ (n : ℕ). n + 1) (length-set s.views id (one_more_away v) ∙ k.seats) ∙ sym one_longer;
+          seats = length-append (set s.views id (one_more_away v)) (newcomer_of v ∷ []) ∙ ap
+              (λ (n : ℕ). n + 1) (length-set s.views id (one_more_away v) ∙ k.seats) ∙ sym one_longer;
           homes = k.homes;
           views = λ j u e. ⊎_elim
               (λ x. seat_by handed s.views k.machine (machine k.machine.next k.machine.pieces more) id (one_more_away v) k.views (lent left) (λ i w ne a old. beside i w ne old) j u x)
               (λ (x : (j ≡ length (set s.views id (one_more_away v))) × (newcomer_of v ≡ u)). subst (Shows handed (machine k.machine.next k.machine.pieces more) j) x.1
-              (subst (λ (i : ℕ). Shows handed (machine k.machine.next k.machine.pieces more) i (newcomer_of v)) (sym (x.0 ∙ length-set s.views id (one_more_away v) ∙ k.seats)) fresh))
+              (subst (λ (i : ℕ). Shows handed (machine k.machine.next k.machine.pieces more) i (newcomer_of v)) (sym (x.0
+              ∙ length-set s.views id (one_more_away v) ∙ k.seats)) fresh))
               (snoc_back (set s.views id (one_more_away v)) (newcomer_of v) u j e);
         }
 
@@ -139,22 +150,29 @@ module _ {P : Type 0} where
     splits id v first left s k at = follows_split s k id v at first left
 
   -- what a joined worker did is in the other's list
-  both_listed : (id other : ℕ) (st : Status P) → id ≢ other → ¬ (IsInHand other st) → listed id st ++ listed other st ≡ listed id (handed_over id other st)
+  both_listed : (id other : ℕ) (st : Status P) → id ≢ other → ¬ (IsInHand other st)
+      → listed id st ++ listed other st ≡ listed id (handed_over id other st)
   both_listed id other waiting ne free = refl
-  both_listed id other (claimed u) ne free = ap (λ (l : List (Option P)). listed id (claimed u) ++ l) (not_listed other (claimed u) free) ∙ append-nil (listed id (claimed u))
-  both_listed id other (held u) ne free = ap (λ (l : List (Option P)). listed id (held u) ++ l) (not_listed other (held u) free) ∙ append-nil (listed id (held u))
+  both_listed id other (claimed u) ne free = ap
+      (λ (l : List (Option P)). listed id (claimed u) ++ l) (not_listed other (claimed u) free) ∙ append-nil (listed id (claimed u))
+  both_listed id other (held u) ne free = ap (λ (l : List (Option P)). listed id (held u) ++ l) (not_listed other (held u) free)
+      ∙ append-nil (listed id (held u))
   both_listed id other (done u p) ne free = dite (ℕ_discrete u other)
       (λ e. let hit = eq-eqb u other e in
-      ap₂ (λ (a b : List (Option P)). a ++ b) (not_listed id (done u p) (λ x. ne (sym x ∙ e))) (ap (λ (t : Bool). cond t (Some p ∷ []) []) hit)
-      ∙ sym (ap (λ (t : Bool). cond t (Some p ∷ []) []) (eq-eqb id id refl)) ∙ sym (ap (λ (t : Bool). listed id (done (cond t id u) p)) hit))
-      (λ n. ap (λ (l : List (Option P)). listed id (done u p) ++ l) (not_listed other (done u p) n) ∙ append-nil (listed id (done u p)) ∙ sym (ap (λ (t : Bool). listed id (done (cond t id u) p)) (ne_eqb u other n)))
+      ap₂ (λ (a b : List (Option P)). a ++ b) (not_listed id (done u p) (λ x. ne (sym x ∙ e))) (ap
+      (λ (t : Bool). cond t (Some p ∷ []) []) hit)
+      ∙ sym (ap (λ (t : Bool). cond t (Some p ∷ []) []) (eq-eqb id id refl)) ∙ sym (ap
+      (λ (t : Bool). listed id (done (cond t id u) p)) hit))
+      (λ n. ap (λ (l : List (Option P)). listed id (done u p) ++ l) (not_listed other (done u p) n) ∙ append-nil (listed id (done u p))
+      ∙ sym (ap (λ (t : Bool). listed id (done (cond t id u) p)) (ne_eqb u other n)))
 
   same_listed : (j id other : ℕ) (st : Status P) → j ≢ id → j ≢ other → listed j st ≡ listed j (handed_over id other st)
   same_listed j id other waiting n m = refl
   same_listed j id other (claimed u) n m = refl
   same_listed j id other (held u) n m = refl
   same_listed j id other (done u p) n m = dite (ℕ_discrete u other)
-      (λ e. not_listed j (done u p) (λ x. m (sym x ∙ e)) ∙ sym (not_listed j (done id p) (λ x. n (sym x))) ∙ sym (ap (λ (t : Bool). listed j (done (cond t id u) p)) (eq-eqb u other e)))
+      (λ e. not_listed j (done u p) (λ x. m (sym x ∙ e)) ∙ sym (not_listed j (done id p) (λ x. n (sym x))) ∙ sym (ap
+      (λ (t : Bool). listed j (done (cond t id u) p)) (eq-eqb u other e)))
       (λ ne. sym (ap (λ (t : Bool). listed j (done (cond t id u) p)) (ne_eqb u other ne)))
 
   spent_listed : (id other : ℕ) (st : Status P) → id ≢ other → ¬ (IsInHand other st) → [] ≡ listed other (handed_over id other st)
@@ -171,7 +189,8 @@ module _ {P : Type 0} where
   hand_stays j id other (held u) h = h
   hand_stays j id other (done u p) h = h
 
-  home_stays : (home : maybe.Option (maybe.Option (Option P))) (handed : maybe.Option P) (id other : ℕ) (st : Status P) → IsHome home handed st → IsHome home handed (handed_over id other st)
+  home_stays : (home : maybe.Option (maybe.Option (Option P))) (handed : maybe.Option P) (id other : ℕ) (st : Status P)
+      → IsHome home handed st → IsHome home handed (handed_over id other st)
   home_stays home handed id other waiting h = h
   home_stays home handed id other (claimed u) h = h
   home_stays home handed id other (held u) h = h
@@ -213,7 +232,8 @@ module _ {P : Type 0} where
     same_hand : (j : ℕ) (u : View P) → Shows handed k.machine j u → u.busy ≡ true → get_elem? pieces' u.hand ≡ some (claimed j)
     same_hand j u old busy = at_map (handed_over id other) k.machine.pieces u.hand (claimed j) (old.in_hand busy)
 
-    same_out : (j : ℕ) (u : View P) → Shows handed k.machine j u → (i : ℕ) (st : Status P) → get_elem? pieces' i ≡ some st → IsInHand j st → (u.busy ≡ true) × (i ≡ u.hand)
+    same_out : (j : ℕ) (u : View P) → Shows handed k.machine j u → (i : ℕ) (st : Status P) → get_elem? pieces' i ≡ some st
+        → IsInHand j st → (u.busy ≡ true) × (i ≡ u.hand)
     same_out j u old i st e mine = let b = map_back (handed_over id other) k.machine.pieces i st e in old.has_out i b.0 b.1 (hand_stays j id other b.0 (subst (IsInHand j) (sym b.2) mine))
 
     live_left : (n : ℕ) → count_by is_live k.machine.workers ≡ suc n → count_by is_live workers' ≡ suc (n - 1)
@@ -236,8 +256,10 @@ module _ {P : Type 0} where
       same_handed = into.same_handed;
       as_worker = set_else k.machine.workers other id (worker false true) ne ∙ into.as_worker;
       lists = λ i st e. let b = map_back (handed_over id other) k.machine.pieces i st e in
-          under-append i v.entries w.entries ∙ ap₂ (λ (x y : List (Option P)). x ++ y) (into.lists i b.0 b.1) (from.lists i b.0 b.1) ∙ both_listed id other b.0 ne (free i b.0 b.1) ∙ ap (listed id) b.2;
-      no_more = λ i le. let l = size in under-append i v.entries w.entries ∙ ap₂ (λ (x y : List (Option P)). x ++ y) (into.no_more i (omega arith)) (from.no_more i (omega arith));
+          under-append i v.entries w.entries ∙ ap₂ (λ (x y : List (Option P)). x ++ y) (into.lists i b.0 b.1) (from.lists i b.0 b.1)
+          ∙ both_listed id other b.0 ne (free i b.0 b.1) ∙ ap (listed id) b.2;
+      no_more = λ i le. let l = size in under-append i v.entries w.entries ∙ ap₂
+          (λ (x y : List (Option P)). x ++ y) (into.no_more i (omega arith)) (from.no_more i (omega arith));
       has_out = same_out id v into;
       in_hand = same_hand id v into;
       as_first = λ f. let h = into.as_first f in let a = live_left v.away h.2 in let b = wide in let c = h.3 in (h.0, h.1, a, omega arith);
@@ -247,7 +269,8 @@ module _ {P : Type 0} where
     aside j u n m old = record {
       same_handed = old.same_handed;
       as_worker = set_else k.machine.workers other j (worker false true) m ∙ old.as_worker;
-      lists = λ i st e. let b = map_back (handed_over id other) k.machine.pieces i st e in old.lists i b.0 b.1 ∙ same_listed j id other b.0 n m ∙ ap (listed j) b.2;
+      lists = λ i st e. let b = map_back (handed_over id other) k.machine.pieces i st e in old.lists i b.0 b.1
+          ∙ same_listed j id other b.0 n m ∙ ap (listed j) b.2;
       no_more = λ i le. let l = size in old.no_more i (omega arith);
       has_out = same_out j u old;
       in_hand = same_hand j u old;
@@ -265,16 +288,20 @@ module _ {P : Type 0} where
       seats = length-set (set s.views id (joined v w)) other spent ∙ length-set s.views id (joined v w) ∙ k.seats ∙ sym wide;
       homes = λ i st e. let b = map_back (handed_over id other) k.machine.pieces i st e in subst (IsHome (get_elem? s.homes i) (get_elem? handed i)) b.2 (home_stays (get_elem? s.homes i) (get_elem? handed i) id other b.0 (k.homes i b.0 b.1));
       views = λ j u e. ⊎_elim
-          (λ (x : (j ≡ other) × (spent ≡ u)). subst (Shows handed after j) x.1 (subst (λ (i : ℕ). Shows handed after i spent) (sym x.0) gone))
+          (λ (x : (j ≡ other) × (spent ≡ u)). subst (Shows handed after j) x.1 (subst
+          (λ (i : ℕ). Shows handed after i spent) (sym x.0) gone))
           (λ (x : (j ≢ other) × (get_elem? (set s.views id (joined v w)) j ≡ some u)). ⊎_elim
-          (λ (y : (j ≡ id) × (joined v w ≡ u)). subst (Shows handed after j) y.1 (subst (λ (i : ℕ). Shows handed after i (joined v w)) (sym y.0) gains))
+          (λ (y : (j ≡ id) × (joined v w ≡ u)). subst (Shows handed after j) y.1 (subst
+          (λ (i : ℕ). Shows handed after i (joined v w)) (sym y.0) gains))
           (λ (y : (j ≢ id) × (get_elem? s.views j ≡ some u)). aside j u y.0 x.0 (k.views j u y.1)) (at_set s.views id j (joined v w) u x.1))
           (at_set (set s.views id (joined v w)) other j spent u e);
     }
 
-  pub joins : (handed : List P) (id other : ℕ) (v w : View P) → v.first ≡ true → w.live ≡ true → w.told ≡ true → Joins (Follows handed) id v other w (joined v w) spent
+  pub joins : (handed : List P) (id other : ℕ) (v w : View P) → v.first ≡ true → w.live ≡ true → w.told ≡ true
+      → Joins (Follows handed) id v other w (joined v w) spent
   joins handed id other v w first live told s k at apart there =
-      follows_join handed s k id other v w at (sym (set_else s.views id other (joined v w) apart) ∙ there) (λ e. apart (sym e)) first live told
+      follows_join handed s k id other v w at (sym (set_else s.views id other (joined v w) apart) ∙ there)
+      (λ e. apart (sym e)) first live told
 
   one_or_none : (t : Bool) (x : Option P) → length (cond t (x ∷ []) []) ≤ 1
   one_or_none true x = omega arith
@@ -286,7 +313,8 @@ module _ {P : Type 0} where
   at_most_one id (held w) = one_or_none (eqb w id) None
   at_most_one id (done w p) = one_or_none (eqb w id) (Some p)
 
-  pub looks : (handed : List P) (slots id : ℕ) (me : Me (Option P) (View P)) → Allows (Follows handed) slots id me 0 (λ n. n) (Looks (step slots 0 0 0 none) me)
+  pub looks : (handed : List P) (slots id : ℕ) (me : Me (Option P) (View P)) → Allows (Follows handed) slots id me 0
+      (λ n. n) (Looks (step slots 0 0 0 none) me)
   looks handed slots id me s k long at bound = (
     me.0,
     keeps,
@@ -305,7 +333,8 @@ module _ {P : Type 0} where
     (
       refl,
       λ j. let shows = k.views id me.0 at in dite (dec_lt j (length k.machine.pieces))
-          (λ lt. let st = there k.machine.pieces j lt in subst (λ (l : List (Option P)). length l ≤ 1) (sym (shows.lists j st.0 st.1)) (at_most_one id st.0))
+          (λ lt. let st = there k.machine.pieces j lt in subst
+          (λ (l : List (Option P)). length l ≤ 1) (sym (shows.lists j st.0 st.1)) (at_most_one id st.0))
           (λ ge. subst (λ (l : List (Option P)). length l ≤ 1) (sym (shows.no_more j (omega (arith, ge)))) (omega arith)),
     ),
   )

@@ -10,7 +10,7 @@ use Rattle.mq_claims.specs.declared.view.View.{View}
 use Rattle.mq_claims.specs.declared.view.Setting.{Setting}
 use Rattle.mq_claims.specs.Machine.{Status, waiting, claimed, held, done, Worker, worker, Machine, Event, start, IsInHand, Run}
 use Rattle.mq_claims.specs.MachineLaws.{is_done}
-use Rattle.mq_claims.specs.Views.{entry, under, AllBelow, NoTwice, beginner, with_claim, told_none, with_put}
+use Rattle.mq_claims.specs.Views.{under, AllBelow, NoTwice, beginner, with_claim, told_none, with_put}
 
 abbrev pub is_live : Worker → Bool
 is_live x = x.live

@@ -126,9 +126,11 @@ fn work_by_fours(
     pairs: ((Seat<usize>, Seat<usize>), (Seat<usize>, Seat<usize>)),
     turns: usize,
 ) -> Option<((Seat<usize>, Seat<usize>), (Seat<usize>, Seat<usize>))>
-    requires own { IsSeatOf board.now pairs.0.0 × IsSeatOf board.now pairs.0.1 × IsSeatOf board.now pairs.1.0 × IsSeatOf board.now pairs.1.1 }
+    requires own { IsSeatOf board.now pairs.0.0 × IsSeatOf board.now pairs.0.1 }
+    requires others_own { IsSeatOf board.now pairs.1.0 × IsSeatOf board.now pairs.1.1 }
     requires free { MayClaim pairs.0.0 × MayClaim pairs.0.1 × MayClaim pairs.1.0 × MayClaim pairs.1.1 }
-    ensures own { IfSome result (λ r. IsSeatOf board.now r.0.0 × IsSeatOf board.now r.0.1 × IsSeatOf board.now r.1.0 × IsSeatOf board.now r.1.1) }
+    ensures own { IfSome result (λ r. IsSeatOf board.now r.0.0 × IsSeatOf board.now r.0.1) }
+    ensures others_own { IfSome result (λ r. IsSeatOf board.now r.1.0 × IsSeatOf board.now r.1.1) }
     ensures told { IfSome result (λ r. IsFinished r.0.0 × IsFinished r.0.1 × IsFinished r.1.0 × IsFinished r.1.1) }
     ensures first { IfSome result (λ r. IsAsFirst pairs.0.0 r.0.0) }
 {
@@ -137,12 +139,14 @@ fn work_by_fours(
         rt,
         move ||
             requires { IsSeatOf board.now pair.0 × MayClaim pair.0 × IsSeatOf board.now pair.1 × MayClaim pair.1 }
-            ensures own { IfSome result (λ r. IsSeatOf board.entry.now r.0 × IsFinished r.0 × IsSeatOf board.entry.now r.1 × IsFinished r.1) }
+            ensures own { IfSome result (λ r. IsSeatOf board.entry.now r.0 × IsSeatOf board.entry.now r.1) }
+            ensures told { IfSome result (λ r. IsFinished r.0 × IsFinished r.1) }
             ensures first { IfSome result (λ r. IsAsFirst pair.0 r.0) }
         { work_beside(rt, board, pair.0, pair.1, turns) },
         move ||
             requires { IsSeatOf board.now others.0 × MayClaim others.0 × IsSeatOf board.now others.1 × MayClaim others.1 }
-            ensures { IfSome result (λ r. IsSeatOf board.entry.now r.0 × IsFinished r.0 × IsSeatOf board.entry.now r.1 × IsFinished r.1) }
+            ensures own { IfSome result (λ r. IsSeatOf board.entry.now r.0 × IsSeatOf board.entry.now r.1) }
+            ensures told { IfSome result (λ r. IsFinished r.0 × IsFinished r.1) }
         { work_beside(rt, board, others.0, others.1, turns) },
     );
     Some((pair?, others?))

@@ -1,6 +1,5 @@
-use Rattle.std.proofs.Common.{◌≡◌, ◌-◌, ◌≤◌, Some, [], ◌∷◌, map, length, sym, subst, rules}
+use Rattle.std.proofs.Common.{◌≡◌, ◌-◌, Some, [], ◌∷◌, map, sym, subst, rules}
 use Rattle.atomic_table.specs.Table.{opening}
-use Rattle.mq_claims.specs.declared.limits.TheConstants.{MAX_PIECES}
 use Rattle.mq_claims.specs.Rule.{Follows}
 use Rattle.mq_claims.specs.Views.{beginner}
 use Rattle.mq_claims.proofs.EndLemmas.{begins}

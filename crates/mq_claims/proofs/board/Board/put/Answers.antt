@@ -1,4 +1,4 @@
-use Rattle.std.proofs.Common.{◌≡◌, ap, rules}
+use Rattle.std.proofs.Common.{rules}
 use Rattle.mq_claims.proofs.PutLemmas.{puts}
 use Rattle.mq_claims.proofs.board.Board.put.Goals as goal
 
