@@ -12,6 +12,8 @@ pub mod Inputs
 pub mod LineLemmas
 pub mod ListLemmas
 pub mod MarkLemmas
+pub mod OrderedLemmas
+pub mod RepeatLemmas
 pub mod RunLemmas
 pub mod SortLemmas
 pub mod Walks

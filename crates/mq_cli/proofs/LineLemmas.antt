@@ -5,7 +5,7 @@ use Rattle.std.specs.List.{list_any}
 use Rattle.mq_values.specs.Print.{printed}
 use Rattle.mq_values.specs.declared.value.Value.{Value}
 use Rattle.mq_cli.specs.Places.{placed_value}
-use Rattle.mq_ir.specs.Lines.{Line, RowLine, RowCount, text_of, line_text, joined_by, is_flaw}
+use Rattle.mq_cli.specs.Lines.{Line, RowLine, RowCount, text_of, line_text, joined_by, is_flaw}
 
 -- the line of a row
 abbrev pub row_text : List Value → List ℕ

@@ -8,8 +8,8 @@ use Rattle.std.proofs.KnownBytes.{Appends-nil, Appends-trans}
 use Rattle.mq_io.specs.ProgressLemmas.{AppendsFront-after, AppendsFront-of_part}
 use Rattle.mq_lexer.specs.declared.script.Statement as code
 use Rattle.mq_lexer.specs.Statements.{Statement, statement}
-use Rattle.mq_ir.specs.Lines.{Line, text_of, is_flaw}
-use Rattle.mq_ir.specs.Tables.{Tables}
+use Rattle.mq_cli.specs.Lines.{Line, text_of, is_flaw}
+use Rattle.mq_cli.specs.Tables.{Tables}
 use Rattle.mq_cli.specs.Script.{statement_step, lines_from}
 use Rattle.mq_cli.proofs.LineLemmas.{text_of-append}
 

@@ -4,10 +4,10 @@ use Rattle.std.specs.List.{list_any}
 use Rattle.mq_lexer.specs.Lexemes.{Lexeme}
 use Rattle.mq_lexer.specs.Statements.{Statement, statements}
 use Rattle.mq_lexer.specs.Tokens.{tokens}
-use Rattle.mq_ir.specs.Lines.{Line, SyntaxError, text_of, is_flaw}
-use Rattle.mq_ir.specs.Statement.{step}
-use Rattle.mq_ir.specs.Tables.{Tables}
-use Rattle.mq_ir.specs.declared.statement.Bound.{Bound}
+use Rattle.mq_cli.specs.Lines.{Line, SyntaxError, text_of, is_flaw}
+use Rattle.mq_cli.specs.Statement.{step}
+use Rattle.mq_cli.specs.Tables.{Tables}
+use Rattle.mq_cli.specs.declared.first.statement.Bound.{Bound}
 use Rattle.mq_cli.specs.Binding.{bound_of}
 use Rattle.mq_cli.specs.Grammar.{read}
 use Rattle.mq_cli.specs.Marks.{marks}

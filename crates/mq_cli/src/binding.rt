@@ -3,18 +3,18 @@
 ghost use Rattle.std.specs.Prelude.{◌≡◌, [], ◌∷◌, IfOk, IfSome, map, position};
 ghost use Rattle.mq_cli.specs.Binding as spec;
 ghost use Rattle.mq_cli.specs.Fitting.{has_name};
-ghost use Rattle.mq_ir.specs.Tables.{table_at};
+ghost use Rattle.mq_cli.specs.Tables.{table_at};
 
 use crate::binds::{Binds, each};
 use crate::catalog::Catalog;
+use crate::first::{
+    Bound, BoundQuery, BoundSum, Change, Column, Expr, FromPart, ItemPart, Leaf, LeftItem,
+    ModelPart, Row, Rule, Schema, TableDef,
+};
 use crate::fitting::{create_fits, insert_fits, select_fits};
 use crate::tree::{
     ColumnTree, CreateTree, InsertTree, Literal, ModelTree, NextTerm, RowTree, RuleTree,
     SelectTree, Term, Tree,
-};
-use mq_ir::{
-    Bound, BoundQuery, BoundSum, Change, Column, Expr, FromPart, ItemPart, Leaf, LeftItem,
-    ModelPart, Row, Rule, Schema, TableDef,
 };
 use mq_values::{Boxed, Items, Kind, Memory, Num, Shared, SumOp, Value, Words};
 use std::alloc::Global;

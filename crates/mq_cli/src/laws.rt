@@ -1,5 +1,9 @@
-//! The reader and the binding are exact, and so is SYNTAX: laws on functions that do nothing (docs/MEANING.md, "Reading").
+//! Laws on functions that do nothing: the reader and the binding are exact, and so is SYNTAX (docs/MEANING.md,
+//! "Reading"); the rows of an answer are in order, and NOT_UNIQUE names the least tuple (docs/MEANING.md, "Answers").
 
+ghost use Rattle.std.specs.Prelude.{List};
+ghost use Rattle.mq_cli.specs.AnswerLaws.{LeastOfTwo, RisesWithAll};
+ghost use Rattle.mq_cli.specs.Partitions.{Tuple};
 ghost use Rattle.mq_cli.specs.ExactReading.{ReadsExactly, BindsExactly, RefusesExactly};
 
 /// Marks are read as a tree exactly where the grammar spells that tree by them.
@@ -18,4 +22,15 @@ pub fn binds_what_fits()
 #[tactic(auto, using(crate::proofs::ExactReadingLemmas::refuses_exactly))]
 pub fn refuses_all_else()
     ensures { RefusesExactly }
+{}
+
+/// The rows of an answer come out in order, each as often as it went in (docs/MEANING.md, "Answers").
+pub fn rows_rise()
+    ensures { (rows : List Tuple) → RisesWithAll rows }
+{}
+
+/// The dimension tuple of NOT_UNIQUE stands twice and no lesser one does; where there is none, no tuple stands
+/// twice (docs/MEANING.md, "Answers").
+pub fn least_of_two()
+    ensures { (keys : List Tuple) → LeastOfTwo keys }
 {}

@@ -9,6 +9,7 @@ mod binds;
 mod catalog;
 mod cells;
 mod evaluate;
+mod first;
 mod fitting;
 mod laws;
 mod lines;

@@ -6,7 +6,7 @@ ghost use Rattle.std.specs.Io.KnownBytes.{Appends, IsAtEnd};
 ghost use Rattle.mq_io.specs.Causes.{Rose};
 ghost use Rattle.mq_io.specs.Progress.{AppendsFront, GaveMore};
 ghost use Rattle.mq_lexer.specs.Statements as lexer;
-ghost use Rattle.mq_ir.specs.Lines.{is_flaw, text_of};
+ghost use Rattle.mq_cli.specs.Lines.{is_flaw, text_of};
 ghost use Rattle.mq_cli.specs.Script.{lines_from, script_lines, output_of, status_of, statement_step};
 
 use crate::catalog::Catalog;

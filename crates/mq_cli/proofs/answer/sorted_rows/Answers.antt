@@ -2,7 +2,7 @@ use Rattle.std.proofs.Common.{◌≡◌, ◌++◌, map, sym, ap, ◌∙◌}
 use Rattle.std.proofs.lemmas.List.{append-nil}
 use Rattle.mq_values.specs.Order.{cmp_key}
 use Rattle.mq_values.specs.OrderLaws.{key_total}
-use Rattle.mq_ir.specs.Answer.{ascending, sort_columns}
+use Rattle.mq_cli.specs.Answer.{ascending, sort_columns}
 use Rattle.mq_cli.proofs.Identity.{exact_keys}
 use Rattle.mq_cli.proofs.SortLemmas.{sorted_is_ascending}
 use Rattle.mq_cli.proofs.answer.sorted_rows.Goals as goal
