@@ -7,7 +7,6 @@ pub mod ExactReadingLemmas
 pub mod ExactStatementLemmas
 pub mod Exits
 pub mod FitsLemmas
-pub mod Identity
 pub mod Inputs
 pub mod LineLemmas
 pub mod ListLemmas

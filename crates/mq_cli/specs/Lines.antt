@@ -1,5 +1,5 @@
 -- The lines that statements print, as data and as text.
-use Rattle.std.specs.Prelude.{ℕ, List, [], ◌∷◌, ◌++◌, Bool, true, false, codes, map}
+use Rattle.std.specs.Prelude.{ℕ, List, [], ◌∷◌, ◌++◌, Bool, true, false, codes, map, slice_index}
 use Rattle.std.specs.List.{join_with_byte}
 use Rattle.std.specs.Prelude.{decimal}
 use Rattle.mq_values.specs.Print.{printed}
@@ -34,26 +34,33 @@ fault_name kind.TooManyCells = codes "TOO_MANY_CELLS"
 fault_name kind.TooManyUnfolded = codes "TOO_MANY_UNFOLDED"
 fault_name kind.TooManyRows = codes "TOO_MANY_ROWS"
 
+-- the byte between the values of a row, and that between the values of a key
+abbrev pub BAR : ℕ
+BAR = slice_index (codes "|") 0
+
+abbrev pub COMMA : ℕ
+COMMA = slice_index (codes ",") 0
+
 -- the printed values of a tuple, with this byte between them
 abbrev pub joined_by : ℕ → List Value → List ℕ
 joined_by separator values = join_with_byte separator (map printed values)
 
 -- a key as it stands in a fault
 abbrev pub key_text : List Value → List ℕ
-key_text values = codes "(" ++ (joined_by 44 values ++ codes ")")
+key_text values = codes "(" ++ (joined_by COMMA values ++ codes ")")
 
 -- a line's text, without the LF at its end
 abbrev pub line_body : Line → List ℕ
 line_body Done = codes "ok"
 line_body (Counted n) = codes "ok " ++ decimal n
-line_body (RowLine values) = joined_by 124 values
+line_body (RowLine values) = joined_by BAR values
 line_body (RowCount n) = codes "rows " ++ decimal n
 line_body (FaultLine f) =
     codes "fault " ++ (fault_name f.kind ++ (codes " rule " ++ (decimal f.rule ++ (codes " partition " ++ (key_text f.partition ++ (codes " cell " ++ key_text f.cell))))))
 line_body (SyntaxError line) = codes "error line " ++ (decimal line ++ codes ": SYNTAX")
 
 abbrev pub line_text : Line → List ℕ
-line_text line = line_body line ++ 10 ∷ []
+line_text line = line_body line ++ codes "\n"
 
 -- lines, one after another
 abbrev pub text_of : List Line → List ℕ

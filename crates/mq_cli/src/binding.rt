@@ -19,7 +19,7 @@ use crate::tree::{
 use mq_values::{Boxed, Items, Kind, Memory, Num, Shared, SumOp, Value, Words};
 use std::alloc::Global;
 
-/// What the tree is bound to, or `None` where it does not fit the tables (docs/LANGUAGE.md, "Statements").
+/// What the tree is bound to, or `None` where it does not fit the tables (docs/LANGUAGE.md, "Statements of today").
 pub fn bind(alloc: Global, catalog: &Catalog, tree: &Tree) -> Result<Option<Bound>, Memory>
     ensures bound { IfOk result (λ b. b ≡ spec.bound_of catalog.now tree.now) }
     ensures new { IfOk result (λ b. IfSome b (spec.IsNew catalog.now)) }

@@ -1,24 +1,25 @@
 //! Laws on functions that do nothing: the reader and the binding are exact, and so is SYNTAX (docs/MEANING.md,
-//! "Reading"); the rows of an answer are in order, and NOT_UNIQUE names the least tuple (docs/MEANING.md, "Answers").
+//! "Scripts"); the rows of an answer are in order, and NOT_UNIQUE names the least tuple (docs/MEANING.md, "Answers").
 
 ghost use Rattle.std.specs.Prelude.{List};
 ghost use Rattle.mq_cli.specs.AnswerLaws.{LeastOfTwo, RisesWithAll};
 ghost use Rattle.mq_cli.specs.Partitions.{Tuple};
 ghost use Rattle.mq_cli.specs.ExactReading.{ReadsExactly, BindsExactly, RefusesExactly};
 
-/// Marks are read as a tree exactly where the grammar spells that tree by them.
+/// Marks are read as a tree exactly where the grammar spells that tree by them (docs/MEANING.md, "Scripts").
 #[tactic(auto, using(crate::proofs::ExactReadingLemmas::reads_exactly))]
 pub fn reads_what_is_spelled()
     ensures { ReadsExactly }
 {}
 
-/// A tree is bound exactly where it fits the tables.
+/// A tree is bound exactly where it fits the tables (docs/MEANING.md, "Scripts").
 #[tactic(auto, using(crate::proofs::FitsLemmas::binds_exactly))]
 pub fn binds_what_fits()
     ensures { BindsExactly }
 {}
 
-/// A statement is refused as SYNTAX exactly where its tokens spell no tree of the grammar that fits the tables.
+/// A statement is refused as SYNTAX exactly where its tokens spell no tree of the grammar that fits the tables
+/// (docs/MEANING.md, "Scripts").
 #[tactic(auto, using(crate::proofs::ExactReadingLemmas::refuses_exactly))]
 pub fn refuses_all_else()
     ensures { RefusesExactly }

@@ -22,7 +22,7 @@ use mq_values::{Fail, Items, Memory};
 use std::alloc::Global;
 
 /// Does a statement, appends its lines to `out`, and answers whether one of them is an error or a fault
-/// (docs/MEANING.md, "Statements"). What is no statement, or does not fit the tables, alters nothing.
+/// (docs/MEANING.md, "Scripts"). What is no statement, or does not fit the tables, alters nothing.
 #[tactic(auto, unfolding(crate::specs::Script::statement_step))]
 pub fn do_statement(
     alloc: Global,
