@@ -3,8 +3,8 @@ use Rattle.std.proofs.Common.{◌≡◌, ℕ, true, false, cond, List, [], ◌�
 use Rattle.std.specs.Cmp.Lexicographic.{pointwise}
 use Rattle.std.specs.Map.{lookup, set_value}
 use Rattle.mq_values.specs.declared.value.Value.{Value}
-use Rattle.mq_ir.specs.Tables.{Tables, with_rows}
-use Rattle.mq_ir.specs.declared.statement.Table.{Table}
+use Rattle.mq_cli.specs.Tables.{Tables, with_rows}
+use Rattle.mq_cli.specs.declared.first.statement.Table.{Table}
 
 abbrev pub longer : Table → List (List Value) → Table
 longer t rows = record t { rows = t.rows ++ rows }

@@ -3,13 +3,13 @@ use Rattle.std.proofs.Common.{◌≡◌, ℕ, ◌+◌, ◌<◌, List, [], ◌∷
 use Rattle.mq_values.specs.declared.operators.SumOp.{SumOp}
 use Rattle.mq_values.specs.declared.faults.ValueFault.{ValueFault}
 use Rattle.mq_values.specs.declared.value.Value.{Value}
-use Rattle.mq_ir.specs.declared.expression.BoundSum.{BoundSum}
-use Rattle.mq_ir.specs.declared.expression.Expr.{Expr}
-use Rattle.mq_ir.specs.declared.expression.Expr.TheVariants as expr
-use Rattle.mq_ir.specs.declared.expression.Leaf.{Leaf}
-use Rattle.mq_ir.specs.Expression.{Outcome, chained, combined, ev, term_value}
-use Rattle.mq_ir.specs.ExpressionLaws.{ev_sum}
-use Rattle.mq_ir.specs.Results.{◌>>=◌}
+use Rattle.mq_cli.specs.declared.first.expression.BoundSum.{BoundSum}
+use Rattle.mq_cli.specs.declared.first.expression.Expr.{Expr}
+use Rattle.mq_cli.specs.declared.first.expression.Expr.TheVariants as expr
+use Rattle.mq_cli.specs.declared.first.expression.Leaf.{Leaf}
+use Rattle.mq_cli.specs.Expression.{Outcome, chained, combined, ev, term_value}
+use Rattle.mq_cli.specs.ExpressionLaws.{ev_sum}
+use Rattle.mq_cli.specs.Results.{◌>>=◌}
 use Rattle.mq_cli.proofs.Exits.{next_item}
 
 -- a chain that begins with a fault is that fault

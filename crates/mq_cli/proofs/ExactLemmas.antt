@@ -24,9 +24,6 @@ got x ts = Some (x, ts)
 pub some_same : {A : Type 0} {a b : A} → Some a ≡ Some b → a ≡ b
 some_same e = cc
 
-pub bytes_eq-same : (v : List ℕ) → bytes_eq v v ≡ true
-bytes_eq-same v = (bytes_eq-Decides v v).1 refl
-
 pub word_sound : (w : List ℕ) (ts u : List Mark) → past_word w ts ≡ Some u → word w u ≡ ts
 word_sound w [] u e = absurd cc
 word_sound w (Word v ∷ ts) u e =

@@ -84,9 +84,6 @@ cell_full c rest is stops =
 cell_longer : (c : CellTree) (rest : List Mark) → length rest ≤ length (cell_spelled c rest)
 cell_longer c rest = omega (arith, literal_longer c.place.minus c.place.whole (Sign (codes "]") ∷ rest))
 
-pub cell_exact : Exact read_cell cell_spelled IsCell Always
-cell_exact = record { sound = cell_sound; full = cell_full; longer = cell_longer }
-
 -- ---- terms
 
 term_from : (literal : Bool) (ts : List Mark) (t : Term) (rest : List Mark)

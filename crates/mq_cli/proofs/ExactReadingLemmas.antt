@@ -4,14 +4,14 @@ use Rattle.std.specs.List.{list_any}
 use Rattle.mq_values.specs.declared.value.Value.{Value}
 use Rattle.mq_lexer.specs.Lexemes.{Lexeme}
 use Rattle.mq_lexer.specs.Statements.{Statement}
-use Rattle.mq_ir.specs.Answer.{answer_of}
-use Rattle.mq_ir.specs.Lines.{RowLine, RowCount, SyntaxError}
-use Rattle.mq_ir.specs.Statement.{step, answer_lines}
-use Rattle.mq_ir.specs.Tables.{Tables}
-use Rattle.mq_ir.specs.declared.query.Answer.{Answer}
-use Rattle.mq_ir.specs.declared.query.Answer.TheVariants.{Rows, Fault}
-use Rattle.mq_ir.specs.declared.statement.Bound.{Bound}
-use Rattle.mq_ir.specs.declared.statement.Bound.TheVariants as bound
+use Rattle.mq_cli.specs.Answer.{answer_of}
+use Rattle.mq_cli.specs.Lines.{RowLine, RowCount, SyntaxError}
+use Rattle.mq_cli.specs.Statement.{step, answer_lines}
+use Rattle.mq_cli.specs.Tables.{Tables}
+use Rattle.mq_cli.specs.declared.first.query.Answer.{Answer}
+use Rattle.mq_cli.specs.declared.first.query.Answer.TheVariants.{Rows, Fault}
+use Rattle.mq_cli.specs.declared.first.statement.Bound.{Bound}
+use Rattle.mq_cli.specs.declared.first.statement.Bound.TheVariants as bound
 use Rattle.mq_cli.specs.Binding.{bound_of}
 use Rattle.mq_cli.specs.Fits.{Fits}
 use Rattle.mq_cli.specs.Grammar.{read}

@@ -6,10 +6,10 @@ use Rattle.std.specs.Str.{bytes_eq}
 use Rattle.std.proofs.lemmas.Slice.Eq.{bytes_eq-Decides}
 use Rattle.std.proofs.lemmas.Bool.Decides.{Decides-eqb, Decides-at, Decides-like, Decides-not, Decides-and, Decides-or, Decides-by_and}
 use Rattle.std.proofs.lemmas.List.Folds.{list_any-append, Any-from_list_any, list_any-from_Any}
-use Rattle.mq_ir.specs.Tables.{Tables, table_at}
-use Rattle.mq_ir.specs.declared.statement.Column.{Column}
-use Rattle.mq_ir.specs.declared.statement.Table.{Table}
-use Rattle.mq_ir.specs.declared.statement.Bound.{Bound}
+use Rattle.mq_cli.specs.Tables.{Tables, table_at}
+use Rattle.mq_cli.specs.declared.first.statement.Column.{Column}
+use Rattle.mq_cli.specs.declared.first.statement.Table.{Table}
+use Rattle.mq_cli.specs.declared.first.statement.Bound.{Bound}
 use Rattle.mq_cli.specs.Binding.{bound_insert, bound_select, bound_of}
 use Rattle.mq_cli.specs.Fitting.{none_repeats, create_fits, row_fits, insert_fits, term_fits, next_fits, rule_fits, has_name, has_column, model_fits, is_in_model, order_fits, select_fits}
 use Rattle.mq_cli.specs.Fits.{CreateFits, InsertFits, TermFits, RuleFits, IsColumnOf, ModelFits, IsOfModel, SelectFits, Fits}

@@ -7,10 +7,10 @@ use Rattle.std.specs.Prelude.{if◌then◌else◌}
 use Rattle.mq_values.specs.Order.{cmp_key}
 use Rattle.mq_values.specs.OrderLaws.{key_total}
 use Rattle.mq_values.specs.declared.faults.ValueFault.{ValueFault}
-use Rattle.mq_ir.specs.declared.query.ItemPart.{ItemPart}
-use Rattle.mq_ir.specs.Items.{base_rows, items_of, input_rows}
-use Rattle.mq_ir.specs.Partitions.{Tuple, Cells, cell_at, with_cell, cells_of, cut, lesser, least_from, repeats, repeated}
-use Rattle.mq_ir.specs.Results.{◌>>=◌, each}
+use Rattle.mq_cli.specs.declared.first.query.ItemPart.{ItemPart}
+use Rattle.mq_cli.specs.Items.{base_rows, items_of, input_rows}
+use Rattle.mq_cli.specs.Partitions.{Tuple, Cells, cell_at, with_cell, cells_of, cut, lesser, least_from, repeats, repeated}
+use Rattle.mq_cli.specs.Results.{◌>>=◌, each}
 use Rattle.mq_cli.specs.PartTaking.{input_row, all_taken, no_input}
 use Rattle.mq_cli.specs.declared.partition.PartInput.{PartInput}
 use Rattle.mq_cli.proofs.CellLemmas.{found_after_put, any_more, any_again}

@@ -7,11 +7,12 @@ pub mod ExactReadingLemmas
 pub mod ExactStatementLemmas
 pub mod Exits
 pub mod FitsLemmas
-pub mod Identity
 pub mod Inputs
 pub mod LineLemmas
 pub mod ListLemmas
 pub mod MarkLemmas
+pub mod OrderedLemmas
+pub mod RepeatLemmas
 pub mod RunLemmas
 pub mod SortLemmas
 pub mod Walks

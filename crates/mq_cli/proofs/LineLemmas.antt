@@ -5,7 +5,7 @@ use Rattle.std.specs.List.{list_any}
 use Rattle.mq_values.specs.Print.{printed}
 use Rattle.mq_values.specs.declared.value.Value.{Value}
 use Rattle.mq_cli.specs.Places.{placed_value}
-use Rattle.mq_ir.specs.Lines.{Line, RowLine, RowCount, text_of, line_text, joined_by, is_flaw}
+use Rattle.mq_cli.specs.Lines.{Line, RowLine, RowCount, text_of, line_text, joined_by, is_flaw}
 
 -- the line of a row
 abbrev pub row_text : List Value → List ℕ
@@ -34,10 +34,7 @@ no_flaw (r ∷ rs) n = no_flaw rs n
 pub no_flaw_line : (rows : List (List Value)) → list_any is_flaw (map RowLine rows ++ RowCount (length rows) ∷ []) ≡ false
 no_flaw_line rows = no_flaw rows (length rows)
 
--- the first value has no byte before it, and each other one has
-pub joined_first : (c : ℕ) (x : Value) → joined_by c ([] ++ x ∷ []) ≡ printed x
-joined_first c x = refl
-
+-- each value but the first has a byte before it
 pub joined_next : (c : ℕ) (a : Value) (xs : List Value) (x : Value) → joined_by c ((a ∷ xs) ++ x ∷ []) ≡ joined_by c (a ∷ xs) ++ (c ∷ printed x)
 joined_next c a [] x = refl
 joined_next c a (b ∷ xs) x = ap (λ t. printed a ++ (c ∷ t)) (joined_next c b xs x) ∙ sym (append_assoc (printed a) (c ∷ joined_by c (b ∷ xs)) (c ∷ printed x))

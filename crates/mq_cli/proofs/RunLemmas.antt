@@ -1,17 +1,22 @@
 -- A run, one statement after another.
-use Rattle.std.proofs.Common.{◌≡◌, ℕ, zero, suc, ◌+◌, ◌<◌, ◌≤◌, length, get_or, drop, map, List, [], ◌∷◌, ◌++◌, Bool, false, ◌||◌, Option, refl, sym, ap, ◌∙◌, subst, append_assoc, append-nil, arith}
+use Rattle.std.proofs.Common.{◌≡◌, ℕ, zero, suc, ◌+◌, ◌<◌, ◌≤◌, length, get_or, drop, map, List, [], ◌∷◌, ◌++◌, Bool, false, ◌||◌, Option, Some, None, refl, sym, ap, ◌∙◌, subst, append_assoc, append-nil, arith}
 use Rattle.std.specs.List.{list_any}
 use Rattle.std.proofs.lemmas.List.Folds.{list_any-append}
 use Rattle.std.specs.Io.KnownBytes.{Appends}
-use Rattle.mq_io.specs.Progress.{AppendsFront}
+use Rattle.mq_io.specs.Progress.{AppendsFront, GaveAtMost}
 use Rattle.std.proofs.KnownBytes.{Appends-nil, Appends-trans}
 use Rattle.mq_io.specs.ProgressLemmas.{AppendsFront-after, AppendsFront-of_part}
 use Rattle.mq_lexer.specs.declared.script.Statement as code
 use Rattle.mq_lexer.specs.Statements.{Statement, statement}
-use Rattle.mq_ir.specs.Lines.{Line, text_of, is_flaw}
-use Rattle.mq_ir.specs.Tables.{Tables}
+use Rattle.mq_cli.specs.Lines.{Line, text_of, is_flaw}
+use Rattle.mq_cli.specs.Tables.{Tables}
 use Rattle.mq_cli.specs.Script.{statement_step, lines_from}
 use Rattle.mq_cli.proofs.LineLemmas.{text_of-append}
+
+-- a source that is not touched gave nothing
+pub gave_nothing : (n : ℕ) (left : Option (List ℕ)) → GaveAtMost n left left
+gave_nothing n None = tt
+gave_nothing n (Some bytes) = omega arith
 
 -- what was done of all statements, once the rest is left: with the lines of the rest it makes the lines of all
 pub record RunSoFar (before now : Option (List ℕ)) (faults_before faults_now : ℕ) (tables : Tables) (flaw : Bool) (all rest : List Statement) : Type 0 where

@@ -8,8 +8,8 @@ use Rattle.std.specs.List.Sorted.{IsPermutation, IsSorted}
 use Rattle.std.proofs.lemmas.List.Sums.{sum_by-cons}
 use Rattle.std.proofs.lemmas.List.Sorted.{ranks_by, sorted_far, sum_by-IsPermutation}
 use Rattle.std.proofs.lemmas.Map.Lookups.{CmpEqualImpliesEq}
-use Rattle.mq_ir.specs.Answer.{placed, ascending}
-use Rattle.mq_ir.proofs.Orders.{Low, Rising, rising_ascending}
+use Rattle.mq_cli.specs.Answer.{placed, ascending}
+use Rattle.mq_cli.proofs.OrderedLemmas.{Low, Rising, rising_ascending}
 
 -- how often an item stands in a list that is not told apart from q
 abbrev one : Ordering → ℕ

@@ -1,7 +1,7 @@
 -- A loop that takes steps of which each may fail, one for each item of a list.
 use Rattle.std.proofs.Common.{◌≡◌, ℕ, ◌+◌, ◌<◌, ◌≤◌, List, [], ◌∷◌, ◌++◌, drop, length, get_or, Result, Ok, Err, refl, sym, ap, ◌∙◌, append_assoc}
 use Rattle.std.proofs.lemmas.List.{append-nil, drop_all}
-use Rattle.mq_ir.specs.Results.{◌>>=◌, each}
+use Rattle.mq_cli.specs.Results.{◌>>=◌, each}
 use Rattle.mq_cli.proofs.Exits.{next_item}
 
 -- the first i items gave ys

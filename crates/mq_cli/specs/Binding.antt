@@ -5,22 +5,22 @@ use Rattle.mq_values.specs.declared.value.Kind.TheVariants.{Int}
 use Rattle.mq_values.specs.declared.value.Value.{Value}
 use Rattle.mq_values.specs.declared.value.Value.TheVariants as value
 use Rattle.mq_values.specs.declared.operators.SumOp.TheVariants.{Add, Sub}
-use Rattle.mq_ir.specs.Tables.{Tables, table_at}
-use Rattle.mq_ir.specs.declared.expression.Expr.{Expr}
-use Rattle.mq_ir.specs.declared.expression.Expr.TheVariants as e
-use Rattle.mq_ir.specs.declared.expression.BoundSum.{BoundSum}
-use Rattle.mq_ir.specs.declared.expression.Leaf.TheVariants as leaf
-use Rattle.mq_ir.specs.declared.query.Rule.{Rule}
-use Rattle.mq_ir.specs.declared.query.ModelPart.{ModelPart}
-use Rattle.mq_ir.specs.declared.query.BoundQuery.{BoundQuery}
-use Rattle.mq_ir.specs.declared.query.LeftItem.TheVariants.{At}
-use Rattle.mq_ir.specs.declared.statement.Column.{Column}
-use Rattle.mq_ir.specs.declared.statement.Table.{Table}
-use Rattle.mq_ir.specs.declared.statement.TableDef.{TableDef}
-use Rattle.mq_ir.specs.declared.statement.Change.{Change}
-use Rattle.mq_ir.specs.declared.statement.Change.TheVariants.{Append}
-use Rattle.mq_ir.specs.declared.statement.Bound.{Bound}
-use Rattle.mq_ir.specs.declared.statement.Bound.TheVariants as bound
+use Rattle.mq_cli.specs.Tables.{Tables, table_at}
+use Rattle.mq_cli.specs.declared.first.expression.Expr.{Expr}
+use Rattle.mq_cli.specs.declared.first.expression.Expr.TheVariants as e
+use Rattle.mq_cli.specs.declared.first.expression.BoundSum.{BoundSum}
+use Rattle.mq_cli.specs.declared.first.expression.Leaf.TheVariants as leaf
+use Rattle.mq_cli.specs.declared.first.query.Rule.{Rule}
+use Rattle.mq_cli.specs.declared.first.query.ModelPart.{ModelPart}
+use Rattle.mq_cli.specs.declared.first.query.BoundQuery.{BoundQuery}
+use Rattle.mq_cli.specs.declared.first.query.LeftItem.TheVariants.{At}
+use Rattle.mq_cli.specs.declared.first.statement.Column.{Column}
+use Rattle.mq_cli.specs.declared.first.statement.Table.{Table}
+use Rattle.mq_cli.specs.declared.first.statement.TableDef.{TableDef}
+use Rattle.mq_cli.specs.declared.first.statement.Change.{Change}
+use Rattle.mq_cli.specs.declared.first.statement.Change.TheVariants.{Append}
+use Rattle.mq_cli.specs.declared.first.statement.Bound.{Bound}
+use Rattle.mq_cli.specs.declared.first.statement.Bound.TheVariants as bound
 use Rattle.mq_cli.specs.Fitting.{create_fits, insert_fits, select_fits, has_name}
 use Rattle.mq_cli.specs.declared.tree.Literal.{Literal}
 use Rattle.mq_cli.specs.declared.tree.Term.{Term}

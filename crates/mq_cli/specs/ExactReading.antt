@@ -3,10 +3,10 @@ use Rattle.std.specs.Prelude.{◌≡◌, ◌≢◌, ◌↔◌, Bool, true, false
 use Rattle.std.specs.Bool.{Decides}
 use Rattle.std.specs.List.{list_any}
 use Rattle.mq_lexer.specs.Statements.{Statement}
-use Rattle.mq_ir.specs.Lines.{Line, SyntaxError}
-use Rattle.mq_ir.specs.Statement.{step}
-use Rattle.mq_ir.specs.Tables.{Tables}
-use Rattle.mq_ir.specs.declared.statement.Bound.{Bound}
+use Rattle.mq_cli.specs.Lines.{Line, SyntaxError}
+use Rattle.mq_cli.specs.Statement.{step}
+use Rattle.mq_cli.specs.Tables.{Tables}
+use Rattle.mq_cli.specs.declared.first.statement.Bound.{Bound}
 use Rattle.mq_cli.specs.Binding.{bound_of}
 use Rattle.mq_cli.specs.Fits.{Fits}
 use Rattle.mq_cli.specs.Grammar.{read}

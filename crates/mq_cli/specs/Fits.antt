@@ -1,9 +1,9 @@
 -- Where a statement fits the tables as they stand. `Fitting` has the same as tests.
 use Rattle.std.specs.Prelude.{◌≡◌, ◌≢◌, ◌⊎◌, ℕ, List, length, None, All, IfSome, IsSomeAnd}
 use Rattle.std.specs.List.{Any, AllPairs}
-use Rattle.mq_ir.specs.Tables.{Tables, table_at}
-use Rattle.mq_ir.specs.declared.statement.Column.{Column}
-use Rattle.mq_ir.specs.declared.statement.Table.{Table}
+use Rattle.mq_cli.specs.Tables.{Tables, table_at}
+use Rattle.mq_cli.specs.declared.first.statement.Column.{Column}
+use Rattle.mq_cli.specs.declared.first.statement.Table.{Table}
 use Rattle.mq_cli.specs.declared.tree.Term.{Term}
 use Rattle.mq_cli.specs.declared.tree.Term.TheVariants as term
 use Rattle.mq_cli.specs.declared.tree.NextTerm.{NextTerm}

@@ -1,8 +1,8 @@
 -- Which statements fit the tables as they stand.
 use Rattle.std.specs.Prelude.{ℕ, Bool, true, not, ◌&&◌, ◌||◌, ◌==◌, List, [], ◌∷◌, ◌++◌, length, Option, Some, None, bytes_eq, is_some}
 use Rattle.std.specs.List.{list_any, list_all}
-use Rattle.mq_ir.specs.Tables.{Tables, table_at}
-use Rattle.mq_ir.specs.declared.statement.Column.{Column}
+use Rattle.mq_cli.specs.Tables.{Tables, table_at}
+use Rattle.mq_cli.specs.declared.first.statement.Column.{Column}
 use Rattle.mq_cli.specs.declared.tree.Term.{Term}
 use Rattle.mq_cli.specs.declared.tree.Term.TheVariants as term
 use Rattle.mq_cli.specs.declared.tree.NextTerm.{NextTerm}

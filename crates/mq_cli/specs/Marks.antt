@@ -2,10 +2,11 @@
 use Rattle.std.specs.Prelude.{ℕ, List, map, ◌&&◌, nat_le, if◌then◌else◌, Option, Some, None}
 use Rattle.std.specs.Char.{is_ascii_digit}
 use Rattle.std.specs.List.{fold, list_all}
+use Rattle.mq_values.specs.declared.limits.TheConstants.{MAX_MANTISSA}
 use Rattle.mq_lexer.specs.declared.sorts.Sort.{Sort}
 use Rattle.mq_lexer.specs.declared.sorts.Sort.TheVariants as sort
 use Rattle.mq_lexer.specs.Lexemes.{Lexeme}
-use Rattle.mq_lexer.specs.Tokens.{with_digit}
+use Rattle.mq_lexer.specs.Numbers.{with_digit}
 use Rattle.mq_lexer.specs.Words.{folded}
 
 pub data Mark : Type 0 where
@@ -17,13 +18,9 @@ pub data Mark : Type 0 where
   -- what the grammar has no use for
   Other : Mark
 
--- the greatest whole number
-abbrev pub GREATEST : ℕ
-GREATEST = 170141183460469231731687303715884105727
-
--- the whole number that digits spell, and nothing where there is a point or a number above the greatest
+-- the whole number that digits spell, and nothing where there is a point or a number that is too great
 abbrev pub whole_of : List ℕ → Option ℕ
-whole_of text = if list_all is_ascii_digit text && nat_le (fold with_digit 0 text) GREATEST then Some (fold with_digit 0 text) else None
+whole_of text = if list_all is_ascii_digit text && nat_le (fold with_digit 0 text) MAX_MANTISSA then Some (fold with_digit 0 text) else None
 
 -- the whole number that a token is
 abbrev pub whole_by : Sort → List ℕ → Option ℕ

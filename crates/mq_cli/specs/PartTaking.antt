@@ -1,10 +1,10 @@
 -- One row of the input of a partition.
 use Rattle.std.specs.Prelude.{ℕ, List, [], ◌∷◌, None, Result, Ok, if◌then◌else◌, is_some}
 use Rattle.mq_values.specs.declared.faults.ValueFault.{ValueFault}
-use Rattle.mq_ir.specs.declared.query.ItemPart.{ItemPart}
-use Rattle.mq_ir.specs.Items.{items_of}
-use Rattle.mq_ir.specs.Results.{◌>>=◌}
-use Rattle.mq_ir.specs.Partitions.{Tuple, cell_at, cut, with_cell, lesser}
+use Rattle.mq_cli.specs.declared.first.query.ItemPart.{ItemPart}
+use Rattle.mq_cli.specs.Items.{items_of}
+use Rattle.mq_cli.specs.Results.{◌>>=◌}
+use Rattle.mq_cli.specs.Partitions.{Tuple, cell_at, cut, with_cell, lesser}
 use Rattle.mq_cli.specs.declared.partition.PartInput.{PartInput}
 
 -- its cell where there is none at its tuple yet, else its tuple as one that stands twice

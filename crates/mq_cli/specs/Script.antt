@@ -1,13 +1,15 @@
 -- What a script prints.
-use Rattle.std.specs.Prelude.{◌≡◌, ℕ, Bool, List, [], ◌∷◌, ◌++◌, Option, Some, None, if◌then◌else◌}
+use Rattle.std.specs.Prelude.{◌≡◌, ◌⊎◌, ◌≤◌, ℕ, Bool, List, [], ◌∷◌, ◌++◌, length, Option, Some, None, IsUtf8, if◌then◌else◌}
 use Rattle.std.specs.List.{list_any}
+use Rattle.mq_values.specs.declared.limits.TheConstants.{MAX_SCRIPT_BYTES}
 use Rattle.mq_lexer.specs.Lexemes.{Lexeme}
 use Rattle.mq_lexer.specs.Statements.{Statement, statements}
 use Rattle.mq_lexer.specs.Tokens.{tokens}
-use Rattle.mq_ir.specs.Lines.{Line, SyntaxError, text_of, is_flaw}
-use Rattle.mq_ir.specs.Statement.{step}
-use Rattle.mq_ir.specs.Tables.{Tables}
-use Rattle.mq_ir.specs.declared.statement.Bound.{Bound}
+use Rattle.mq_cli.specs.Lines.{Line, SyntaxError, text_of, is_flaw}
+use Rattle.mq_cli.specs.Statement.{step}
+use Rattle.mq_cli.specs.Tables.{Tables}
+use Rattle.mq_cli.specs.declared.first.statement.Bound.{Bound}
+use Rattle.mq_cli.specs.declared.statuses.TheConstants.{DONE, FLAWED, NOT_UTF8}
 use Rattle.mq_cli.specs.Binding.{bound_of}
 use Rattle.mq_cli.specs.Grammar.{read}
 use Rattle.mq_cli.specs.Marks.{marks}
@@ -30,6 +32,10 @@ abbrev pub lines_from : Tables → List Statement → List Line
 lines_from tables [] = []
 lines_from tables (s ∷ ss) = (statement_step tables s).1 ++ lines_from (statement_step tables s).0 ss
 
+-- bytes that are a script: not too many, and UTF-8
+abbrev pub IsScript : List ℕ → Type 0
+IsScript bytes = (length bytes ≤ MAX_SCRIPT_BYTES) × IsUtf8 bytes
+
 -- the lines of a script, which starts with no tables
 unfoldable pub script_lines : List ℕ → List Line
 script_lines text = lines_from [] (statements (tokens text))
@@ -39,7 +45,15 @@ output_of text = text_of (script_lines text)
 
 -- the status of a run that was not cut short
 abbrev pub status_of : List Line → ℕ
-status_of lines = if list_any is_flaw lines then 1 else 0
+status_of lines = if list_any is_flaw lines then FLAWED else DONE
+
+-- the statuses of runs that were not cut short
+abbrev pub IsWhole : ℕ → Type 0
+IsWhole status = (status ≡ DONE) ⊎ (status ≡ FLAWED)
+
+-- the statuses are numbered from DONE to NOT_UTF8
+abbrev pub IsStatus : ℕ → Type 0
+IsStatus status = status ≤ NOT_UTF8
 
 -- a statement did what is meant: to the tables, to the bytes written, and in saying whether a line is an error or a fault
 abbrev pub Steps : Tables × List Line → Tables → List ℕ → List ℕ → Bool → Type 0

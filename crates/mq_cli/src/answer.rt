@@ -2,12 +2,12 @@
 ghost use Rattle.std.specs.Prelude.{◌≡◌, ◌++◌, drop, map, slice_index_or, IfOk, OnOk};
 ghost use Rattle.mq_values.specs.Answers.{Gives};
 ghost use Rattle.mq_values.specs.Order.{cmp_key};
-ghost use Rattle.mq_ir.specs.Answer.{answer_over, ascending, columns_at, model_cells as cells_meant, printed_rows, rows_answered, sort_columns};
+ghost use Rattle.mq_cli.specs.Answer.{answer_over, ascending, columns_at, model_cells as cells_meant, printed_rows, rows_answered, sort_columns};
 
 use crate::cells::Cells;
+use crate::first::{Answer, BoundQuery, Row};
 use crate::partition::{PartInput, input_rows, part_input};
 use crate::sequential::{fault_at, run_seq};
-use mq_ir::{Answer, BoundQuery, Row};
 use mq_values::{Fail, FaultKind, Items, Key, Memory, QueryFault, Shared, Value};
 use std::alloc::Global;
 

@@ -2,7 +2,7 @@
 ghost use Rattle.std.specs.Prelude.{◌<◌};
 
 use crate::answer::answer;
-use mq_ir::{
+use crate::first::{
     Answer, BoundQuery, BoundSum, Expr, FromPart, ItemPart, Leaf, LeftItem, ModelPart, Row, Rule,
 };
 use mq_values::{Boxed, FaultKind, Items, Key, Kind, Num, Shared, SumOp, Value, Words};

@@ -3,23 +3,23 @@
 ghost use Rattle.std.specs.Prelude.{◌≡◌, [], ◌∷◌, IfOk, IfSome, map, position};
 ghost use Rattle.mq_cli.specs.Binding as spec;
 ghost use Rattle.mq_cli.specs.Fitting.{has_name};
-ghost use Rattle.mq_ir.specs.Tables.{table_at};
+ghost use Rattle.mq_cli.specs.Tables.{table_at};
 
 use crate::binds::{Binds, each};
 use crate::catalog::Catalog;
+use crate::first::{
+    Bound, BoundQuery, BoundSum, Change, Column, Expr, FromPart, ItemPart, Leaf, LeftItem,
+    ModelPart, Row, Rule, Schema, TableDef,
+};
 use crate::fitting::{create_fits, insert_fits, select_fits};
 use crate::tree::{
     ColumnTree, CreateTree, InsertTree, Literal, ModelTree, NextTerm, RowTree, RuleTree,
     SelectTree, Term, Tree,
 };
-use mq_ir::{
-    Bound, BoundQuery, BoundSum, Change, Column, Expr, FromPart, ItemPart, Leaf, LeftItem,
-    ModelPart, Row, Rule, Schema, TableDef,
-};
 use mq_values::{Boxed, Items, Kind, Memory, Num, Shared, SumOp, Value, Words};
 use std::alloc::Global;
 
-/// What the tree is bound to, or `None` where it does not fit the tables (docs/LANGUAGE.md, "Statements").
+/// What the tree is bound to, or `None` where it does not fit the tables (docs/LANGUAGE.md, "Statements of today").
 pub fn bind(alloc: Global, catalog: &Catalog, tree: &Tree) -> Result<Option<Bound>, Memory>
     ensures bound { IfOk result (λ b. b ≡ spec.bound_of catalog.now tree.now) }
     ensures new { IfOk result (λ b. IfSome b (spec.IsNew catalog.now)) }

@@ -2,10 +2,10 @@
 
 ghost use Rattle.std.specs.Prelude.{◌≡◌, [], ◌∷◌, ◌++◌, None, OnOk};
 ghost use Rattle.std.specs.Option.{option_copied};
-ghost use Rattle.mq_ir.specs.Tables.{table_at, with_rows};
+ghost use Rattle.mq_cli.specs.Tables.{table_at, with_rows};
 
+use crate::first::{Row, Table};
 use indexmap::IndexMap;
-use mq_ir::{Row, Table};
 use mq_values::{Items, Memory, Words};
 use std::alloc::Global;
 use std::marker::Model;
@@ -17,7 +17,7 @@ pub struct Catalog {
 }
 
 impl Model for Catalog {
-    ghost use Rattle.mq_ir.specs.Tables.{Tables};
+    ghost use Rattle.mq_cli.specs.Tables.{Tables};
 
     ghost Value = { Tables };
 

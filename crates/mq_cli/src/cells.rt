@@ -1,7 +1,7 @@
 //! The cells of a partition, ascending by their dimension tuples.
 ghost use Rattle.std.specs.Prelude.{◌≡◌, [], OnOk, OnErr};
 ghost use Rattle.std.specs.Option.{option_copied};
-ghost use Rattle.mq_ir.specs.Partitions.{cell_at, with_cell};
+ghost use Rattle.mq_cli.specs.Partitions.{cell_at, with_cell};
 
 use mq_values::{Key, Memory};
 use std::alloc::Global;

@@ -1,14 +1,14 @@
 //! The value of an expression, or the first fault on the way to it.
 ghost use Rattle.std.specs.Prelude.{◌≡◌, [], ◌∷◌, Ok, map, IfOk};
 ghost use Rattle.mq_values.specs.Answers.{Gives};
-ghost use Rattle.mq_ir.specs.Expression.{Outcome, as_value, ev, combined, chained, term_value};
-ghost use Rattle.mq_ir.specs.Items.{row_leaves};
-ghost use Rattle.mq_ir.specs.Results.{each};
-ghost use Rattle.mq_ir.specs.Sequential.{no_leaves, cell_leaves, measure_at as measure_of};
-ghost use Rattle.mq_ir.specs.declared.expression.Leaf.{Leaf};
+ghost use Rattle.mq_cli.specs.Expression.{Outcome, as_value, ev, combined, chained, term_value};
+ghost use Rattle.mq_cli.specs.Items.{row_leaves};
+ghost use Rattle.mq_cli.specs.Results.{each};
+ghost use Rattle.mq_cli.specs.Sequential.{no_leaves, cell_leaves, measure_at as measure_of};
+ghost use Rattle.mq_cli.specs.declared.first.expression.Leaf.{Leaf};
 
 use crate::cells::Cells;
-use mq_ir::{BoundSum, Expr, Leaf, Row};
+use crate::first::{BoundSum, Expr, Leaf, Row};
 use mq_values::{
     Fail, Items, Key, Memory, Num, Shared, SumOp, Value, ValueFault, add, concat, sub,
 };
@@ -26,7 +26,7 @@ pub trait Leaves {
 /// The value of `e`, or its first fault, where `leaves` gives the values of its leaves
 /// (docs/MEANING.md, "Expressions").
 #[cycle(evaluation)]
-#[tactic(auto, using(mq_ir::specs::ExpressionLaws::ev_laws))]
+#[tactic(auto, using(crate::specs::ExpressionLaws::ev_laws))]
 pub fn eval<L: Leaves>(alloc: Global, e: &Expr, leaves: &L) -> Result<Value, Fail<ValueFault>>
     ensures { Gives result (ev (L.gives leaves.now) e.now) }
 {

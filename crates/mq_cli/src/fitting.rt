@@ -3,15 +3,15 @@
 ghost use Rattle.std.specs.Prelude.{◌≡◌, [], None, IfOk};
 ghost use Rattle.std.specs.Bool.{OnTrue};
 ghost use Rattle.std.specs.List.{list_all};
-ghost use Rattle.mq_ir.specs.Tables.{table_at};
+ghost use Rattle.mq_cli.specs.Tables.{table_at};
 ghost use Rattle.mq_cli.specs.Fitting as spec;
 
 use crate::catalog::Catalog;
+use crate::first::Column;
 use crate::tree::{
     ColumnTree, CreateTree, InsertTree, ModelTree, NextTerm, RowTree, RuleTree, SelectTree, Term,
 };
 use indexmap::IndexSet;
-use mq_ir::Column;
 use mq_values::{Memory, Words};
 use std::alloc::Global;
 

@@ -1,12 +1,12 @@
 //! The lines that statements print.
 
 ghost use Rattle.std.specs.Prelude.{◌≡◌, ◌++◌, [], ◌∷◌, length, map, decimal, OnOk};
-ghost use Rattle.mq_ir.specs.Lines.{Done, Counted, RowLine, RowCount, FaultLine, SyntaxError, line_text, text_of, fault_name, joined_by, key_text};
-ghost use Rattle.mq_ir.specs.Statement.{answer_lines};
+ghost use Rattle.mq_cli.specs.Lines.{Done, Counted, RowLine, RowCount, FaultLine, SyntaxError, line_text, text_of, fault_name, joined_by, key_text};
+ghost use Rattle.mq_cli.specs.Statement.{answer_lines};
 ghost use Rattle.mq_cli.specs.Places.{placed_value};
 
+use crate::first::{Answer, Row};
 use itoa::Buffer;
-use mq_ir::{Answer, Row};
 use mq_values::{FaultKind, Memory, QueryFault, Value, print};
 
 /// Appends the line of a table that was created.

@@ -9,6 +9,7 @@ mod binds;
 mod catalog;
 mod cells;
 mod evaluate;
+mod first;
 mod fitting;
 mod laws;
 mod lines;
@@ -18,10 +19,13 @@ mod partition;
 mod reader;
 mod run;
 mod sequential;
+mod statuses;
 mod step;
 mod tree;
 
 use mq_io::{MapShelf, OpenGate, ReaderSource, WriterSink};
+use statuses::{BAD_WORDS, NO_MEMORY};
+use std::io::ErrorKind;
 use std::process::ExitCode;
 use std::{env, io};
 
@@ -31,12 +35,13 @@ mod answer_tests;
 mod tests;
 
 fn main(rt: HostRuntime) -> ExitCode {
-    let Ok(args) = env::args(&rt) else {
-        return ExitCode::from(2);
+    let args = match env::args(&rt) {
+        Ok(args) => args,
+        Err(error) => return ExitCode::from(without_words(error.kind())),
     };
     let alloc = rt.alloc();
     let Ok(words) = args.skip(1).collect::<Vec<String>>(alloc) else {
-        return ExitCode::from(5);
+        return ExitCode::from(NO_MEMORY);
     };
     let mut script = ReaderSource::new(rt.reader());
     let mut files = MapShelf::new(Vec::new(alloc), Vec::new(alloc));
@@ -44,4 +49,12 @@ fn main(rt: HostRuntime) -> ExitCode {
     let gate = OpenGate;
     let status = run::run(alloc, &words, &mut script, &mut files, &mut out, &gate);
     ExitCode::from(status)
+}
+
+// The status where the words can't be had: memory ran out, or one of them is no text.
+fn without_words(kind: ErrorKind) -> u8 {
+    match kind {
+        ErrorKind::OutOfMemory => NO_MEMORY,
+        _ => BAD_WORDS,
+    }
 }

@@ -8,7 +8,7 @@ ghost use Rattle.mq_cli.specs.Reading.{Front, Passes, Reads, past_word, past_sig
 
 use crate::tree::Whole;
 use mq_lexer::{Sort, Token, folded, is_name, is_sign, is_word};
-use mq_values::{Fail, Words};
+use mq_values::{Fail, MAX_MANTISSA, Words};
 use std::alloc::Global;
 
 /// The tokens are no statement.
@@ -136,7 +136,7 @@ fn whole_of(mut digits: &[u8]) -> Option<Whole>
             return None;
         }
         let digit = u128::from(*b - b'0');
-        if number > (i128::MAX as u128 - digit) / 10 {
+        if number > (MAX_MANTISSA - digit) / 10 {
             return None;
         }
         number = number * 10 + digit;

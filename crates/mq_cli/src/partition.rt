@@ -1,13 +1,13 @@
 //! The input of a partition: the items of each row, and the cells that they make.
 ghost use Rattle.std.specs.Prelude.{◌≡◌, [], map, IfOk};
 ghost use Rattle.mq_values.specs.Answers.{Gives};
-ghost use Rattle.mq_ir.specs.Items.{input_rows as rows_meant};
-ghost use Rattle.mq_ir.specs.Partitions.{cells_of, cut, lesser as lesser_of, repeated};
+ghost use Rattle.mq_cli.specs.Items.{input_rows as rows_meant};
+ghost use Rattle.mq_cli.specs.Partitions.{cells_of, cut, lesser as lesser_of, repeated};
 ghost use Rattle.mq_cli.specs.PartTaking.{input_row as row_meant, taken};
 
 use crate::cells::Cells;
 use crate::evaluate::eval_all;
-use mq_ir::{ItemPart, Row};
+use crate::first::{ItemPart, Row};
 use mq_values::{Fail, Items, Key, Memory, Shared, Value, ValueFault};
 use std::alloc::Global;
 

@@ -376,7 +376,7 @@ fn tree(alloc: Global, tokens: &[Token<'_>], at: usize) -> Result<(Tree, usize),
 }
 
 /// The statement that all of the tokens are. `NoStatement` comes exactly where they are none
-/// (docs/LANGUAGE.md, "Statements").
+/// (docs/LANGUAGE.md, "Statements of today").
 #[tactic(auto, unfolding(crate::specs::Grammar::read), using(crate::proofs::ListLemmas::whole_none))]
 pub fn read(alloc: Global, tokens: &[Token<'_>]) -> Result<Tree, Fail<NoStatement>>
     ensures { ReadsAll result (spec.read (marks (map lexeme tokens.now))) }

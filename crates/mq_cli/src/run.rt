@@ -1,27 +1,30 @@
 //! A whole run: from the words of the command line and the bytes of a script to its output and its status.
 
-ghost use Rattle.std.specs.Prelude.{◌≡◌, ◌≢◌, ◌↔◌, ◌⊎◌, ◌≤◌, ◌||◌, [], Some, length, map, IfOk, IfSome, OnErr, IsErrOf, IsUtf8};
+ghost use Rattle.std.specs.Prelude.{◌≡◌, ◌≢◌, ◌↔◌, ◌⊎◌, ◌+◌, ◌≤◌, ◌||◌, [], Some, length, map, IfOk, IfSome, OnErr, IsErrOf, IsUtf8};
 ghost use Rattle.std.specs.List.{list_any};
 ghost use Rattle.std.specs.Io.KnownBytes.{Appends, IsAtEnd};
 ghost use Rattle.mq_io.specs.Causes.{Rose};
-ghost use Rattle.mq_io.specs.Progress.{AppendsFront, GaveMore};
+ghost use Rattle.mq_io.specs.Progress.{AppendsFront, GaveAtMost, GaveMore};
 ghost use Rattle.mq_lexer.specs.Statements as lexer;
-ghost use Rattle.mq_ir.specs.Lines.{is_flaw, text_of};
-ghost use Rattle.mq_cli.specs.Script.{lines_from, script_lines, output_of, status_of, statement_step};
+ghost use Rattle.mq_cli.specs.Lines.{is_flaw, text_of};
+ghost use Rattle.mq_cli.specs.Script.{IsScript, IsStatus, IsWhole, lines_from, script_lines, output_of, status_of, statement_step};
 
 use crate::catalog::Catalog;
+use crate::statuses::{
+    BAD_WORDS, DONE, FLAWED, NO_MEMORY, NOT_UTF8, READ_FAILED, TOO_LONG, WRITE_FAILED,
+};
 use crate::step::do_statement;
-use mq_io::{Gate, IoFault, ReadFault, Shelf, Sink, Source, read_all, write_all};
+use mq_io::{Gate, IoFault, READ_SIZE, ReadFault, Shelf, Sink, Source, read_all, write_all};
 use mq_lexer::{Statement, statements, tokens};
+use mq_values::MAX_SCRIPT_BYTES;
 use std::alloc::Global;
 
-/// How many bytes a script may have.
-pub const MAX_SCRIPT: usize = 16777216;
-
 /// Reads the whole script, runs it statement by statement, and writes each statement's lines before the next one
-/// starts. The answer is the status of the program (docs/LANGUAGE.md, "Statuses"): 0 and 1 where all was done,
-/// 2 for words that are not known, 3 and 4 where the source or the sink failed, 5 for want of memory, 6 for
-/// a script that is too long, 7 for one that is not UTF-8.
+/// starts. The answer is the status of the program (docs/LANGUAGE.md, "Statuses"): `DONE` and `FLAWED` where all was
+/// done, `BAD_WORDS` for words that are not known, `READ_FAILED` and `WRITE_FAILED` where the source or the sink
+/// failed, `NO_MEMORY` for want of memory, `TOO_LONG` for a script that is too long, `NOT_UTF8` for one that is not
+/// UTF-8.
+#[tactic(auto, using(crate::proofs::RunLemmas::gave_nothing))]
 pub fn run<S: Source, F: Shelf, K: Sink, G: Gate>(
     alloc: Global,
     words: &[String],
@@ -31,80 +34,100 @@ pub fn run<S: Source, F: Shelf, K: Sink, G: Gate>(
     gate: &G,
 ) -> u8
     // There are no words but none, and else nothing is read or written.
-    ensures words { (result ≡ 2) ↔ (words.now ≢ []) }
-    ensures untouched { result ≡ 2 → (script.new ≡ script.old) × (out.new ≡ out.old) }
+    ensures words { (result ≡ BAD_WORDS) ↔ (words.now ≢ []) }
+    ensures untouched { result ≡ BAD_WORDS → (script.new ≡ script.old) × (out.new ≡ out.old) }
     ensures files { files.new ≡ files.old }
-    ensures range { result ≤ 7 }
+    ensures range { IsStatus result }
 
     // What failed, and where nothing was written.
-    ensures read_failed { result ≡ 3 → Rose (S.faults script.old) (S.faults script.new) }
-    ensures write_failed { result ≡ 4 → Rose (K.faults out.old) (K.faults out.new) }
-    ensures nothing { (result ≡ 3) ⊎ (result ≡ 6) ⊎ (result ≡ 7) → out.new ≡ out.old }
+    ensures read_failed { result ≡ READ_FAILED → Rose (S.faults script.old) (S.faults script.new) }
+    ensures write_failed { result ≡ WRITE_FAILED → Rose (K.faults out.old) (K.faults out.new) }
+    ensures nothing { (result ≡ READ_FAILED) ⊎ (result ≡ TOO_LONG) ⊎ (result ≡ NOT_UTF8) → out.new ≡ out.old }
+
+    // The source is read to its end, or by at most one buffer past the limit.
+    ensures end { IsWhole result → IsAtEnd (S.left script.new) }
+    ensures stops { GaveAtMost (MAX_SCRIPT_BYTES + READ_SIZE) (S.left script.old) (S.left script.new) }
 
     // Where the source tells its bytes: which of them are no script.
-    ensures too_long { IfSome (S.left script.old) (λ b. (result ≡ 6) ↔ GaveMore MAX_SCRIPT (Some b) (S.left script.new)) }
-    ensures not_utf8 { result ≡ 7 → IfSome (S.left script.old) (λ b. (length b ≤ MAX_SCRIPT) × ¬ IsUtf8 b) }
-    ensures is_script { (result ≤ 1) ⊎ (result ≡ 4) → IfSome (S.left script.old) (λ b. (length b ≤ MAX_SCRIPT) × IsUtf8 b) }
+    ensures too_long { IfSome (S.left script.old)
+        (λ b. (result ≡ TOO_LONG) ↔ GaveMore MAX_SCRIPT_BYTES (Some b) (S.left script.new)) }
+    ensures not_utf8 { result ≡ NOT_UTF8 → IfSome (S.left script.old)
+        (λ b. (length b ≤ MAX_SCRIPT_BYTES) × ¬ IsUtf8 b) }
+    ensures is_script { IsWhole result ⊎ (result ≡ WRITE_FAILED) → IfSome (S.left script.old) IsScript }
 
-    // What is written: the output of the script, or a front of it where the run was cut short.
-    ensures end { result ≤ 1 → IsAtEnd (S.left script.new) }
-    ensures done { result ≤ 1 → IfSome (S.left script.old) (λ b. Appends (K.taken out.old) (K.taken out.new) (output_of b) × (result ≡ status_of (script_lines b))) }
-    ensures cut_short { (result ≡ 4) ⊎ (result ≡ 5) → IfSome (S.left script.old) (λ b. AppendsFront (K.taken out.old) (K.taken out.new) (output_of b)) }
+    // What is written: the output of the script, or a front of it where the run was cut short, and nothing of bytes
+    // that are no script.
+    ensures done { IsWhole result → IfSome (S.left script.old)
+        (λ b. Appends (K.taken out.old) (K.taken out.new) (output_of b) × (result ≡ status_of (script_lines b))) }
+    ensures cut_short { (result ≡ WRITE_FAILED) ⊎ (result ≡ NO_MEMORY) → IfSome (S.left script.old)
+        (λ b. AppendsFront (K.taken out.old) (K.taken out.new) (output_of b)) }
+    ensures no_script { result ≡ NO_MEMORY → IfSome (S.left script.old) (λ b. ¬ IsScript b → out.new ≡ out.old) }
 
     // A script is run to its end, unless a count rose or memory ran out.
-    ensures complete { words.now ≡ [] → ¬ Rose (S.faults script.old) (S.faults script.new) → ¬ Rose (K.faults out.old) (K.faults out.new)
-        → IfSome (S.left script.old) (λ b. (length b ≤ MAX_SCRIPT) × IsUtf8 b → (result ≤ 1) ⊎ (result ≡ 5)) }
+    ensures complete { words.now ≡ []
+        → ¬ Rose (S.faults script.old) (S.faults script.new) → ¬ Rose (K.faults out.old) (K.faults out.new)
+        → IfSome (S.left script.old) (λ b. IsScript b → IsWhole result ⊎ (result ≡ NO_MEMORY)) }
 {
     if !words.is_empty() {
-        return 2;
+        return BAD_WORDS;
     }
     run_source(alloc, script, out)
 }
 
 // Reads the script and runs it.
 fn run_source<S: Source, K: Sink>(alloc: Global, script: &mut S, out: &mut K) -> u8
-    ensures range { (result ≤ 7) × (result ≢ 2) }
-    ensures read_failed { result ≡ 3 → Rose (S.faults script.old) (S.faults script.new) }
-    ensures write_failed { result ≡ 4 → Rose (K.faults out.old) (K.faults out.new) }
-    ensures nothing { (result ≡ 3) ⊎ (result ≡ 6) ⊎ (result ≡ 7) → out.new ≡ out.old }
-    ensures too_long { IfSome (S.left script.old) (λ b. (result ≡ 6) ↔ GaveMore MAX_SCRIPT (Some b) (S.left script.new)) }
-    ensures not_utf8 { result ≡ 7 → IfSome (S.left script.old) (λ b. (length b ≤ MAX_SCRIPT) × ¬ IsUtf8 b) }
-    ensures is_script { (result ≤ 1) ⊎ (result ≡ 4) → IfSome (S.left script.old) (λ b. (length b ≤ MAX_SCRIPT) × IsUtf8 b) }
-    ensures end { result ≤ 1 → IsAtEnd (S.left script.new) }
-    ensures done { result ≤ 1 → IfSome (S.left script.old) (λ b. Appends (K.taken out.old) (K.taken out.new) (output_of b) × (result ≡ status_of (script_lines b))) }
-    ensures cut_short { (result ≡ 4) ⊎ (result ≡ 5) → IfSome (S.left script.old) (λ b. AppendsFront (K.taken out.old) (K.taken out.new) (output_of b)) }
+    ensures range { IsStatus result × (result ≢ BAD_WORDS) }
+    ensures read_failed { result ≡ READ_FAILED → Rose (S.faults script.old) (S.faults script.new) }
+    ensures write_failed { result ≡ WRITE_FAILED → Rose (K.faults out.old) (K.faults out.new) }
+    ensures nothing { (result ≡ READ_FAILED) ⊎ (result ≡ TOO_LONG) ⊎ (result ≡ NOT_UTF8) → out.new ≡ out.old }
+    ensures end { IsWhole result → IsAtEnd (S.left script.new) }
+    ensures stops { GaveAtMost (MAX_SCRIPT_BYTES + READ_SIZE) (S.left script.old) (S.left script.new) }
+    ensures too_long { IfSome (S.left script.old)
+        (λ b. (result ≡ TOO_LONG) ↔ GaveMore MAX_SCRIPT_BYTES (Some b) (S.left script.new)) }
+    ensures not_utf8 { result ≡ NOT_UTF8 → IfSome (S.left script.old)
+        (λ b. (length b ≤ MAX_SCRIPT_BYTES) × ¬ IsUtf8 b) }
+    ensures is_script { IsWhole result ⊎ (result ≡ WRITE_FAILED) → IfSome (S.left script.old) IsScript }
+    ensures done { IsWhole result → IfSome (S.left script.old)
+        (λ b. Appends (K.taken out.old) (K.taken out.new) (output_of b) × (result ≡ status_of (script_lines b))) }
+    ensures cut_short { (result ≡ WRITE_FAILED) ⊎ (result ≡ NO_MEMORY) → IfSome (S.left script.old)
+        (λ b. AppendsFront (K.taken out.old) (K.taken out.new) (output_of b)) }
+    ensures no_script { result ≡ NO_MEMORY → IfSome (S.left script.old) (λ b. ¬ IsScript b → out.new ≡ out.old) }
 {
-    match read_all(alloc, script, MAX_SCRIPT) {
+    match read_all(alloc, script, MAX_SCRIPT_BYTES) {
         Ok(bytes) => run_bytes(alloc, &bytes, out),
-        Err(ReadFault::TooLong) => 6,
-        Err(ReadFault::Failed) => 3,
-        Err(ReadFault::Memory) => 5,
+        Err(ReadFault::TooLong) => TOO_LONG,
+        Err(ReadFault::Failed) => READ_FAILED,
+        Err(ReadFault::Memory) => NO_MEMORY,
     }
 }
 
 // Runs the script of these bytes.
 fn run_bytes<K: Sink>(alloc: Global, bytes: &[u8], out: &mut K) -> u8
-    ensures range { (result ≤ 1) ⊎ (result ≡ 4) ⊎ (result ≡ 5) ⊎ (result ≡ 7) }
-    ensures write_failed { result ≡ 4 → Rose (K.faults out.old) (K.faults out.new) }
-    ensures not_utf8 { result ≡ 7 → (out.new ≡ out.old) × ¬ IsUtf8 bytes.now }
-    ensures is_utf8 { result ≢ 7 → IsUtf8 bytes.now }
-    ensures done { result ≤ 1 → Appends (K.taken out.old) (K.taken out.new) (output_of bytes.now) × (result ≡ status_of (script_lines bytes.now)) }
-    ensures cut_short { (result ≡ 4) ⊎ (result ≡ 5) → AppendsFront (K.taken out.old) (K.taken out.new) (output_of bytes.now) }
+    ensures range { IsWhole result ⊎ (result ≡ WRITE_FAILED) ⊎ (result ≡ NO_MEMORY) ⊎ (result ≡ NOT_UTF8) }
+    ensures write_failed { result ≡ WRITE_FAILED → Rose (K.faults out.old) (K.faults out.new) }
+    ensures not_utf8 { result ≡ NOT_UTF8 → (out.new ≡ out.old) × ¬ IsUtf8 bytes.now }
+    ensures is_utf8 { result ≢ NOT_UTF8 → IsUtf8 bytes.now }
+    ensures done { IsWhole result → Appends (K.taken out.old) (K.taken out.new) (output_of bytes.now)
+        × (result ≡ status_of (script_lines bytes.now)) }
+    ensures cut_short { (result ≡ WRITE_FAILED) ⊎ (result ≡ NO_MEMORY)
+        → AppendsFront (K.taken out.old) (K.taken out.new) (output_of bytes.now) }
 {
     match str::from_utf8(bytes) {
         Ok(text) => match run_text(alloc, text, out) {
-            Ok(flaw) => u8::from(flaw),
-            Err(IoFault::Failed) => 4,
-            Err(IoFault::Memory) => 5,
+            Ok(true) => FLAWED,
+            Ok(false) => DONE,
+            Err(IoFault::Failed) => WRITE_FAILED,
+            Err(IoFault::Memory) => NO_MEMORY,
         },
-        Err(_) => 7,
+        Err(_) => NOT_UTF8,
     }
 }
 
 // Runs the script of this text, and answers whether some line was an error or a fault.
 #[tactic(auto, unfolding(crate::specs::Script::script_lines))]
 fn run_text<K: Sink>(alloc: Global, text: &str, out: &mut K) -> Result<bool, IoFault>
-    ensures done { IfOk result (λ flaw. Appends (K.taken out.old) (K.taken out.new) (output_of text.now) × (flaw ≡ list_any is_flaw (script_lines text.now))) }
+    ensures done { IfOk result (λ flaw. Appends (K.taken out.old) (K.taken out.new) (output_of text.now)
+        × (flaw ≡ list_any is_flaw (script_lines text.now))) }
     ensures cut_short { OnErr result (AppendsFront (K.taken out.old) (K.taken out.new) (output_of text.now)) }
     ensures failed { IsErrOf result IoFault.Failed → Rose (K.faults out.old) (K.faults out.new) }
 {
@@ -123,8 +146,10 @@ fn run_statements<K: Sink>(
     statements: &[Statement<'_, '_>],
     out: &mut K,
 ) -> Result<bool, IoFault>
-    ensures done { let lines = lines_from [] (map lexer.statement statements.now) in IfOk result (λ flaw. Appends (K.taken out.old) (K.taken out.new) (text_of lines) × (flaw ≡ list_any is_flaw lines)) }
-    ensures cut_short { let lines = lines_from [] (map lexer.statement statements.now) in OnErr result (AppendsFront (K.taken out.old) (K.taken out.new) (text_of lines)) }
+    ensures done { let lines = lines_from [] (map lexer.statement statements.now) in
+        IfOk result (λ flaw. Appends (K.taken out.old) (K.taken out.new) (text_of lines) × (flaw ≡ list_any is_flaw lines)) }
+    ensures cut_short { let lines = lines_from [] (map lexer.statement statements.now) in
+        OnErr result (AppendsFront (K.taken out.old) (K.taken out.new) (text_of lines)) }
     ensures later { K.faults out.old ≤ K.faults out.new }
     ensures failed { IsErrOf result IoFault.Failed → Rose (K.faults out.old) (K.faults out.new) }
 {
@@ -152,8 +177,11 @@ fn run_statement<K: Sink>(
     lines: &mut Vec<u8>,
     out: &mut K,
 ) -> Result<bool, IoFault>
-    ensures done { let meant = statement_step catalog.old (lexer.statement statement.now) in IfOk result (λ flaw. (catalog.new ≡ meant.0) × Appends (K.taken out.old) (K.taken out.new) (text_of meant.1) × (flaw ≡ list_any is_flaw meant.1)) }
-    ensures cut_short { let meant = statement_step catalog.old (lexer.statement statement.now) in OnErr result (AppendsFront (K.taken out.old) (K.taken out.new) (text_of meant.1)) }
+    ensures done { let meant = statement_step catalog.old (lexer.statement statement.now) in
+        IfOk result (λ flaw. (catalog.new ≡ meant.0)
+        × Appends (K.taken out.old) (K.taken out.new) (text_of meant.1) × (flaw ≡ list_any is_flaw meant.1)) }
+    ensures cut_short { let meant = statement_step catalog.old (lexer.statement statement.now) in
+        OnErr result (AppendsFront (K.taken out.old) (K.taken out.new) (text_of meant.1)) }
     ensures later { K.faults out.old ≤ K.faults out.new }
     ensures failed { IsErrOf result IoFault.Failed → Rose (K.faults out.old) (K.faults out.new) }
 {

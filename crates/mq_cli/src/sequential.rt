@@ -1,15 +1,15 @@
 //! What the rules of a model do to the cells of a partition, in text order.
 ghost use Rattle.std.specs.Prelude.{◌≡◌, length, slice_set, IfOk};
 ghost use Rattle.mq_values.specs.Answers.{Gives};
-ghost use Rattle.mq_ir.specs.Answer.{kind_of, rule_fault};
+ghost use Rattle.mq_cli.specs.Answer.{kind_of, rule_fault};
 ghost use Rattle.mq_cli.specs.FaultPlaces.{fault_place};
-ghost use Rattle.mq_ir.specs.Expression.{ev};
-ghost use Rattle.mq_ir.specs.Results.{each, marked};
-ghost use Rattle.mq_ir.specs.Sequential.{assigned, created, no_leaves, place_of, rule_step, rules_from};
+ghost use Rattle.mq_cli.specs.Expression.{ev};
+ghost use Rattle.mq_cli.specs.Results.{each, marked};
+ghost use Rattle.mq_cli.specs.Sequential.{assigned, created, no_leaves, place_of, rule_step, rules_from};
 
 use crate::cells::Cells;
 use crate::evaluate::{NoLeaves, eval};
-use mq_ir::{LeftItem, ModelPart, Rule};
+use crate::first::{LeftItem, ModelPart, Rule};
 use mq_values::{Fail, FaultKind, Items, Key, Memory, QueryFault, Shared, Value, ValueFault};
 use std::alloc::Global;
 

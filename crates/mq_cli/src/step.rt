@@ -4,25 +4,25 @@ ghost use Rattle.std.specs.Prelude.{◌≡◌, None, IfOk, IfSome, map};
 ghost use Rattle.std.specs.List.{list_any};
 ghost use Rattle.mq_lexer.specs.Lexemes.{lexeme};
 ghost use Rattle.mq_lexer.specs.Statements as lexer;
-ghost use Rattle.mq_ir.specs.Lines.{is_flaw, text_of};
-ghost use Rattle.mq_ir.specs.Answer.{answer_of};
-ghost use Rattle.mq_ir.specs.Statement.{step, answer_lines};
-ghost use Rattle.mq_ir.specs.Tables.{table_at};
+ghost use Rattle.mq_cli.specs.Lines.{is_flaw, text_of};
+ghost use Rattle.mq_cli.specs.Answer.{answer_of};
+ghost use Rattle.mq_cli.specs.Statement.{step, answer_lines};
+ghost use Rattle.mq_cli.specs.Tables.{table_at};
 ghost use Rattle.mq_cli.specs.Binding.{IsNew};
 ghost use Rattle.mq_cli.specs.Script as spec;
 
 use crate::answer::answer;
 use crate::binding::bind;
 use crate::catalog::Catalog;
+use crate::first::{Answer, Bound, BoundQuery, Change, Table, TableDef};
 use crate::lines;
 use crate::reader::read;
-use mq_ir::{Answer, Bound, BoundQuery, Change, Table, TableDef};
 use mq_lexer::{Statement, Token};
 use mq_values::{Fail, Items, Memory};
 use std::alloc::Global;
 
 /// Does a statement, appends its lines to `out`, and answers whether one of them is an error or a fault
-/// (docs/MEANING.md, "Statements"). What is no statement, or does not fit the tables, alters nothing.
+/// (docs/MEANING.md, "Scripts"). What is no statement, or does not fit the tables, alters nothing.
 #[tactic(auto, unfolding(crate::specs::Script::statement_step))]
 pub fn do_statement(
     alloc: Global,

@@ -1,6 +1,9 @@
 //! Whole runs over the forms in memory.
 
 use crate::run::run;
+use crate::statuses::{
+    BAD_WORDS, DONE, FLAWED, NO_MEMORY, NOT_UTF8, READ_FAILED, TOO_LONG, WRITE_FAILED,
+};
 use mq_io::{BytesSource, MapShelf, OpenGate, VecSink};
 use std::alloc::{AllocError, Global};
 use std::test::Fail;
@@ -10,7 +13,7 @@ const FIRST: &str = "CREATE TABLE T (D INT, M INT); INSERT INTO T VALUES (1,5),(
     SELECT D, M FROM T MODEL DIMENSION BY (D) MEASURES (M) RULES (M[3]=M[1]+M[2], M[4]=M[3]-1) ORDER BY D;";
 
 /// A script, what it prints and its status.
-const RUNS: [(&str, &str, u8); 12] = [
+const RUNS: [(&str, &str, u8); 13] = [
     ("", "", 0),
     (FIRST, "ok\nok 2\n1|5\n2|7\n3|12\n4|11\nrows 4\n", 0),
     (
@@ -36,6 +39,11 @@ const RUNS: [(&str, &str, u8); 12] = [
     (
         "CREATE TABLE T (D INT, M INT);\nSELECT D FROM T MODEL DIMENSION BY (D) MEASURES (M) RULES (M[1]=1);",
         "ok\n1\nrows 1\n",
+        0,
+    ),
+    (
+        "CREATE TABLE T (D INT, M INT);\nSELECT D, M FROM T MODEL DIMENSION BY (D) MEASURES (M) RULES (M[1]=7) ORDER BY M;",
+        "ok\n1|7\nrows 1\n",
         0,
     ),
     (
@@ -115,7 +123,10 @@ fn a_source_that_fails_or_a_word_prints_nothing(rt: HostRuntime) -> Result<(), F
         run_over(alloc, &[], source(alloc, FIRST, &[1])?, &mut out),
         3
     );
-    let words = vec![in alloc; String::from_str(alloc, "--workers")?]?;
+    let words = vec![in alloc;
+        String::from_str(alloc, "--workers")?,
+        String::from_str(alloc, "65")?,
+    ]?;
     assert_eq!(rt;
         run_over(alloc, &words, source(alloc, FIRST, &[])?, &mut out),
         2
@@ -132,5 +143,12 @@ fn what_is_no_text_prints_nothing(rt: HostRuntime) -> Result<(), Fail> {
     let script = BytesSource::new(bytes, Vec::new(alloc), 7);
     assert_eq!(rt; run_over(alloc, &[], script, &mut out), 7);
     assert!(rt; out.taken().is_empty());
+    Ok(())
+}
+
+#[test]
+fn statuses_have_their_numbers(rt: HostRuntime) -> Result<(), Fail> {
+    assert_eq!(rt; [DONE, FLAWED, BAD_WORDS, READ_FAILED], [0, 1, 2, 3]);
+    assert_eq!(rt; [WRITE_FAILED, NO_MEMORY, TOO_LONG, NOT_UTF8], [4, 5, 6, 7]);
     Ok(())
 }

@@ -1,9 +1,9 @@
-//! Statements as trees, with their names in capital letters (docs/LANGUAGE.md, "Statements").
+//! Statements as trees, with their names in capital letters (docs/LANGUAGE.md, "Statements of today").
 
 ghost use Rattle.std.specs.Prelude.{◌≡◌, Some, None, nat_le, if◌then◌else◌, pos};
-ghost use Rattle.mq_cli.specs.Marks.{GREATEST};
+ghost use Rattle.mq_values.specs.declared.limits.TheConstants.{MAX_MANTISSA};
 
-use mq_values::{Items, Words};
+use mq_values::{Items, MAX_MANTISSA, Words};
 use std::marker::Model;
 
 /// A whole number without a sign, of at most 2^127 - 1.
@@ -14,13 +14,13 @@ pub struct Whole {
 
 impl Model for Whole {
     ghost use Rattle.std.specs.Prelude.{ℕ, ◌≤◌};
-    ghost use Rattle.mq_cli.specs.Marks.{GREATEST};
+    ghost use Rattle.mq_values.specs.declared.limits.TheConstants.{MAX_MANTISSA};
 
     ghost Value = { ℕ };
 
     ghost view = { λ w. w.digits };
 
-    ghost invariant = { λ w. w.digits ≤ GREATEST };
+    ghost invariant = { λ w. w.digits ≤ MAX_MANTISSA };
 
     ghost inverse = { λ n. record { digits = n } };
 }
@@ -112,9 +112,9 @@ pub enum Tree {
 impl Whole {
     /// The number `digits`, or `None` where it is above 2^127 - 1.
     pub fn new(digits: u128) -> Option<Whole>
-        ensures { result ≡ (if nat_le digits GREATEST then Some digits else None) }
+        ensures { result ≡ (if nat_le digits MAX_MANTISSA then Some digits else None) }
     {
-        if digits <= i128::MAX as u128 {
+        if digits <= MAX_MANTISSA {
             Some(Whole { digits })
         } else {
             None

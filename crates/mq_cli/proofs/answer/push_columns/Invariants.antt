@@ -1,5 +1,5 @@
 use Rattle.std.proofs.Common.{◌≡◌, ◌++◌, drop}
-use Rattle.mq_ir.specs.Answer.{columns_at}
+use Rattle.mq_cli.specs.Answer.{columns_at}
 use Rattle.mq_cli.proofs.answer.push_columns.Given as goal
 
 abbrev pub invariant-loop-number : goal.invariant-loop-number

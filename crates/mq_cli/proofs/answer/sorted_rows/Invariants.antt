@@ -1,5 +1,5 @@
 use Rattle.std.proofs.Common.{◌≡◌, ◌++◌, map}
-use Rattle.mq_ir.specs.Answer.{sort_columns}
+use Rattle.mq_cli.specs.Answer.{sort_columns}
 use Rattle.mq_cli.proofs.answer.sorted_rows.Given as goal
 
 abbrev pub invariant-loop-key : goal.invariant-loop-key

@@ -1,7 +1,7 @@
 use Rattle.std.proofs.Common.{◌≡◌, Ok, map, sym, ap, ◌∙◌}
 use Rattle.std.proofs.lemmas.Result.{err_from_is_err_and}
-use Rattle.mq_ir.specs.Expression.{ev, combined, chained, term_value}
-use Rattle.mq_ir.specs.Results.{◌>>=◌}
+use Rattle.mq_cli.specs.Expression.{ev, combined, chained, term_value}
+use Rattle.mq_cli.specs.Results.{◌>>=◌}
 use Rattle.mq_cli.proofs.Chains.{chain_exit, sum_exit}
 use Rattle.mq_cli.proofs.Exits.{exit}
 use Rattle.mq_cli.proofs.evaluate.+evaluation.Goals as goal

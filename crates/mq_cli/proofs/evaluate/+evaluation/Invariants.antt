@@ -1,5 +1,5 @@
 use Rattle.std.proofs.Common.{◌≡◌, Ok, map, drop}
-use Rattle.mq_ir.specs.Expression.{ev, chained, term_value}
+use Rattle.mq_cli.specs.Expression.{ev, chained, term_value}
 use Rattle.mq_cli.proofs.evaluate.+evaluation.Given as goal
 
 abbrev pub invariant-chain-loop-term : goal.invariant-chain-loop-term

@@ -1,6 +1,6 @@
 use Rattle.std.proofs.lemmas.Result.{err_from_is_err_and}
-use Rattle.mq_ir.specs.Expression.{ev}
-use Rattle.mq_ir.specs.Results.{each}
+use Rattle.mq_cli.specs.Expression.{ev}
+use Rattle.mq_cli.specs.Results.{each}
 use Rattle.mq_cli.proofs.Exits.{exit}
 use Rattle.mq_cli.proofs.Walks.{walk_fault}
 use Rattle.mq_cli.proofs.evaluate.eval_all.Goals as goal

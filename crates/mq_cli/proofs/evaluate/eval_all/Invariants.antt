@@ -1,4 +1,4 @@
-use Rattle.mq_ir.specs.Expression.{ev}
+use Rattle.mq_cli.specs.Expression.{ev}
 use Rattle.mq_cli.proofs.Walks.{Walked}
 use Rattle.mq_cli.proofs.evaluate.eval_all.Given as goal
 

@@ -1,5 +1,5 @@
 use Rattle.std.proofs.Common.{◌++◌, ap, ◌∙◌}
-use Rattle.mq_ir.specs.Lines.{key_text}
+use Rattle.mq_cli.specs.Lines.{key_text}
 use Rattle.mq_cli.proofs.LineLemmas.{nine_pieces}
 use Rattle.mq_cli.proofs.lines.fault_line.Goals as goal
 

@@ -1,5 +1,5 @@
 use Rattle.std.proofs.Common.{take, ◌++◌, nat_lt, append_assoc, ap, sym, ◌∙◌}
-use Rattle.mq_ir.specs.Lines.{joined_by}
+use Rattle.mq_cli.specs.Lines.{joined_by}
 use Rattle.mq_cli.specs.Places.{placed_value}
 use Rattle.mq_cli.proofs.LineLemmas.{joined_more}
 use Rattle.mq_cli.proofs.lines.joined.Goals as goal

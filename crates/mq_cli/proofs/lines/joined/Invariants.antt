@@ -1,5 +1,5 @@
 use Rattle.std.proofs.Common.{◌≡◌, ◌++◌, take}
-use Rattle.mq_ir.specs.Lines.{joined_by}
+use Rattle.mq_cli.specs.Lines.{joined_by}
 use Rattle.mq_cli.proofs.lines.joined.Given as goal
 
 abbrev pub invariant-values : goal.invariant-values

@@ -1,6 +1,6 @@
 use Rattle.std.proofs.Common.{sym, ◌∙◌, arith}
 use Rattle.std.proofs.lemmas.Result.{err_from_is_err_and}
-use Rattle.mq_ir.specs.Items.{input_rows}
+use Rattle.mq_cli.specs.Items.{input_rows}
 use Rattle.mq_cli.specs.PartTaking.{input_row}
 use Rattle.mq_cli.proofs.Exits.{exit}
 use Rattle.mq_cli.proofs.Inputs.{by_row}

@@ -1,5 +1,5 @@
-use Rattle.mq_ir.specs.Expression.{ev}
-use Rattle.mq_ir.specs.Sequential.{no_leaves, place_of}
+use Rattle.mq_cli.specs.Expression.{ev}
+use Rattle.mq_cli.specs.Sequential.{no_leaves, place_of}
 use Rattle.mq_cli.proofs.Walks.{Walked}
 use Rattle.mq_cli.proofs.sequential.left_key.Given as goal
 

@@ -1,5 +1,5 @@
 use Rattle.std.proofs.Common.{◌≡◌, drop}
-use Rattle.mq_ir.specs.Sequential.{rules_from}
+use Rattle.mq_cli.specs.Sequential.{rules_from}
 use Rattle.mq_cli.proofs.sequential.run_seq.Given as goal
 
 abbrev pub invariant-loop-rule : goal.invariant-loop-rule

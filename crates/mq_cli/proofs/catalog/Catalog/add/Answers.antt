@@ -1,7 +1,7 @@
 use Rattle.std.proofs.Common.{[], ◌∷◌, ◌++◌, nat_eq, ap, ◌∙◌}
 use Rattle.std.specs.Cmp.Lexicographic.{pointwise}
 use Rattle.indexmap.proofs.CallerLemmas.{insert_entry-new}
-use Rattle.mq_ir.specs.Tables.{table_at}
+use Rattle.mq_cli.specs.Tables.{table_at}
 use Rattle.mq_cli.proofs.catalog.Catalog.add.Goals as goal
 
 pub returns : goal.returns

@@ -2,8 +2,8 @@ use Rattle.std.proofs.Common.{List, nat_eq, ap, sym, ◌∙◌}
 use Rattle.std.specs.Cmp.Lexicographic.{pointwise}
 use Rattle.std.specs.Map.{set_value}
 use Rattle.mq_values.specs.declared.value.Value.{Value}
-use Rattle.mq_ir.specs.Tables.{with_rows}
-use Rattle.mq_ir.specs.declared.statement.Table.{Table}
+use Rattle.mq_cli.specs.Tables.{with_rows}
+use Rattle.mq_cli.specs.declared.first.statement.Table.{Table}
 use Rattle.mq_cli.proofs.CatalogLemmas.{with_rows-there, with_rows-absent}
 use Rattle.mq_cli.proofs.catalog.Catalog.append.Goals as goal
 
