@@ -1,0 +1,6 @@
+pub mod DealLemmas
+pub mod LevelLemmas
+pub mod NumberLemmas
+pub mod OutcomeLemmas
+pub mod PlaceLemmas
+pub mod RoundLemmas

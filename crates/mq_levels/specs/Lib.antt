@@ -1,0 +1,4 @@
+pub mod Levels
+pub mod Numbers
+pub mod Rounds
+pub mod Waiting
