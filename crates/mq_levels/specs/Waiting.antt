@@ -25,12 +25,15 @@ pub record WaitsFor (reads : List (List ℕ)) (numbers : Numbers) (read : ℕ) (
   pub within : waiting.at < length (reads_of reads waiting.node)
   pub is : slice_index (reads_of reads waiting.node) waiting.at ≡ read
 
--- those that wait for a read
-abbrev pub watchers_of : List (List Waiting) → ℕ → List Waiting
+-- for each node, by its number, those that wait for it
+abbrev pub Watchers : Type 0
+Watchers = List (List Waiting)
+
+abbrev pub watchers_of : Watchers → ℕ → List Waiting
 watchers_of watchers read = slice_index_or watchers read []
 
 -- whoever stands in the list of a read waits for it
-pub record AreWatching (reads : List (List ℕ)) (numbers : Numbers) (watchers : List (List Waiting)) : Type 0 where
+pub record AreWatching (reads : List (List ℕ)) (numbers : Numbers) (watchers : Watchers) : Type 0 where
   pub each : (read : ℕ) → All (WaitsFor reads numbers read) (watchers_of watchers read)
 
 -- the node stands in the list
@@ -40,13 +43,15 @@ pub record Stands (list : List Waiting) (node : ℕ) : Type 0 where
   pub is : waiting.node ≡ node
 
 -- the node stands in the list of a read that has no number
-pub record IsWatching (numbers : Numbers) (watchers : List (List Waiting)) (node : ℕ) : Type 0 where
+pub record IsWatching (numbers : Numbers) (watchers : Watchers) (node : ℕ) : Type 0 where
   pub read : ℕ
   pub unnumbered : has_number numbers read ≡ false
   pub stands : Stands (watchers_of watchers read) node
 
 -- Those of `movers` went on: each node of them is among the ready ones, or stands in the list of an open read again.
-pub record HaveMoved (reads : List (List ℕ)) (numbers : Numbers) (movers : List Waiting) (before after : List (List Waiting)) (had has : List ℕ) : Type 0 where
+-- `before` and `after` are the watchers, `had` and `has` the ready nodes.
+pub record HaveMoved (reads : List (List ℕ)) (numbers : Numbers) (movers : List Waiting)
+    (before after : Watchers) (had has : List ℕ) : Type 0 where
   pub watching : AreWatching reads numbers before → AreWatching reads numbers after
   pub stay : (node : ℕ) → IsWatching numbers before node → IsWatching numbers after node
   pub placed : (node : ℕ) → Stands movers node → Contains has node ⊎ IsWatching numbers after node
@@ -54,5 +59,5 @@ pub record HaveMoved (reads : List (List ℕ)) (numbers : Numbers) (movers : Lis
   pub only : (node : ℕ) → Contains has node → Contains had node ⊎ (Stands movers node × (is_ready reads numbers node ≡ true))
 
 -- those that wait for one of `nodes`
-abbrev pub woken_by : List (List Waiting) → List ℕ → List Waiting
+abbrev pub woken_by : Watchers → List ℕ → List Waiting
 woken_by watchers nodes = flat_map (watchers_of watchers) nodes
