@@ -3,7 +3,7 @@
 ghost use Rattle.std.specs.Prelude.{◌≡◌, ◌<◌, ◌≤◌, ℕ, [], ◌∷◌, length, slice_index_or, IfOk, OnOk};
 ghost use Rattle.std.specs.List.{All};
 ghost use Rattle.mq_levels.specs.Levels.{ReadsNodes, reads_in};
-ghost use Rattle.mq_levels.specs.Numbers.{has_number};
+ghost use Rattle.mq_levels.specs.Numbers as spec;
 ghost use Rattle.mq_levels.specs.Waiting.{AreWatching, HaveMoved, Waits, open_place, woken_by};
 
 use mq_values::{Items, Memory};
@@ -30,9 +30,9 @@ pub fn beginners(alloc: Global, count: u32) -> Result<Vec<Waiting>, Memory>
 }
 
 // Whether a node has a number.
-fn is_numbered(numbers: &[Option<u32>], node: u32) -> bool
+fn has_number(numbers: &[Option<u32>], node: u32) -> bool
     requires { node < length numbers.now }
-    ensures { result ≡ has_number numbers.now node }
+    ensures { result ≡ spec.has_number numbers.now node }
 {
     numbers[node as usize].is_some()
 }
@@ -45,7 +45,7 @@ fn first_open(list: &[u32], numbers: &[Option<u32>], from: usize) -> usize
     ensures within { result ≤ length list.now }
 {
     for at in from..list.len() {
-        if !is_numbered(numbers, list[at]) {
+        if !has_number(numbers, list[at]) {
             return at;
         }
     }

@@ -4,8 +4,8 @@ use Rattle.mq_levels.specs.Numbers.{has_number}
 use Rattle.mq_levels.proofs.PlaceLemmas.{open_here, open_more}
 use Rattle.mq_levels.proofs.waiting.first_open.Goals as goal
 
-pub returns-then-not-is_numbered-clause-place : goal.returns-then-not-is_numbered-clause-place
-returns-then-not-is_numbered-clause-place c = open_here c.args.numbers.now c.args.list.now c.loop-at.at c.loop-at.invariant (search rules)
+pub returns-then-not-has_number-clause-place : goal.returns-then-not-has_number-clause-place
+returns-then-not-has_number-clause-place c = open_here c.args.numbers.now c.args.list.now c.loop-at.at c.loop-at.invariant (search rules)
 
 pub loop-at-preserved : goal.loop-at-preserved
 loop-at-preserved c = open_more c.args.numbers.now c.args.list.now c.loop-at.at (omega arith) c.loop-at.invariant (search rules)
