@@ -1,8 +1,5 @@
 -- The grammar of MODEL clauses and of whole queries.
 use Rattle.std.specs.Prelude.{ℕ, Bool, true, false, List, [], ◌∷◌, Option, None, Some}
-use Rattle.mq_values.specs.Number.{Number}
-use Rattle.mq_values.specs.declared.operators.Mode.{Mode}
-use Rattle.mq_ast.specs.declared.expressions.E.{E}
 use Rattle.mq_ast.specs.declared.queries.Sel.{Sel}
 use Rattle.mq_ast.specs.declared.queries.OrderKey.{OrderKey}
 use Rattle.mq_ast.specs.declared.queries.Plain.{Plain}
@@ -12,13 +9,16 @@ use Rattle.mq_ast.specs.declared.queries.RefTree.{RefTree}
 use Rattle.mq_ast.specs.declared.queries.RuleTree.{RuleTree}
 use Rattle.mq_ast.specs.declared.queries.ModelTree.{ModelTree}
 use Rattle.mq_ast.specs.declared.queries.Query.{Query}
+use Rattle.mq_ast.specs.declared.parts.Head.{Head}
+use Rattle.mq_ast.specs.declared.parts.Front.{Front}
+use Rattle.mq_ast.specs.declared.parts.Body.{Body}
+use Rattle.mq_ast.specs.declared.parts.Tail.{Tail}
 use Rattle.mq_lexer.specs.declared.keywords.Keyword.TheVariants as word
-use Rattle.mq_ast.specs.Tokens.{Tok, Word, Name, Num, opener, closer}
-use Rattle.mq_ast.specs.GrammarNames.{IsInt}
+use Rattle.mq_ast.specs.Tokens.{Tok, Word, Name, opener, closer}
 use Rattle.mq_ast.specs.GrammarLists.{ManyOf}
-use Rattle.mq_ast.specs.GrammarExpression.{Expr}
 use Rattle.mq_ast.specs.GrammarQuery.{Cols, PlainE, OrderE}
-use Rattle.mq_ast.specs.GrammarRule.{MaybeMode, RuleList}
+use Rattle.mq_ast.specs.GrammarRule.{RuleList}
+use Rattle.mq_ast.specs.GrammarHead.{HeadE}
 
 -- opt := IGNORE NAV | KEEP NAV | UNIQUE DIMENSION
 pub data OptE : Opt → List Tok → List Tok → Type 0 where
@@ -26,18 +26,43 @@ pub data OptE : Opt → List Tok → List Tok → Type 0 where
   opt_keep : {to : List Tok} → OptE opt.KeepNav (Word word.Keep ∷ Word word.Nav ∷ to) to
   opt_unique : {to : List Tok} → OptE opt.UniqueDimension (Word word.Unique ∷ Word word.Dimension ∷ to) to
 
+-- ALL | UPDATED
+pub data WhichE : Bool → List Tok → List Tok → Type 0 where
+  which_all : {to : List Tok} → WhichE false (Word word.All ∷ to) to
+  which_updated : {to : List Tok} → WhichE true (Word word.Updated ∷ to) to
+
 -- [RETURN (ALL | UPDATED) ROWS]
 pub data ReturnE : Bool → List Tok → List Tok → Type 0 where
   return_none : {to : List Tok} → ReturnE false to to
-  return_all : {to : List Tok} → ReturnE false (Word word.Return ∷ Word word.All ∷ Word word.Rows ∷ to) to
-  return_updated : {to : List Tok} → ReturnE true (Word word.Return ∷ Word word.Updated ∷ Word word.Rows ∷ to) to
+  return_rows : {b : Bool} {from to : List Tok} → WhichE b from (Word word.Rows ∷ to) → ReturnE b (Word word.Return ∷ from) to
 
-abbrev pub ref_of : List ℕ → Plain → List Sel → List Sel → List Opt → RefTree
-ref_of n p ds ms os = record { name = n; query = p; dims = ds; measures = ms; opts = os }
+-- name ON '(' plain ')'
+pub data RefSourceE : List ℕ × Plain → List Tok → List Tok → Type 0 where
+  ref_source : {n : List ℕ} {p : Plain} {from to : List Tok} →
+      PlainE p from (closer ∷ to) → RefSourceE (n, p) (Name n ∷ Word word.On ∷ opener ∷ from) to
+
+-- DIMENSION BY cols MEASURES
+pub data DimsE : List Sel → List Tok → List Tok → Type 0 where
+  dims : {ds : List Sel} {from to : List Tok} →
+      Cols ds from (Word word.Measures ∷ to) → DimsE ds (Word word.Dimension ∷ Word word.By ∷ from) to
+
+-- DIMENSION BY cols MEASURES cols
+pub data AxesE : List Sel × List Sel → List Tok → List Tok → Type 0 where
+  axes : {ds ms : List Sel} {from mid to : List Tok} → DimsE ds from mid → Cols ms mid to → AxesE (ds, ms) from to
+
+abbrev pub ref_of : List ℕ × Plain → List Sel × List Sel → List Opt → RefTree
+ref_of s x os = record { name = s.0; query = s.1; dims = x.0; measures = x.1; opts = os }
 
 -- ref := REFERENCE name ON '(' plain ')' DIMENSION BY cols MEASURES cols {opt}
 pub data RefE : RefTree → List Tok → List Tok → Type 0 where
-  reference : {n : List ℕ} {p : Plain} {ds ms : List Sel} {os : List Opt} {from mid next last to : List Tok} → PlainE p from (closer ∷ Word word.Dimension ∷ Word word.By ∷ mid) → Cols ds mid (Word word.Measures ∷ next) → Cols ms next last → ManyOf OptE os last to → RefE (ref_of n p ds ms os) (Word word.Reference ∷ Name n ∷ Word word.On ∷ opener ∷ from) to
+  reference : {s : List ℕ × Plain} {x : List Sel × List Sel} {os : List Opt} {from mid next to : List Tok} →
+      RefSourceE s from mid → AxesE x mid next → ManyOf OptE os next to → RefE (ref_of s x os) (Word word.Reference ∷ from) to
+
+-- {opt} [RETURN (ALL | UPDATED) ROWS] {ref}
+pub data FrontE : Front → List Tok → List Tok → Type 0 where
+  front : {os : List Opt} {b : Bool} {rs : List RefTree} {from mid next to : List Tok} →
+      ManyOf OptE os from mid → ReturnE b mid next → ManyOf RefE rs next to →
+      FrontE (record { opts = os; updated = b; refs = rs }) from to
 
 -- [MAIN name]
 pub data MainE : Option (List ℕ) → List Tok → List Tok → Type 0 where
@@ -49,41 +74,53 @@ pub data PartsE : List Sel → List Tok → List Tok → Type 0 where
   parts_none : {to : List Tok} → PartsE [] to to
   parts_some : {xs : List Sel} {from to : List Tok} → Cols xs from to → PartsE xs (Word word.Partition ∷ Word word.By ∷ from) to
 
--- [(AUTOMATIC | SEQUENTIAL) ORDER]
-pub data AutoE : Bool → List Tok → List Tok → Type 0 where
-  auto_none : {to : List Tok} → AutoE false to to
-  auto_yes : {to : List Tok} → AutoE true (Word word.Automatic ∷ Word word.Order ∷ to) to
-  auto_no : {to : List Tok} → AutoE false (Word word.Sequential ∷ Word word.Order ∷ to) to
+-- [MAIN name] [PARTITION BY cols] DIMENSION BY cols MEASURES cols
+pub data BodyE : Body → List Tok → List Tok → Type 0 where
+  body : {o : Option (List ℕ)} {ps : List Sel} {x : List Sel × List Sel} {from mid next to : List Tok} →
+      MainE o from mid → PartsE ps mid next → AxesE x next to → BodyE (record { main = o; parts = ps; axes = x }) from to
 
--- [UNTIL '(' e ')']
-pub data UntilE : Option E → List Tok → List Tok → Type 0 where
-  until_none : {to : List Tok} → UntilE None to to
-  until_some : {a : E} {from to : List Tok} → Expr a from (closer ∷ to) → UntilE (Some a) (Word word.Until ∷ opener ∷ from) to
+-- {opt} rules, where rules := the head of `rules`, and '(' [rule {',' rule}] ')'
+pub data TailE : Tail → List Tok → List Tok → Type 0 where
+  tail : {os : List Opt} {h : Head} {rs : List RuleTree} {from mid next to : List Tok} →
+      ManyOf OptE os from mid → HeadE h mid next → RuleList rs next to → TailE (record { opts = os; head = h; rules = rs }) from to
 
--- [ITERATE '(' int ')' [UNTIL '(' e ')']]
-pub data IterateE : Option Number → Option E → List Tok → List Tok → Type 0 where
-  iterate_none : {to : List Tok} → IterateE None None to to
-  iterate_some : {n : Number} {u : Option E} {from to : List Tok} → IsInt n → UntilE u from to → IterateE (Some n) u (Word word.Iterate ∷ opener ∷ Num n ∷ closer ∷ from) to
-
--- [RULES [mode] [(AUTOMATIC | SEQUENTIAL) ORDER] [ITERATE '(' int ')' [UNTIL '(' e ')']]], the head of `rules`
-pub data HeadE : Option Mode → Bool → Option Number → Option E → List Tok → List Tok → Type 0 where
-  head_none : {to : List Tok} → HeadE None false None None to to
-  head_some : {m : Option Mode} {b : Bool} {n : Option Number} {u : Option E} {from mid next to : List Tok} → MaybeMode m from mid → AutoE b mid next → IterateE n u next to → HeadE m b n u (Word word.Rules ∷ from) to
+abbrev pub model_of : Front → Body → Tail → ModelTree
+model_of f b e = record {
+  opts = f.opts;
+  main_opts = e.opts;
+  updated_only = f.updated;
+  refs = f.refs;
+  main = b.main;
+  parts = b.parts;
+  dims = b.axes.0;
+  measures = b.axes.1;
+  mode = e.head.mode;
+  auto = e.head.auto;
+  iterate = e.head.iterate;
+  until = e.head.until;
+  rules = e.rules;
+}
 
 -- model := MODEL {opt} [RETURN (ALL | UPDATED) ROWS] {ref} [MAIN name]
 --          [PARTITION BY cols] DIMENSION BY cols MEASURES cols {opt} rules
--- rules := the head of `rules`, and '(' [rule {',' rule}] ')'
 pub data ModelE : ModelTree → List Tok → List Tok → Type 0 where
-  model : {os main_os : List Opt} {updated auto : Bool} {rs : List RefTree} {o : Option (List ℕ)} {ps ds ms : List Sel} {m : Option Mode} {n : Option Number} {u : Option E} {rules : List RuleTree} {from t1 t2 t3 t4 t5 t6 t7 t8 t9 to : List Tok} → ManyOf OptE os from t1 → ReturnE updated t1 t2 → ManyOf RefE rs t2 t3 → MainE o t3 t4 → PartsE ps t4 (Word word.Dimension ∷ Word word.By ∷ t5) → Cols ds t5 (Word word.Measures ∷ t6) → Cols ms t6 t7 → ManyOf OptE main_os t7 t8 → HeadE m auto n u t8 t9 → RuleList rules t9 to → ModelE (record { opts = os; main_opts = main_os; updated_only = updated; refs = rs; main = o; parts = ps; dims = ds; measures = ms; mode = m; auto = auto; iterate = n; until = u; rules = rules }) (Word word.Model ∷ from) to
+  model : {f : Front} {b : Body} {e : Tail} {from mid next to : List Tok} →
+      FrontE f from mid → BodyE b mid next → TailE e next to → ModelE (model_of f b e) (Word word.Model ∷ from) to
 
 -- [model]
 pub data MaybeModel : Option ModelTree → List Tok → List Tok → Type 0 where
   model_none : {to : List Tok} → MaybeModel None to to
   model_some : {m : ModelTree} {from to : List Tok} → ModelE m from to → MaybeModel (Some m) from to
 
-abbrev pub query_of : Plain → Option ModelTree → List OrderKey → Query
-query_of p m ks = record { plain = p; model = m; order = ks }
+-- [model] [ORDER BY key {',' key}]
+pub data EndE : Option ModelTree × List OrderKey → List Tok → List Tok → Type 0 where
+  ending : {m : Option ModelTree} {ks : List OrderKey} {from mid to : List Tok} →
+      MaybeModel m from mid → OrderE ks mid to → EndE (m, ks) from to
+
+abbrev pub query_of : Plain → Option ModelTree × List OrderKey → Query
+query_of p x = record { plain = p; model = x.0; order = x.1 }
 
 -- query := plain [model] [ORDER BY key {',' key}]
 pub data QueryE : Query → List Tok → List Tok → Type 0 where
-  query : {p : Plain} {m : Option ModelTree} {ks : List OrderKey} {from mid next to : List Tok} → PlainE p from mid → MaybeModel m mid next → OrderE ks next to → QueryE (query_of p m ks) from to
+  query : {p : Plain} {x : Option ModelTree × List OrderKey} {from mid to : List Tok} →
+      PlainE p from mid → EndE x mid to → QueryE (query_of p x) from to

@@ -30,5 +30,6 @@ scale_of n = min (nat_of n.mant) 255
 -- kind := INT | DECIMAL '(' int ')' | TEXT
 pub data KindE : Kind → List Tok → List Tok → Type 0 where
   kind_int : {to : List Tok} → KindE kind.Int (Word word.Int ∷ to) to
-  kind_decimal : {n : Number} {to : List Tok} → IsInt n → KindE (kind.Decimal (scale_of n)) (Word word.Decimal ∷ opener ∷ Num n ∷ closer ∷ to) to
+  kind_decimal : {n : Number} {to : List Tok} →
+      IsInt n → KindE (kind.Decimal (scale_of n)) (Word word.Decimal ∷ opener ∷ Num n ∷ closer ∷ to) to
   kind_text : {to : List Tok} → KindE kind.Text (Word word.Text ∷ to) to

@@ -1,10 +1,14 @@
 //! The trees of statements, queries and expressions, and the terminals of the grammar that reads them from tokens.
 //! Nothing goes in and nothing comes out: these are the types that the readers build and the binder takes.
-//! Which tree reads which tokens is the relation of specs/: `Expression`, `Query`, `Model`, `Rule` and `Statement`.
+//! Which tree reads which tokens is the relation of specs/: `GrammarExpression`, `GrammarQuery`, `GrammarModel`, `GrammarRule`
+//! and `GrammarStatement`, which go on in `GrammarNames`, `GrammarLists` and `GrammarHead`.
 #![tactic(auto)]
 
+pub mod clauses;
 mod expressions;
 mod laws;
+pub mod levels;
+pub mod parts;
 mod queries;
 mod statements;
 mod terminals;

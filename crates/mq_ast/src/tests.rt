@@ -1,5 +1,5 @@
 use crate::queries::Opt;
-use crate::terminals::{Keyword, Symbol, Terminal};
+use crate::terminals::{Symbol, Terminal};
 use mq_values::{Agg, CmpOp, SumOp};
 
 #[test]

@@ -6,6 +6,7 @@ use Rattle.mq_ast.specs.declared.expressions.Arm.{Arm}
 use Rattle.mq_lexer.specs.declared.keywords.Keyword.TheVariants as word
 use Rattle.mq_ast.specs.declared.terminals.Terminal.TheVariants as terminal
 use Rattle.mq_ast.specs.Tokens.{Tok, Word, terminal_at}
+use Rattle.mq_ast.specs.declared.levels.TheConstants as level
 use Rattle.mq_ast.specs.Continuing.{Stops, Not, Ends}
 use Rattle.mq_ast.specs.Chains.{arm}
 use Rattle.mq_ast.specs.GrammarExpression.{Expr, Whens, whens_end, whens_more}
@@ -16,20 +17,20 @@ use Rattle.mq_parse_expr.specs.Fronts.{IsSome, SomeWhens}
 use Rattle.mq_parse_expr.proofs.Steps.{here, there, till, as_value, push, none}
 
 -- the arms of a CASE
-whens_no_test : {ts : List Tok} → No Expr (Stops 7) ts → No Whens (Ends (terminal.Word word.When)) (Word word.When ∷ ts)
+whens_no_test : {ts : List Tok} → No Expr (Stops level.EXPRESSION) ts → No Whens (Ends (terminal.Word word.When)) (Word word.When ∷ ts)
 whens_no_test h a to whens_end s = s.1 refl
 whens_no_test h a to (whens_more d f ds) s = h _ _ d (omega arith)
 
-whens_no_then : {x : E} {ts mid : List Tok} → Expr x ts mid → Stops 7 mid → Not (terminal.Word word.Then) mid → No Whens (Ends (terminal.Word word.When)) (Word word.When ∷ ts)
+whens_no_then : {x : E} {ts mid : List Tok} → Expr x ts mid → Stops level.EXPRESSION mid → Not (terminal.Word word.Then) mid → No Whens (Ends (terminal.Word word.When)) (Word word.When ∷ ts)
 whens_no_then e r n a to whens_end s = s.1 refl
 whens_no_then e r n a to (whens_more d f ds) s = let p = expr_same e d r (omega arith) in n (ap terminal_at p.1)
 
-whens_no_value : {x : E} {ts mid : List Tok} → Expr x ts (Word word.Then ∷ mid) → No Expr (Stops 7) mid → No Whens (Ends (terminal.Word word.When)) (Word word.When ∷ ts)
+whens_no_value : {x : E} {ts mid : List Tok} → Expr x ts (Word word.Then ∷ mid) → No Expr (Stops level.EXPRESSION) mid → No Whens (Ends (terminal.Word word.When)) (Word word.When ∷ ts)
 whens_no_value e h a to whens_end s = s.1 refl
 whens_no_value e h a to (whens_more d f ds) s =
     let p = expr_same e d (omega arith) (omega arith) in h _ _ (begin Expr (cut p.1) f) (whens_stop ds s)
 
-whens_no_others : {x y : E} {ts mid end : List Tok} → Expr x ts (Word word.Then ∷ mid) → Expr y mid end → Stops 7 end → No Whens (Ends (terminal.Word word.When)) end → No Whens (Ends (terminal.Word word.When)) (Word word.When ∷ ts)
+whens_no_others : {x y : E} {ts mid end : List Tok} → Expr x ts (Word word.Then ∷ mid) → Expr y mid end → Stops level.EXPRESSION end → No Whens (Ends (terminal.Word word.When)) end → No Whens (Ends (terminal.Word word.When)) (Word word.When ∷ ts)
 whens_no_others e g r h a to whens_end s = s.1 refl
 whens_no_others e g r h a to (whens_more d f ds) s =
     let p = expr_same e d (omega arith) (omega arith) in
@@ -63,20 +64,20 @@ whens_init t at to p found e = record {
 }
 
 module _ (t : List Token) (start to : ℕ) (found : List Arm) (kept : WhensSoFar t start to found) where
-  pub whens_no_test_at : No Expr (Stops 7) (from t to) → No SomeWhens (Ends (terminal.Word word.When)) (from t start)
+  pub whens_no_test_at : No Expr (Stops level.EXPRESSION) (from t to) → No SomeWhens (Ends (terminal.Word word.When)) (from t start)
   whens_no_test_at h = kept.no (whens_no_test h)
 
-  pub whens_no_then_at : {x : E} {mid : List Tok} → Expr x (from t to) mid → Stops 7 mid → Not (terminal.Word word.Then) mid → No SomeWhens (Ends (terminal.Word word.When)) (from t start)
+  pub whens_no_then_at : {x : E} {mid : List Tok} → Expr x (from t to) mid → Stops level.EXPRESSION mid → Not (terminal.Word word.Then) mid → No SomeWhens (Ends (terminal.Word word.When)) (from t start)
   whens_no_then_at d s n = kept.no (whens_no_then d s n)
 
   module _ (x : E) (end mid : ℕ) (d : Expr x (from t to) (from t end)) (then : Then (Word word.Then) t end mid) where
     first : Expr x (from t to) (Word word.Then ∷ from t mid)
     first = till Expr then.2 d
 
-    pub whens_no_value_at : No Expr (Stops 7) (from t mid) → No SomeWhens (Ends (terminal.Word word.When)) (from t start)
+    pub whens_no_value_at : No Expr (Stops level.EXPRESSION) (from t mid) → No SomeWhens (Ends (terminal.Word word.When)) (from t start)
     whens_no_value_at h = kept.no (whens_no_value first h)
 
-    module _ (y : E) (next : ℕ) (e : Expr y (from t mid) (from t next)) (s : Stops 7 (from t next)) (low : to ≤ next) (high : next ≤ length t) (found2 : List Arm) (f : found2 ≡ found ++ (arm x y) ∷ []) where
+    module _ (y : E) (next : ℕ) (e : Expr y (from t mid) (from t next)) (s : Stops level.EXPRESSION (from t next)) (low : to ≤ next) (high : next ≤ length t) (found2 : List Arm) (f : found2 ≡ found ++ (arm x y) ∷ []) where
       chain : (rest : List Arm) (last : List Tok) → Whens rest (from t next) last → Whens (found2 ++ rest) (from t start) last
       chain rest last ds = as_value Whens (ap (λ xs. xs ++ rest) f ∙ push found (arm x y) rest) (kept.ok (arm x y ∷ rest) last (whens_more first e ds))
 
@@ -88,7 +89,7 @@ module _ (t : List Token) (start to : ℕ) (found : List Arm) (kept : WhensSoFar
         no = λ h. kept.no (whens_no_others first e s (here Whens (Ends (terminal.Word word.When)) is.2 h));
       }
 
-      pub whens_done : Not (terminal.Word word.When) (from t next) → (start ≤ next) × (next ≤ length t) × SomeWhens found2 (from t start) (from t next) × (Stops 7 (from t next) × Not (terminal.Word word.When) (from t next))
+      pub whens_done : Not (terminal.Word word.When) (from t next) → (start ≤ next) × (next ≤ length t) × SomeWhens found2 (from t start) (from t next) × (Stops level.EXPRESSION (from t next) × Not (terminal.Word word.When) (from t next))
       whens_done n =
           let k = kept.low in
           let P : List Arm → Type 0 = IsSome in

@@ -12,6 +12,7 @@ use Rattle.mq_ast.specs.declared.terminals.Symbol.TheVariants as sign
 use Rattle.mq_ast.specs.declared.terminals.Terminal.{Terminal}
 use Rattle.mq_ast.specs.declared.terminals.Terminal.TheVariants as terminal
 use Rattle.mq_ast.specs.Tokens.{Tok, Word, Aggregate, Sign, Name, Num, Text, Bad, terminal_at, rest_of, opener, closer, comma, star}
+use Rattle.mq_ast.specs.declared.levels.TheConstants as level
 use Rattle.mq_ast.specs.Continuing.{loose, Stops, Not}
 use Rattle.mq_ast.specs.GrammarLists.{NameE, name}
 use Rattle.mq_ast.specs.GrammarNames.{KindE}
@@ -87,7 +88,7 @@ TailFront tail.Between ts = ts ≡ Word word.Between ∷ rest_of ts
 TailFront tail.In ts = ts ≡ Word word.In ∷ rest_of ts
 TailFront tail.Is ts = ts ≡ Word word.Is ∷ rest_of ts
 TailFront tail.Not ts = ts ≡ Word word.Not ∷ rest_of ts
-TailFront tail.Done ts = Stops 4 ts → Stops 5 ts
+TailFront tail.Done ts = Stops level.SUM ts → Stops level.TEST ts
 
 its_tail : (ts : List Tok) → TailFront (tail_of (terminal_at ts)) ts
 its_tail [] = λ s. omega arith
@@ -220,7 +221,7 @@ is_same (asks d) (asks_not d') = elim d [ ]
 is_same (asks_not d) (asks d') = elim d' [ ]
 is_same (asks_not d) (asks_not d') = asks_same d d'
 
-tail_asks : {a b : E} {ts to : List Tok} → TestTail a b (Word word.Is ∷ ts) to → Stops 5 to → (x : IsTest) × IsTestE x ts to
+tail_asks : {a b : E} {ts to : List Tok} → TestTail a b (Word word.Is ∷ ts) to → Stops level.TEST to → (x : IsTest) × IsTestE x ts to
 tail_asks tail_none s = absurd (omega arith)
 tail_asks tail_null s = (is.Null false, asks asks_null)
 tail_asks tail_not_null s = (is.Null true, asks_not asks_null)
@@ -235,10 +236,10 @@ asks_tail (asks asks_present) = tail_present
 asks_tail (asks_not asks_null) = tail_not_null
 asks_tail (asks_not asks_present) = tail_not_present
 
-pub is_no_test : {a : E} {ts : List Tok} → No IsTestE Anywhere ts → No (Since is_front a) (Stops 5) ts
+pub is_no_test : {a : E} {ts : List Tok} → No IsTestE Anywhere ts → No (Since is_front a) (Stops level.TEST) ts
 is_no_test h b to d s = let p = tail_asks d s in h p.0 to p.1 tt
 
-pub is_no_end : {a : E} {x : IsTest} {ts : List Tok} (mid : List Tok) → IsTestE x ts mid → loose (terminal_at mid) ≤ 5 → No (Since is_front a) (Stops 5) ts
+pub is_no_end : {a : E} {x : IsTest} {ts : List Tok} (mid : List Tok) → IsTestE x ts mid → loose (terminal_at mid) ≤ level.TEST → No (Since is_front a) (Stops level.TEST) ts
 is_no_end mid e l b to d s =
     let p = tail_asks d s in
     let q = is_same e p.1 in

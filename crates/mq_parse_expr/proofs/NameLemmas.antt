@@ -20,6 +20,7 @@ use Rattle.mq_ast.specs.declared.terminals.Symbol.TheVariants as sign
 use Rattle.mq_ast.specs.declared.terminals.Terminal.{Terminal}
 use Rattle.mq_ast.specs.declared.terminals.Terminal.TheVariants as terminal
 use Rattle.mq_ast.specs.Tokens.{Tok, Word, Name, Num, Text, Bad, terminal_at, opener, closer, point}
+use Rattle.mq_ast.specs.declared.levels.TheConstants as level
 use Rattle.mq_ast.specs.Continuing.{loose, Stops, Not}
 use Rattle.mq_ast.specs.GrammarLists.{NameE, name}
 use Rattle.mq_ast.specs.GrammarNames.{PathE, path_one, path_two, KindE, kind_int, kind_decimal, kind_text, IsInt}
@@ -27,7 +28,7 @@ use Rattle.mq_parse_expr.specs.Reading.{No, Anywhere}
 use Rattle.mq_parse_expr.specs.Names.{IntE, int, TextE, txt}
 
 -- a path
-pub stops_path : (s : Terminal) → s ≢ terminal.Sign sign.Point → 1 < loose s
+pub stops_path : (s : Terminal) → s ≢ terminal.Sign sign.Point → level.PATH < loose s
 stops_path (terminal.Sign sign.Point) n = absurd (n refl)
 stops_path (terminal.Sign (sign.Cmp _)) n = omega arith
 stops_path (terminal.Sign (sign.Sum _)) n = omega arith
@@ -35,15 +36,15 @@ stops_path (terminal.Sign (sign.Prod _)) n = omega arith
 stops_path (terminal.Word word.Abs) n = omega arith
 stops_path _ n = omega arith
 
-pub path_no_name : {ts : List Tok} → No NameE Anywhere ts → No PathE (Stops 1) ts
+pub path_no_name : {ts : List Tok} → No NameE Anywhere ts → No PathE (Stops level.PATH) ts
 path_no_name h a to path_one s = h _ _ name tt
 path_no_name h a to path_two s = h _ _ name tt
 
-pub path_no_second : {n : List ℕ} {ts : List Tok} → No NameE Anywhere ts → No PathE (Stops 1) (Name n ∷ point ∷ ts)
+pub path_no_second : {n : List ℕ} {ts : List Tok} → No NameE Anywhere ts → No PathE (Stops level.PATH) (Name n ∷ point ∷ ts)
 path_no_second h a to path_one s = absurd (omega arith)
 path_no_second h a to path_two s = h _ _ name tt
 
-pub path_no_end : {m n : List ℕ} {ts : List Tok} → loose (terminal_at ts) ≤ 1 → No PathE (Stops 1) (Name m ∷ point ∷ Name n ∷ ts)
+pub path_no_end : {m n : List ℕ} {ts : List Tok} → loose (terminal_at ts) ≤ level.PATH → No PathE (Stops level.PATH) (Name m ∷ point ∷ Name n ∷ ts)
 path_no_end l a to path_one s = absurd (omega arith)
 path_no_end l a to path_two s = absurd (omega arith)
 

@@ -19,6 +19,7 @@ use Rattle.mq_ast.specs.declared.terminals.Symbol.TheVariants as sign
 use Rattle.mq_ast.specs.declared.terminals.Terminal.{Terminal}
 use Rattle.mq_ast.specs.declared.terminals.Terminal.TheVariants as terminal
 use Rattle.mq_ast.specs.Tokens.{Tok, Word, Aggregate, Sign, Name, Num, terminal_at, rest_of, opener, closer, comma, star}
+use Rattle.mq_ast.specs.declared.levels.TheConstants as level
 use Rattle.mq_ast.specs.Continuing.{loose, Stops, Not, Ends}
 use Rattle.mq_ast.specs.Chains.{arm}
 use Rattle.mq_ast.specs.GrammarNames.{PathE, KindE, scale_of}
@@ -62,10 +63,10 @@ prim_form (prim_presentnnv d f g) e = cc
 pub round_no_open : {ts : List Tok} → Not (terminal.Sign sign.Open) ts → No RoundE Anywhere ts
 round_no_open n a to (round d) s = n refl
 
-pub round_no_inner : {ts : List Tok} → No Expr (Stops 7) ts → No RoundE Anywhere (opener ∷ ts)
+pub round_no_inner : {ts : List Tok} → No Expr (Stops level.EXPRESSION) ts → No RoundE Anywhere (opener ∷ ts)
 round_no_inner h a to (round d) s = h _ _ d (omega arith)
 
-pub round_no_close : {x : E} {ts mid : List Tok} → Expr x ts mid → Stops 7 mid → Not (terminal.Sign sign.Close) mid → No RoundE Anywhere (opener ∷ ts)
+pub round_no_close : {x : E} {ts mid : List Tok} → Expr x ts mid → Stops level.EXPRESSION mid → Not (terminal.Sign sign.Close) mid → No RoundE Anywhere (opener ∷ ts)
 round_no_close e r n a to (round d) s = let p = expr_same e d r (omega arith) in n (ap terminal_at p.1)
 
 round_same : {x y : E} {ts to to' : List Tok} → RoundE x ts to → RoundE y ts to' → Same x y to to'
@@ -123,10 +124,10 @@ closed_prim_same i (prim_presentnnv d f g) (prim_presentnnv d' f' g') =
     let r = closed_same g (begin Expr (cut q.1) g') in
     (cc, r.1)
 
-pub prim_no_closed : {ts : List Tok} → No PrimE Anywhere ts → No PrimE (Stops 2) ts
+pub prim_no_closed : {ts : List Tok} → No PrimE Anywhere ts → No PrimE (Stops level.PRIMARY) ts
 prim_no_closed h a to d s = h a to d tt
 
-pub prim_no_end : {x : E} {ts : List Tok} (mid : List Tok) → IsClosed (form_of (terminal_at ts)) → PrimE x ts mid → loose (terminal_at mid) ≤ 2 → No PrimE (Stops 2) ts
+pub prim_no_end : {x : E} {ts : List Tok} (mid : List Tok) → IsClosed (form_of (terminal_at ts)) → PrimE x ts mid → loose (terminal_at mid) ≤ level.PRIMARY → No PrimE (Stops level.PRIMARY) ts
 prim_no_end mid i e l a to d s =
     let p = closed_prim_same i e d in
     let k = ap (λ x. loose (terminal_at x)) p.1 in absurd (omega arith)
@@ -139,24 +140,24 @@ split_name (Word _ ∷ ts) e = absurd (cc)
 split_name (Sign _ ∷ ts) e = absurd (cc)
 split_name (_ ∷ ts) e = absurd (cc)
 
-pub prim_no_path : {n : List ℕ} {ts : List Tok} → No PathE (Stops 1) (Name n ∷ ts) → No PrimE (Stops 2) (Name n ∷ ts)
+pub prim_no_path : {n : List ℕ} {ts : List Tok} → No PathE (Stops level.PATH) (Name n ∷ ts) → No PrimE (Stops level.PRIMARY) (Name n ∷ ts)
 prim_no_path h a to (prim_path d) s = h _ _ d (omega arith)
 prim_no_path h a to (prim_cell d b) s = h _ _ d (brackets_stop b)
 
-pub path_no_end : {p : Path} {n : List ℕ} {ts : List Tok} (mid : List Tok) → PathE p (Name n ∷ ts) mid → Stops 1 mid → Not (terminal.Sign sign.OpenSquare) mid → loose (terminal_at mid) ≤ 2 → No PrimE (Stops 2) (Name n ∷ ts)
+pub path_no_end : {p : Path} {n : List ℕ} {ts : List Tok} (mid : List Tok) → PathE p (Name n ∷ ts) mid → Stops level.PATH mid → Not (terminal.Sign sign.OpenSquare) mid → loose (terminal_at mid) ≤ level.PRIMARY → No PrimE (Stops level.PRIMARY) (Name n ∷ ts)
 path_no_end mid e r m l a to (prim_path d) s =
     let p = path_same e d r (omega arith) in
     let k = ap (λ x. loose (terminal_at x)) p.1 in absurd (omega arith)
 path_no_end mid e r m l a to (prim_cell d b) s =
     let p = path_same e d r (brackets_stop b) in m (ap terminal_at p.1 ∙ brackets_front b)
 
-pub cell_no_places : {p : Path} {n : List ℕ} {ts mid : List Tok} → PathE p (Name n ∷ ts) mid → Stops 1 mid → terminal_at mid ≡ terminal.Sign sign.OpenSquare → No Brackets Anywhere mid → No PrimE (Stops 2) (Name n ∷ ts)
+pub cell_no_places : {p : Path} {n : List ℕ} {ts mid : List Tok} → PathE p (Name n ∷ ts) mid → Stops level.PATH mid → terminal_at mid ≡ terminal.Sign sign.OpenSquare → No Brackets Anywhere mid → No PrimE (Stops level.PRIMARY) (Name n ∷ ts)
 cell_no_places e r o h a to (prim_path d) s =
     let p = path_same e d r (omega arith) in no_square to s (ap terminal_at (sym p.1) ∙ o)
 cell_no_places e r o h a to (prim_cell d b) s =
     let p = path_same e d r (brackets_stop b) in h _ _ (begin Brackets p.1 b) tt
 
-pub cell_no_end : {p : Path} {ps : List Place} {n : List ℕ} {ts mid : List Tok} (end : List Tok) → PathE p (Name n ∷ ts) mid → Stops 1 mid → Brackets ps mid end → loose (terminal_at end) ≤ 2 → No PrimE (Stops 2) (Name n ∷ ts)
+pub cell_no_end : {p : Path} {ps : List Place} {n : List ℕ} {ts mid : List Tok} (end : List Tok) → PathE p (Name n ∷ ts) mid → Stops level.PATH mid → Brackets ps mid end → loose (terminal_at end) ≤ level.PRIMARY → No PrimE (Stops level.PRIMARY) (Name n ∷ ts)
 cell_no_end end e r f l a to (prim_path d) s =
     let p = path_same e d r (omega arith) in no_square to s (ap terminal_at (sym p.1) ∙ brackets_front f)
 cell_no_end end e r f l a to (prim_cell d b) s =
@@ -165,7 +166,7 @@ cell_no_end end e r f l a to (prim_cell d b) s =
     let k = ap (λ x. loose (terminal_at x)) q.1 in absurd (omega arith)
 
 -- an aggregate behind its word
-pub all_no_end : {g : Agg} {ts : List Tok} → loose (terminal_at ts) ≤ 2 → No (Behind (Aggregate g)) (Stops 2) (opener ∷ star ∷ closer ∷ ts)
+pub all_no_end : {g : Agg} {ts : List Tok} → loose (terminal_at ts) ≤ level.PRIMARY → No (Behind (Aggregate g)) (Stops level.PRIMARY) (opener ∷ star ∷ closer ∷ ts)
 all_no_end l a to (prim_agg d) s = absurd (expr_no_star d)
 all_no_end l a to prim_count s = absurd (omega arith)
 
@@ -175,12 +176,12 @@ all_prim {g} {ts} {to} i j =
     let Q : List Tok → Type 0 = λ m. PrimE e.CountAll (Aggregate agg.Count ∷ m) to in
     subst P (sym i) (subst Q (sym j) prim_count)
 
-pub agg_no_value : {g : Agg} {ts : List Tok} → NoAll g ts → NoCells ts → No RoundE Anywhere ts → No (Behind (Aggregate g)) (Stops 2) ts
+pub agg_no_value : {g : Agg} {ts : List Tok} → NoAll g ts → NoCells ts → No RoundE Anywhere ts → No (Behind (Aggregate g)) (Stops level.PRIMARY) ts
 agg_no_value m n h a to (prim_agg d) s = h _ _ (round d) tt
 agg_no_value m n h a to prim_count s = m _ refl refl
 agg_no_value m n h a to (prim_range b) s = n _ _ refl (brackets_front b)
 
-pub agg_no_end : {g : Agg} {x : E} {ts : List Tok} (mid : List Tok) → NoAll g ts → NoCells ts → RoundE x ts mid → loose (terminal_at mid) ≤ 2 → No (Behind (Aggregate g)) (Stops 2) ts
+pub agg_no_end : {g : Agg} {x : E} {ts : List Tok} (mid : List Tok) → NoAll g ts → NoCells ts → RoundE x ts mid → loose (terminal_at mid) ≤ level.PRIMARY → No (Behind (Aggregate g)) (Stops level.PRIMARY) ts
 agg_no_end mid m n e l a to (prim_agg d) s =
     let p = round_same e (round d) in
     let k = ap (λ x. loose (terminal_at x)) p.1 in absurd (omega arith)
@@ -191,14 +192,14 @@ pub agg_prim : {g : Agg} {a : E} {ts to : List Tok} → RoundE a ts to → PrimE
 agg_prim (round d) = prim_agg d
 
 -- the cells of an aggregate
-pub measured : (g : Agg) (t : List Token) (at : ℕ) (r : Result (E × ℕ) (Fail Refused)) {m n : List ℕ} → m ≡ n → Gives (CellsOf g m) (Stops 2) t at r → Gives (CellsOf g n) (Stops 2) t at r
-measured g t at r {m} {n} e d = let P : List ℕ → Type 0 = λ x. Gives (CellsOf g x) (Stops 2) t at r in subst P e d
+pub measured : (g : Agg) (t : List Token) (at : ℕ) (r : Result (E × ℕ) (Fail Refused)) {m n : List ℕ} → m ≡ n → Gives (CellsOf g m) (Stops level.PRIMARY) t at r → Gives (CellsOf g n) (Stops level.PRIMARY) t at r
+measured g t at r {m} {n} e d = let P : List ℕ → Type 0 = λ x. Gives (CellsOf g x) (Stops level.PRIMARY) t at r in subst P e d
 
-pub range_no_places : {g : Agg} {n : List ℕ} {ts : List Tok} → terminal_at ts ≡ terminal.Sign sign.OpenSquare → No Brackets Anywhere ts → No (CellsOf g n) (Stops 2) ts
+pub range_no_places : {g : Agg} {n : List ℕ} {ts : List Tok} → terminal_at ts ≡ terminal.Sign sign.OpenSquare → No Brackets Anywhere ts → No (CellsOf g n) (Stops level.PRIMARY) ts
 range_no_places o h a to (prim_agg d) s = no_square to s (ap terminal_at (cut (name_ends d)) ∙ o)
 range_no_places o h a to (prim_range b) s = h _ _ b tt
 
-pub range_no_end : {g : Agg} {n : List ℕ} {ps : List Place} {ts : List Tok} (mid : List Tok) → Brackets ps ts mid → loose (terminal_at mid) ≤ 2 → No (CellsOf g n) (Stops 2) ts
+pub range_no_end : {g : Agg} {n : List ℕ} {ps : List Place} {ts : List Tok} (mid : List Tok) → Brackets ps ts mid → loose (terminal_at mid) ≤ level.PRIMARY → No (CellsOf g n) (Stops level.PRIMARY) ts
 range_no_end mid f l a to (prim_agg d) s = no_square to s (ap terminal_at (cut (name_ends d)) ∙ brackets_front f)
 range_no_end mid f l a to (prim_range b) s =
     let q = brackets_same f b in
@@ -208,10 +209,10 @@ range_no_end mid f l a to (prim_range b) s =
 pub cast_no_open : {ts : List Tok} → Not (terminal.Sign sign.Open) ts → No (Behind (Word word.Cast)) Anywhere ts
 cast_no_open n a to (prim_cast d k) s = n refl
 
-pub cast_no_expr : {ts : List Tok} → No Expr (Stops 7) ts → No (Behind (Word word.Cast)) Anywhere (opener ∷ ts)
+pub cast_no_expr : {ts : List Tok} → No Expr (Stops level.EXPRESSION) ts → No (Behind (Word word.Cast)) Anywhere (opener ∷ ts)
 cast_no_expr h a to (prim_cast d k) s = h _ _ d (omega arith)
 
-pub cast_no_kind : {x : E} {ts mid : List Tok} → Expr x ts mid → Stops 7 mid → No AsKind Anywhere mid → No (Behind (Word word.Cast)) Anywhere (opener ∷ ts)
+pub cast_no_kind : {x : E} {ts mid : List Tok} → Expr x ts mid → Stops level.EXPRESSION mid → No AsKind Anywhere mid → No (Behind (Word word.Cast)) Anywhere (opener ∷ ts)
 cast_no_kind e r h a to (prim_cast d k) s =
     let p = expr_same e d r (omega arith) in h _ _ (begin AsKind p.1 (as_kind k)) tt
 
@@ -222,10 +223,10 @@ cast_prim e (as_kind k) = prim_cast e k
 pub rounded_no_open : {ts : List Tok} → Not (terminal.Sign sign.Open) ts → No (Behind (Word word.Round)) Anywhere ts
 rounded_no_open n a to (prim_to d i) s = n refl
 
-pub rounded_no_expr : {ts : List Tok} → No Expr (Stops 7) ts → No (Behind (Word word.Round)) Anywhere (opener ∷ ts)
+pub rounded_no_expr : {ts : List Tok} → No Expr (Stops level.EXPRESSION) ts → No (Behind (Word word.Round)) Anywhere (opener ∷ ts)
 rounded_no_expr h a to (prim_to d i) s = h _ _ d (omega arith)
 
-pub rounded_no_scale : {x : E} {ts mid : List Tok} → Expr x ts mid → Stops 7 mid → No ToScale Anywhere mid → No (Behind (Word word.Round)) Anywhere (opener ∷ ts)
+pub rounded_no_scale : {x : E} {ts mid : List Tok} → Expr x ts mid → Stops level.EXPRESSION mid → No ToScale Anywhere mid → No (Behind (Word word.Round)) Anywhere (opener ∷ ts)
 rounded_no_scale e r h a to (prim_to d i) s =
     let p = expr_same e d r (omega arith) in h _ _ (begin ToScale p.1 (to_scale i)) tt
 
@@ -301,18 +302,18 @@ pub case_prim : {x : Option E} (xs : List Arm) {o : Option E} {ts mid next to : 
 case_prim [] c w o = absurd w.0
 case_prim (_ ∷ xs) c w o = prim_case c w.1 o
 
-pub subject_no_expr : {ts : List Tok} → Not (terminal.Word word.When) ts → No Expr (Stops 7) ts → No CaseE AtWhen ts
+pub subject_no_expr : {ts : List Tok} → Not (terminal.Word word.When) ts → No Expr (Stops level.EXPRESSION) ts → No CaseE AtWhen ts
 subject_no_expr n h a to case_none w = n w
 subject_no_expr n h a to (case_some d) w = h _ _ d (stops_when to w)
 
-pub subject_no_when : {x : E} {ts mid : List Tok} → Not (terminal.Word word.When) ts → Expr x ts mid → Stops 7 mid → Not (terminal.Word word.When) mid → No CaseE AtWhen ts
+pub subject_no_when : {x : E} {ts mid : List Tok} → Not (terminal.Word word.When) ts → Expr x ts mid → Stops level.EXPRESSION mid → Not (terminal.Word word.When) mid → No CaseE AtWhen ts
 subject_no_when n e r m a to case_none w = n w
 subject_no_when n e r m a to (case_some d) w = let p = expr_same e d r (stops_when to w) in m (ap terminal_at p.1 ∙ w)
 
-pub else_no_expr : {ts : List Tok} → No Expr (Stops 7) ts → No ElseEnd Anywhere (Word word.Else ∷ ts)
+pub else_no_expr : {ts : List Tok} → No Expr (Stops level.EXPRESSION) ts → No ElseEnd Anywhere (Word word.Else ∷ ts)
 else_no_expr h a to (else_some d) s = h _ _ d (omega arith)
 
-pub else_no_end : {x : E} {ts mid : List Tok} → Expr x ts mid → Stops 7 mid → Not (terminal.Word word.End) mid → No ElseEnd Anywhere (Word word.Else ∷ ts)
+pub else_no_end : {x : E} {ts mid : List Tok} → Expr x ts mid → Stops level.EXPRESSION mid → Not (terminal.Word word.End) mid → No ElseEnd Anywhere (Word word.Else ∷ ts)
 else_no_end e r n a to (else_some d) s = let p = expr_same e d r (omega arith) in n (ap terminal_at p.1)
 
 pub else_no_word : {ts : List Tok} → Not (terminal.Word word.Else) ts → Not (terminal.Word word.End) ts → No ElseEnd Anywhere ts

@@ -2,6 +2,7 @@
 
 ghost use Rattle.std.specs.Prelude.{◌≡◌, ◌≤◌, ◌+◌, length};
 ghost use Rattle.mq_ast.specs.Tokens.{Aggregate, Word, terminal_at};
+ghost use Rattle.mq_ast.specs.declared.levels.TheConstants as level;
 ghost use Rattle.mq_ast.specs.Continuing.{Stops, Ends};
 ghost use Rattle.mq_ast.specs.GrammarExpression.{Expr, MoreOr, AndE, MoreAnd, NotE, TestE, TestTail, Tuple, Exprs, MoreExprs, SumE, MoreSum, ProdE, MoreProd, SignE, PrimE, Brackets, MorePlaces, PlaceE, CaseE};
 ghost use Rattle.mq_parse_expr.specs.Reading.{from, Anywhere, Gives};
@@ -18,7 +19,7 @@ use crate::trees::{
     aggregate, all_of, any_of, between, called, cast, comparison, in_list, negation, product,
     rounded, signed, sum,
 };
-use mq_ast::{Arm, E, Keyword, Place, ProdTerm, SumTerm, Symbol, Terminal};
+use mq_ast::{Arm, E, Keyword, Place, ProdTerm, SumTerm, Symbol, Terminal, levels};
 use mq_lexer::Token;
 use mq_values::{Agg, Boxed, CmpOp, Fail, Items, Refused, SumOp, Words};
 use std::alloc::Global;
@@ -27,7 +28,7 @@ use std::alloc::Global;
 #[cycle(parser)]
 pub fn read_expr(alloc: Global, t: &[Token<'_>], at: usize) -> Result<(E, usize), Fail<Refused>>
     requires { at ≤ length t.now }
-    ensures { Gives Expr (Stops 7) t.now at result }
+    ensures { Gives Expr (Stops level.EXPRESSION) t.now at result }
 {
     let (first, mid) = read_and(alloc, t, at)?;
     let (others, to) = read_ors(alloc, t, mid)?;
@@ -37,8 +38,8 @@ pub fn read_expr(alloc: Global, t: &[Token<'_>], at: usize) -> Result<(E, usize)
 #[cycle(parser)]
 fn read_ors(alloc: Global, t: &[Token<'_>], at: usize) -> Result<(Items<E>, usize), Fail<Refused>>
     requires in_range { at ≤ length t.now }
-    requires stops { Stops 6 (from t.now at) }
-    ensures { Gives MoreOr (Stops 7) t.now at result }
+    requires stops { Stops level.CONJUNCTION (from t.now at) }
+    ensures { Gives MoreOr (Stops level.EXPRESSION) t.now at result }
 {
     let mut found = Items::new(alloc);
     let mut to = at;
@@ -53,7 +54,7 @@ fn read_ors(alloc: Global, t: &[Token<'_>], at: usize) -> Result<(Items<E>, usiz
 #[cycle(parser)]
 fn read_and(alloc: Global, t: &[Token<'_>], at: usize) -> Result<(E, usize), Fail<Refused>>
     requires { at ≤ length t.now }
-    ensures { Gives AndE (Stops 6) t.now at result }
+    ensures { Gives AndE (Stops level.CONJUNCTION) t.now at result }
 {
     let (first, mid) = read_not(alloc, t, at)?;
     let (others, to) = read_ands(alloc, t, mid)?;
@@ -63,8 +64,8 @@ fn read_and(alloc: Global, t: &[Token<'_>], at: usize) -> Result<(E, usize), Fai
 #[cycle(parser)]
 fn read_ands(alloc: Global, t: &[Token<'_>], at: usize) -> Result<(Items<E>, usize), Fail<Refused>>
     requires in_range { at ≤ length t.now }
-    requires stops { Stops 5 (from t.now at) }
-    ensures { Gives MoreAnd (Stops 6) t.now at result }
+    requires stops { Stops level.TEST (from t.now at) }
+    ensures { Gives MoreAnd (Stops level.CONJUNCTION) t.now at result }
 {
     let mut found = Items::new(alloc);
     let mut to = at;
@@ -79,7 +80,7 @@ fn read_ands(alloc: Global, t: &[Token<'_>], at: usize) -> Result<(Items<E>, usi
 #[cycle(parser)]
 fn read_not(alloc: Global, t: &[Token<'_>], at: usize) -> Result<(E, usize), Fail<Refused>>
     requires { at ≤ length t.now }
-    ensures { Gives NotE (Stops 5) t.now at result }
+    ensures { Gives NotE (Stops level.TEST) t.now at result }
 {
     match behind_word(t, at, Keyword::Not) {
         Some(behind) => {
@@ -93,7 +94,7 @@ fn read_not(alloc: Global, t: &[Token<'_>], at: usize) -> Result<(E, usize), Fai
 #[cycle(parser)]
 fn read_test(alloc: Global, t: &[Token<'_>], at: usize) -> Result<(E, usize), Fail<Refused>>
     requires { at ≤ length t.now }
-    ensures { Gives TestE (Stops 5) t.now at result }
+    ensures { Gives TestE (Stops level.TEST) t.now at result }
 {
     let (a, mid) = read_sum(alloc, t, at)?;
     read_tail(alloc, t, mid, a)
@@ -103,8 +104,8 @@ fn read_test(alloc: Global, t: &[Token<'_>], at: usize) -> Result<(E, usize), Fa
 #[cycle(parser)]
 fn read_tail(alloc: Global, t: &[Token<'_>], at: usize, a: E) -> Result<(E, usize), Fail<Refused>>
     requires in_range { at ≤ length t.now }
-    requires stops { Stops 4 (from t.now at) }
-    ensures { Gives (TestTail a) (Stops 5) t.now at result }
+    requires stops { Stops level.SUM (from t.now at) }
+    ensures { Gives (TestTail a) (Stops level.TEST) t.now at result }
 {
     match tail_at(t, at) {
         Tail::Cmp(op) => read_cmp(alloc, t, at + 1, a, op),
@@ -125,7 +126,7 @@ fn read_negated(
     a: E,
 ) -> Result<(E, usize), Fail<Refused>>
     requires { at ≤ length t.now }
-    ensures { Gives (Since not_front a) (Stops 5) t.now at result }
+    ensures { Gives (Since not_front a) (Stops level.TEST) t.now at result }
 {
     match tail_at(t, at) {
         Tail::Between => read_between(alloc, t, at + 1, a, true),
@@ -144,10 +145,10 @@ fn read_cmp(
     op: CmpOp,
 ) -> Result<(E, usize), Fail<Refused>>
     requires { at ≤ length t.now }
-    ensures { Gives (Since (cmp_front op) a) (Stops 5) t.now at result }
+    ensures { Gives (Since (cmp_front op) a) (Stops level.TEST) t.now at result }
 {
     let (b, to) = read_sum(alloc, t, at)?;
-    settled(t, to, 5)?;
+    settled(t, to, levels::TEST)?;
     Ok((comparison(alloc, a, op, b)?, to))
 }
 
@@ -161,12 +162,12 @@ fn read_between(
     not: bool,
 ) -> Result<(E, usize), Fail<Refused>>
     requires { at ≤ length t.now }
-    ensures { Gives (Since (between_front not) a) (Stops 5) t.now at result }
+    ensures { Gives (Since (between_front not) a) (Stops level.TEST) t.now at result }
 {
     let (low, end) = read_sum(alloc, t, at)?;
     let mid = pass_word(t, end, Keyword::And)?;
     let (high, to) = read_sum(alloc, t, mid)?;
-    settled(t, to, 5)?;
+    settled(t, to, levels::TEST)?;
     Ok((between(alloc, a, not, low, high)?, to))
 }
 
@@ -180,10 +181,10 @@ fn read_in(
     not: bool,
 ) -> Result<(E, usize), Fail<Refused>>
     requires { at ≤ length t.now }
-    ensures { Gives (Since (in_front not) a) (Stops 5) t.now at result }
+    ensures { Gives (Since (in_front not) a) (Stops level.TEST) t.now at result }
 {
     let (members, to) = read_tuple(alloc, t, at)?;
-    settled(t, to, 5)?;
+    settled(t, to, levels::TEST)?;
     Ok((in_list(alloc, a, not, members)?, to))
 }
 
@@ -226,7 +227,7 @@ fn read_more_exprs(
     at: usize,
 ) -> Result<(Items<E>, usize), Fail<Refused>>
     requires in_range { at ≤ length t.now }
-    requires stops { Stops 7 (from t.now at) }
+    requires stops { Stops level.EXPRESSION (from t.now at) }
     ensures { Gives MoreExprs (Ends (Terminal.Sign Symbol.Comma)) t.now at result }
 {
     let mut found = Items::new(alloc);
@@ -242,7 +243,7 @@ fn read_more_exprs(
 #[cycle(parser)]
 fn read_sum(alloc: Global, t: &[Token<'_>], at: usize) -> Result<(E, usize), Fail<Refused>>
     requires { at ≤ length t.now }
-    ensures { Gives SumE (Stops 4) t.now at result }
+    ensures { Gives SumE (Stops level.SUM) t.now at result }
 {
     let (first, mid) = read_prod(alloc, t, at)?;
     let (others, to) = read_sums(alloc, t, mid)?;
@@ -256,8 +257,8 @@ fn read_sums(
     at: usize,
 ) -> Result<(Items<SumTerm>, usize), Fail<Refused>>
     requires in_range { at ≤ length t.now }
-    requires stops { Stops 3 (from t.now at) }
-    ensures { Gives MoreSum (Stops 4) t.now at result }
+    requires stops { Stops level.PRODUCT (from t.now at) }
+    ensures { Gives MoreSum (Stops level.SUM) t.now at result }
 {
     let mut found = Items::new(alloc);
     let mut to = at;
@@ -272,7 +273,7 @@ fn read_sums(
 #[cycle(parser)]
 fn read_prod(alloc: Global, t: &[Token<'_>], at: usize) -> Result<(E, usize), Fail<Refused>>
     requires { at ≤ length t.now }
-    ensures { Gives ProdE (Stops 3) t.now at result }
+    ensures { Gives ProdE (Stops level.PRODUCT) t.now at result }
 {
     let (first, mid) = read_sign(alloc, t, at)?;
     let (others, to) = read_prods(alloc, t, mid)?;
@@ -286,8 +287,8 @@ fn read_prods(
     at: usize,
 ) -> Result<(Items<ProdTerm>, usize), Fail<Refused>>
     requires in_range { at ≤ length t.now }
-    requires stops { Stops 2 (from t.now at) }
-    ensures { Gives MoreProd (Stops 3) t.now at result }
+    requires stops { Stops level.PRIMARY (from t.now at) }
+    ensures { Gives MoreProd (Stops level.PRODUCT) t.now at result }
 {
     let mut found = Items::new(alloc);
     let mut to = at;
@@ -302,7 +303,7 @@ fn read_prods(
 #[cycle(parser)]
 fn read_sign(alloc: Global, t: &[Token<'_>], at: usize) -> Result<(E, usize), Fail<Refused>>
     requires { at ≤ length t.now }
-    ensures { Gives SignE (Stops 2) t.now at result }
+    ensures { Gives SignE (Stops level.PRIMARY) t.now at result }
 {
     match behind_sign(t, at, Symbol::Sum(SumOp::Sub)) {
         Some(behind) => {
@@ -316,7 +317,7 @@ fn read_sign(alloc: Global, t: &[Token<'_>], at: usize) -> Result<(E, usize), Fa
 #[cycle(parser)]
 fn read_prim(alloc: Global, t: &[Token<'_>], at: usize) -> Result<(E, usize), Fail<Refused>>
     requires { at ≤ length t.now }
-    ensures { Gives PrimE (Stops 2) t.now at result }
+    ensures { Gives PrimE (Stops level.PRIMARY) t.now at result }
 {
     match form_at(t, at) {
         Form::Name => read_name(alloc, t, at),
@@ -324,7 +325,7 @@ fn read_prim(alloc: Global, t: &[Token<'_>], at: usize) -> Result<(E, usize), Fa
         Form::Other => Err(Fail::Cause(Refused::Syntax)),
         form => {
             let (e, to) = read_closed(alloc, t, at, form)?;
-            settled(t, to, 2)?;
+            settled(t, to, levels::PRIMARY)?;
             Ok((e, to))
         }
     }
@@ -358,15 +359,15 @@ fn read_closed(
 fn read_name(alloc: Global, t: &[Token<'_>], at: usize) -> Result<(E, usize), Fail<Refused>>
     requires in_range { at ≤ length t.now }
     requires begins { terminal_at (from t.now at) ≡ Terminal.Name }
-    ensures { Gives PrimE (Stops 2) t.now at result }
+    ensures { Gives PrimE (Stops level.PRIMARY) t.now at result }
 {
     let (path, mid) = read_path(alloc, t, at)?;
     let Some(_) = behind_sign(t, mid, Symbol::OpenSquare) else {
-        settled(t, mid, 2)?;
+        settled(t, mid, levels::PRIMARY)?;
         return Ok((E::Name(path), mid));
     };
     let (places, to) = read_brackets(alloc, t, mid)?;
-    settled(t, to, 2)?;
+    settled(t, to, levels::PRIMARY)?;
     Ok((E::Cell(path, places), to))
 }
 
@@ -379,11 +380,11 @@ fn read_agg(
     agg: Agg,
 ) -> Result<(E, usize), Fail<Refused>>
     requires { at ≤ length t.now }
-    ensures { Gives (Behind (Aggregate agg)) (Stops 2) t.now at result }
+    ensures { Gives (Behind (Aggregate agg)) (Stops level.PRIMARY) t.now at result }
 {
     match agg_head(t, at, agg) {
         AggHead::All(to) => {
-            settled(t, to, 2)?;
+            settled(t, to, levels::PRIMARY)?;
             Ok((E::CountAll, to))
         }
         AggHead::Cells(measure, cells) => {
@@ -392,7 +393,7 @@ fn read_agg(
         }
         AggHead::Values => {
             let (e, to) = read_round(alloc, t, at)?;
-            settled(t, to, 2)?;
+            settled(t, to, levels::PRIMARY)?;
             Ok((aggregate(alloc, agg, e)?, to))
         }
     }
@@ -409,10 +410,10 @@ fn read_range(
 ) -> Result<(E, usize), Fail<Refused>>
     requires in_range { at ≤ length t.now }
     requires begins { terminal_at (from t.now at) ≡ Terminal.Sign Symbol.OpenSquare }
-    ensures { Gives (CellsOf agg measure) (Stops 2) t.now at result }
+    ensures { Gives (CellsOf agg measure) (Stops level.PRIMARY) t.now at result }
 {
     let (places, to) = read_brackets(alloc, t, at)?;
-    settled(t, to, 2)?;
+    settled(t, to, levels::PRIMARY)?;
     Ok((E::RangeAgg(agg, measure, places), to))
 }
 
@@ -573,7 +574,7 @@ fn read_places(
     at: usize,
 ) -> Result<(Items<Place>, usize), Fail<Refused>>
     requires in_range { at ≤ length t.now }
-    requires stops { Stops 7 (from t.now at) }
+    requires stops { Stops level.EXPRESSION (from t.now at) }
     ensures { Gives MorePlaces (Ends (Terminal.Sign Symbol.Comma)) t.now at result }
 {
     let mut found = Items::new(alloc);
@@ -589,11 +590,11 @@ fn read_places(
 #[cycle(parser)]
 fn read_place(alloc: Global, t: &[Token<'_>], at: usize) -> Result<(Place, usize), Fail<Refused>>
     requires { at ≤ length t.now }
-    ensures { Gives PlaceE (Stops 7) t.now at result }
+    ensures { Gives PlaceE (Stops level.EXPRESSION) t.now at result }
 {
     match behind_word(t, at, Keyword::Any) {
         Some(to) => {
-            settled(t, to, 7)?;
+            settled(t, to, levels::EXPRESSION)?;
             Ok((Place::Any, to))
         }
         None => {

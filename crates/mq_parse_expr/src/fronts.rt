@@ -4,6 +4,7 @@ ghost use Rattle.std.specs.Prelude.{◌≡◌, ◌≢◌, ◌≤◌, ◌+◌, Li
 ghost use Rattle.mq_values.specs.declared.operators.SumOp.{SumOp};
 ghost use Rattle.mq_values.specs.declared.operators.ProdOp.{ProdOp};
 ghost use Rattle.mq_ast.specs.Tokens.{Tok, Word, Sign, closer, terminal_at};
+ghost use Rattle.mq_ast.specs.declared.levels.TheConstants as level;
 ghost use Rattle.mq_ast.specs.Continuing.{Stops, Not};
 ghost use Rattle.mq_ast.specs.GrammarExpression.{PrimE};
 ghost use Rattle.mq_parse_expr.specs.Reading.{from, Then, Anywhere, Gives};
@@ -14,7 +15,7 @@ use crate::forms::{AggHead, Form, IsTest, Tail, form_of, tail_of};
 use crate::names::{name_at, number_at, read_int, read_kind, read_name, text_at};
 use crate::terminals::{behind_sign, behind_word, pass_sign, pass_word, settled, terminal};
 use crate::trees::judged;
-use mq_ast::{E, Keyword, Symbol, Terminal};
+use mq_ast::{E, Keyword, Symbol, Terminal, levels};
 use mq_lexer::Token;
 use mq_values::{Agg, Fail, Kind, Num, ProdOp, Refused, SumOp, Value};
 use std::alloc::Global;
@@ -216,9 +217,9 @@ pub(crate) fn read_is(
     at: usize,
     a: E,
 ) -> Result<(E, usize), Fail<Refused>>
-    ensures { Gives (Since is_front a) (Stops 5) t.now at result }
+    ensures { Gives (Since is_front a) (Stops level.TEST) t.now at result }
 {
     let (test, to) = is_test(t, at)?;
-    settled(t, to, 5)?;
+    settled(t, to, levels::TEST)?;
     Ok((judged(alloc, a, test)?, to))
 }

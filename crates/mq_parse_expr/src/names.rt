@@ -3,6 +3,7 @@
 ghost use Rattle.std.specs.Prelude.{◌≡◌, ◌≢◌, ◌<◌, ◌≤◌, ◌+◌, [], ◌∷◌, length, IfOk, MatchOption, Some, None};
 ghost use Rattle.mq_ast.specs.Tokens as tok;
 ghost use Rattle.mq_ast.specs.Spelling.{tok_of};
+ghost use Rattle.mq_ast.specs.declared.levels.TheConstants as level;
 ghost use Rattle.mq_ast.specs.Continuing.{Stops, Not};
 ghost use Rattle.mq_ast.specs.GrammarNames.{PathE, KindE, path_of, scale_of as spec_scale};
 ghost use Rattle.mq_ast.specs.GrammarLists.{NameE};
@@ -11,7 +12,7 @@ ghost use Rattle.mq_parse_expr.specs.Names.{IntE, TextE};
 
 use crate::spelling::content;
 use crate::terminals::{behind_sign, behind_word, pass_sign, pass_word, settled, token_at};
-use mq_ast::{Keyword, Path, Symbol, Terminal};
+use mq_ast::{Keyword, Path, Symbol, Terminal, levels};
 use mq_lexer::{Sort, Token, read_number, reserved_word};
 use mq_values::{Fail, Kind, Memory, Num, Refused, Text, Words};
 use std::alloc::Global;
@@ -96,14 +97,14 @@ pub fn read_int(t: &[Token<'_>], at: usize) -> Result<(Num, usize), Fail<Refused
 
 /// A name, or two with a point between them (docs/LANGUAGE.md, "Expressions").
 pub fn read_path(alloc: Global, t: &[Token<'_>], at: usize) -> Result<(Path, usize), Fail<Refused>>
-    ensures { Gives PathE (Stops 1) t.now at result }
+    ensures { Gives PathE (Stops level.PATH) t.now at result }
 {
     let (first, next) = read_name(alloc, t, at)?;
     let Some(second) = behind_sign(t, next, Symbol::Point) else {
         return Ok((short_path(first), next));
     };
     let (last, to) = read_name(alloc, t, second)?;
-    settled(t, to, 1)?;
+    settled(t, to, levels::PATH)?;
     Ok((long_path(first, last), to))
 }
 

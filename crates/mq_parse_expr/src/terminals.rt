@@ -9,7 +9,7 @@ ghost use Rattle.mq_ast.specs.Continuing.{loose, Stops, Not};
 ghost use Rattle.mq_parse_expr.specs.Reading.{from, Then, Fails};
 
 use crate::spelling::{is_text, symbol};
-use mq_ast::{Keyword, Symbol, Terminal};
+use mq_ast::{Keyword, Symbol, Terminal, levels};
 use mq_lexer::{Reserved, Sort, Token, read_number, reserved_word};
 use mq_values::{Fail, Refused};
 
@@ -134,15 +134,15 @@ fn looseness_of_word(word: Keyword) -> u8
     ensures { result ≡ loose (Terminal.Word word) }
 {
     match word {
-        Keyword::Between | Keyword::In | Keyword::Is | Keyword::Not => 5,
-        Keyword::And => 6,
-        Keyword::Or => 7,
-        Keyword::As => 8,
-        Keyword::Join | Keyword::Inner | Keyword::Cross | Keyword::On => 9,
-        Keyword::Where => 10,
-        Keyword::Group => 11,
-        Keyword::Model | Keyword::Order | Keyword::Asc | Keyword::Desc => 12,
-        _ => 13,
+        Keyword::Between | Keyword::In | Keyword::Is | Keyword::Not => levels::TEST,
+        Keyword::And => levels::CONJUNCTION,
+        Keyword::Or => levels::EXPRESSION,
+        Keyword::As => levels::ITEM,
+        Keyword::Join | Keyword::Inner | Keyword::Cross | Keyword::On => levels::SOURCES,
+        Keyword::Where => levels::FILTERED,
+        Keyword::Group => levels::PLAIN,
+        Keyword::Model | Keyword::Order | Keyword::Asc | Keyword::Desc => levels::QUERY,
+        _ => levels::NONE,
     }
 }
 
@@ -151,13 +151,13 @@ fn looseness_of_sign(sign: Symbol) -> u8
     ensures { result ≡ loose (Terminal.Sign sign) }
 {
     match sign {
-        Symbol::Point => 1,
-        Symbol::Open | Symbol::OpenSquare => 2,
-        Symbol::Prod(_) => 3,
-        Symbol::Sum(_) => 4,
-        Symbol::Cmp(_) => 5,
-        Symbol::Comma => 9,
-        Symbol::Close | Symbol::CloseSquare | Symbol::Semicolon => 13,
+        Symbol::Point => levels::PATH,
+        Symbol::Open | Symbol::OpenSquare => levels::PRIMARY,
+        Symbol::Prod(_) => levels::PRODUCT,
+        Symbol::Sum(_) => levels::SUM,
+        Symbol::Cmp(_) => levels::TEST,
+        Symbol::Comma => levels::SOURCES,
+        Symbol::Close | Symbol::CloseSquare | Symbol::Semicolon => levels::NONE,
     }
 }
 
@@ -168,12 +168,12 @@ pub fn looseness(terminal: Terminal) -> u8
     match terminal {
         Terminal::Word(word) => looseness_of_word(word),
         Terminal::Sign(sign) => looseness_of_sign(sign),
-        Terminal::Name => 8,
+        Terminal::Name => levels::ITEM,
         Terminal::Aggregate(_)
         | Terminal::Number
         | Terminal::Text
         | Terminal::Bad
-        | Terminal::Nothing => 13,
+        | Terminal::Nothing => levels::NONE,
     }
 }
 

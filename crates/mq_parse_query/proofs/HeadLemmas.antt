@@ -8,6 +8,7 @@ use Rattle.mq_lexer.specs.declared.keywords.Keyword.TheVariants as word
 use Rattle.mq_ast.specs.declared.terminals.Symbol.TheVariants as sign
 use Rattle.mq_ast.specs.declared.terminals.Terminal.TheVariants as terminal
 use Rattle.mq_ast.specs.Tokens.{Tok, Word, Num, terminal_at, opener}
+use Rattle.mq_ast.specs.declared.clauses.TheConstants as clause
 use Rattle.mq_ast.specs.Continuing.{part, Not, Past}
 use Rattle.mq_ast.specs.GrammarRule.{MaybeMode}
 use Rattle.mq_ast.specs.GrammarModel.{AutoE, auto_none, auto_yes, auto_no, UntilE, until_none, until_some, iterate_none, iterate_some, head_none, head_some}
@@ -21,17 +22,17 @@ use Rattle.mq_parse_expr.specs.Fronts.{RoundE, round}
 use Rattle.mq_parse_query.specs.HeadPieces.{AutoEnd, auto_end, RoundInt, round_int, Turning, turning, Iterates, head_of, Heading, heading, Ruling, Opens}
 
 -- the order of the rules
-pub auto_no_order : {b : Bool} {ts : List Tok} → Not (terminal.Word word.Order) ts → No (AutoEnd b) (Past 7) ts
+pub auto_no_order : {b : Bool} {ts : List Tok} → Not (terminal.Word word.Order) ts → No (AutoEnd b) (Past clause.ORDER) ts
 auto_no_order n a to auto_end s = n refl
 
-pub auto_no_end : {b : Bool} {ts : List Tok} → part (terminal_at ts) ≤ 7 → No (AutoEnd b) (Past 7) (Word word.Order ∷ ts)
+pub auto_no_end : {b : Bool} {ts : List Tok} → part (terminal_at ts) ≤ clause.ORDER → No (AutoEnd b) (Past clause.ORDER) (Word word.Order ∷ ts)
 auto_no_end l a to auto_end s = absurd (omega arith)
 
-pub auto_no_yes : {ts : List Tok} → No (AutoEnd true) (Past 7) ts → No AutoE (Past 7) (Word word.Automatic ∷ ts)
+pub auto_no_yes : {ts : List Tok} → No (AutoEnd true) (Past clause.ORDER) ts → No AutoE (Past clause.ORDER) (Word word.Automatic ∷ ts)
 auto_no_yes h a to auto_none s = absurd (omega arith)
 auto_no_yes h a to auto_yes s = h _ _ auto_end s
 
-pub auto_no_no : {ts : List Tok} → No (AutoEnd false) (Past 7) ts → No AutoE (Past 7) (Word word.Sequential ∷ ts)
+pub auto_no_no : {ts : List Tok} → No (AutoEnd false) (Past clause.ORDER) ts → No AutoE (Past clause.ORDER) (Word word.Sequential ∷ ts)
 auto_no_no h a to auto_none s = absurd (omega arith)
 auto_no_no h a to auto_no s = h _ _ auto_end s
 
@@ -41,23 +42,23 @@ yes_auto auto_end = auto_yes
 pub no_auto : {b : Bool} {ts to : List Tok} → AutoEnd false b ts to → AutoE b (Word word.Sequential ∷ ts) to
 no_auto auto_end = auto_no
 
-pub auto_no_word : {ts : List Tok} → Not (terminal.Word word.Automatic) ts → Not (terminal.Word word.Sequential) ts → part (terminal_at ts) ≤ 7 → No AutoE (Past 7) ts
+pub auto_no_word : {ts : List Tok} → Not (terminal.Word word.Automatic) ts → Not (terminal.Word word.Sequential) ts → part (terminal_at ts) ≤ clause.ORDER → No AutoE (Past clause.ORDER) ts
 auto_no_word m n l a to auto_none s = absurd (omega arith)
 auto_no_word m n l a to auto_yes s = m refl
 auto_no_word m n l a to auto_no s = n refl
 
 -- UNTIL
-pub until_no_round : {ts : List Tok} → No RoundE Anywhere ts → No UntilE (Past 9) (Word word.Until ∷ ts)
+pub until_no_round : {ts : List Tok} → No RoundE Anywhere ts → No UntilE (Past clause.UNTIL) (Word word.Until ∷ ts)
 until_no_round h a to until_none s = absurd (omega arith)
 until_no_round h a to (until_some d) s = h _ _ (round d) tt
 
-pub until_no_end : {x : E} {ts : List Tok} (mid : List Tok) → RoundE x ts mid → part (terminal_at mid) ≤ 9 → No UntilE (Past 9) (Word word.Until ∷ ts)
+pub until_no_end : {x : E} {ts : List Tok} (mid : List Tok) → RoundE x ts mid → part (terminal_at mid) ≤ clause.UNTIL → No UntilE (Past clause.UNTIL) (Word word.Until ∷ ts)
 until_no_end mid e l a to until_none s = absurd (omega arith)
 until_no_end mid (round e) l a to (until_some d) s =
     let p = expr_same e d (omega arith) (omega arith) in
     let k = ap (λ x. part (terminal_at x)) (cut p.1) in absurd (omega arith)
 
-pub until_no_word : {ts : List Tok} → Not (terminal.Word word.Until) ts → part (terminal_at ts) ≤ 9 → No UntilE (Past 9) ts
+pub until_no_word : {ts : List Tok} → Not (terminal.Word word.Until) ts → part (terminal_at ts) ≤ clause.UNTIL → No UntilE (Past clause.UNTIL) ts
 until_no_word n l a to until_none s = absurd (omega arith)
 until_no_word n l a to (until_some d) s = n refl
 
@@ -74,37 +75,37 @@ int_no_int h a to (round_int i) s = h _ _ (int i) tt
 pub int_no_close : {n : Number} {ts : List Tok} → Not (terminal.Sign sign.Close) ts → No RoundInt Anywhere (opener ∷ Num n ∷ ts)
 int_no_close h a to (round_int i) s = h refl
 
-pub turns_no_int : {ts : List Tok} → No RoundInt Anywhere ts → No Iterates (Past 9) ts
+pub turns_no_int : {ts : List Tok} → No RoundInt Anywhere ts → No Iterates (Past clause.UNTIL) ts
 turns_no_int h a to (turning iterate_none) s = absurd (omega arith)
 turns_no_int h a to (turning (iterate_some i d)) s = h _ _ (round_int i) tt
 
-pub turns_no_until : {n : Number} {ts mid : List Tok} → RoundInt n ts mid → No UntilE (Past 9) mid → No Iterates (Past 9) ts
+pub turns_no_until : {n : Number} {ts mid : List Tok} → RoundInt n ts mid → No UntilE (Past clause.UNTIL) mid → No Iterates (Past clause.UNTIL) ts
 turns_no_until e h a to (turning iterate_none) s = absurd (omega arith)
 turns_no_until (round_int j) h a to (turning (iterate_some i d)) s = h _ _ d s
 
 pub turns_whole : {n : Number} {u : Option E} {ts mid to : List Tok} → RoundInt n ts mid → UntilE u mid to → Iterates (Some n, u) ts to
 turns_whole (round_int i) d = turning (iterate_some i d)
 
-pub turning_no_word : {ts : List Tok} → Not (terminal.Word word.Iterate) ts → part (terminal_at ts) ≤ 9 → No Turning (Past 9) ts
+pub turning_no_word : {ts : List Tok} → Not (terminal.Word word.Iterate) ts → part (terminal_at ts) ≤ clause.UNTIL → No Turning (Past clause.UNTIL) ts
 turning_no_word n l a to (turning iterate_none) s = absurd (omega arith)
 turning_no_word n l a to (turning (iterate_some i d)) s = n refl
 
-turning_end : {a b : Option Number × Option E} {ts to to' : List Tok} → Turning a ts to → Turning b ts to' → Past 9 to → Past 9 to' → to ≡ to'
+turning_end : {a b : Option Number × Option E} {ts to to' : List Tok} → Turning a ts to → Turning b ts to' → Past clause.UNTIL to → Past clause.UNTIL to' → to ≡ to'
 turning_end (turning d) (turning d') s s' = (iterate_same d d' s s').2
 
 -- RULES
-pub ruling_no_mode : {ts : List Tok} → No MaybeMode (Past 6) ts → No Ruling Opens ts
+pub ruling_no_mode : {ts : List Tok} → No MaybeMode (Past clause.MODE) ts → No Ruling Opens ts
 ruling_no_mode h a to (heading head_none) s = absurd cc
 ruling_no_mode h a to (heading (head_some m b n)) s = h _ _ m (auto_past b (iterate_past n (opens_past to s)))
 
-pub ruling_no_auto : {x : Option Mode} {ts mid : List Tok} → MaybeMode x ts mid → Past 6 mid → No AutoE (Past 7) mid → No Ruling Opens ts
+pub ruling_no_auto : {x : Option Mode} {ts mid : List Tok} → MaybeMode x ts mid → Past clause.MODE mid → No AutoE (Past clause.ORDER) mid → No Ruling Opens ts
 ruling_no_auto e r h a to (heading head_none) s = absurd cc
 ruling_no_auto e r h a to (heading (head_some m b n)) s =
     let i = iterate_past n (opens_past to s) in
     let p = maybe_mode_same e m r (auto_past b i) in
     h _ _ (begin AutoE p.1 b) i
 
-pub ruling_no_iterate : {x : Option Mode} {y : Bool} {ts mid next : List Tok} → MaybeMode x ts mid → Past 6 mid → AutoE y mid next → Past 7 next → No Turning (Past 9) next → No Ruling Opens ts
+pub ruling_no_iterate : {x : Option Mode} {y : Bool} {ts mid next : List Tok} → MaybeMode x ts mid → Past clause.MODE mid → AutoE y mid next → Past clause.ORDER next → No Turning (Past clause.UNTIL) next → No Ruling Opens ts
 ruling_no_iterate e r f r' h a to (heading head_none) s = absurd cc
 ruling_no_iterate e r f r' h a to (heading (head_some m b n)) s =
     let i = iterate_past n (opens_past to s) in
@@ -112,7 +113,7 @@ ruling_no_iterate e r f r' h a to (heading (head_some m b n)) s =
     let q = auto_same f (begin AutoE p.1 b) r' i in
     h _ _ (begin Turning q.1 (turning n)) (opens_past to s)
 
-pub ruling_no_open : {x : Option Mode} {y : Bool} {z : Option Number × Option E} {ts mid next last : List Tok} → MaybeMode x ts mid → Past 6 mid → AutoE y mid next → Past 7 next → Turning z next last → Past 9 last → Not (terminal.Sign sign.Open) last → No Ruling Opens ts
+pub ruling_no_open : {x : Option Mode} {y : Bool} {z : Option Number × Option E} {ts mid next last : List Tok} → MaybeMode x ts mid → Past clause.MODE mid → AutoE y mid next → Past clause.ORDER next → Turning z next last → Past clause.UNTIL last → Not (terminal.Sign sign.Open) last → No Ruling Opens ts
 ruling_no_open e r f r' g r'' k a to (heading head_none) s = absurd cc
 ruling_no_open e r f r' g r'' k a to (heading (head_some m b n)) s =
     let i = iterate_past n (opens_past to s) in

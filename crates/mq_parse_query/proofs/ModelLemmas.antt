@@ -12,6 +12,7 @@ use Rattle.mq_ast.specs.declared.terminals.Symbol.TheVariants as sign
 use Rattle.mq_ast.specs.declared.terminals.Terminal.{Terminal}
 use Rattle.mq_ast.specs.declared.terminals.Terminal.TheVariants as terminal
 use Rattle.mq_ast.specs.Tokens.{Tok, Word, Name, terminal_at, opener}
+use Rattle.mq_ast.specs.declared.clauses.TheConstants as clause
 use Rattle.mq_ast.specs.Continuing.{part, Not, Past}
 use Rattle.mq_ast.specs.GrammarLists.{NameE, name, ManyOf, many_end, many_more}
 use Rattle.mq_ast.specs.GrammarQuery.{Cols}
@@ -25,7 +26,7 @@ use Rattle.mq_parse_query.specs.RulePieces.{PlainEnd}
 use Rattle.mq_parse_query.specs.ModelPieces.{option_of, first_word, second_word, WhichE, which_all, which_updated, Returns, SourceE, source, DimsE, dims, AxesE, axes, Refers}
 
 -- options
-option_past : (x : Terminal) → option_of x ≡ None → 1 < part x
+option_past : (x : Terminal) → option_of x ≡ None → clause.OPTION < part x
 option_past (terminal.Word word.Ignore) e = absurd cc
 option_past (terminal.Word word.Keep) e = absurd cc
 option_past (terminal.Word word.Unique) e = absurd cc
@@ -41,14 +42,14 @@ option_word (terminal.Word word.Keep) o e = cc
 option_word (terminal.Word word.Unique) o e = cc
 option_word _ o e = absurd cc
 
-pub option_found : (t : List Token) (at : ℕ) (x : Terminal) (r : Option Opt) → x ≡ terminal_at (from t at) → (x ≢ terminal.Nothing → at < length t) → r ≡ option_of x → MatchOption r (Past 1 (from t at)) (λ o. Then (Word (first_word o)) t at (at + 1))
-option_found t at x None k i e = let P : Terminal → Type 0 = λ y. 1 < part y in subst P k (option_past x (sym e))
+pub option_found : (t : List Token) (at : ℕ) (x : Terminal) (r : Option Opt) → x ≡ terminal_at (from t at) → (x ≢ terminal.Nothing → at < length t) → r ≡ option_of x → MatchOption r (Past clause.OPTION (from t at)) (λ o. Then (Word (first_word o)) t at (at + 1))
+option_found t at x None k i e = let P : Terminal → Type 0 = λ y. clause.OPTION < part y in subst P k (option_past x (sym e))
 option_found t at x (Some o) k i e =
     let w = option_word x o e in
     let b : at < length t = i (λ z. cc) in
     (refl, omega (arith, b), word_next t at (first_word o) (sym k ∙ w))
 
-pub option_no_second : (o : Opt) {ts : List Tok} → Not (terminal.Word (second_word o)) ts → No (ManyOf OptE) (Past 1) (Word (first_word o) ∷ ts)
+pub option_no_second : (o : Opt) {ts : List Tok} → Not (terminal.Word (second_word o)) ts → No (ManyOf OptE) (Past clause.OPTION) (Word (first_word o) ∷ ts)
 option_no_second opt.IgnoreNav n a to many_end s = absurd (omega arith)
 option_no_second opt.KeepNav n a to many_end s = absurd (omega arith)
 option_no_second opt.UniqueDimension n a to many_end s = absurd (omega arith)
@@ -66,17 +67,17 @@ pub which_no_word : {ts : List Tok} → Not (terminal.Word word.All) ts → Not 
 which_no_word m n a to which_all s = m refl
 which_no_word m n a to which_updated s = n refl
 
-pub rows_no_which : {ts : List Tok} → No WhichE Anywhere ts → No Returns (Past 2) ts
+pub rows_no_which : {ts : List Tok} → No WhichE Anywhere ts → No Returns (Past clause.RETURN) ts
 rows_no_which h a to return_none s = absurd (omega arith)
 rows_no_which h a to return_all s = h _ _ which_all tt
 rows_no_which h a to return_updated s = h _ _ which_updated tt
 
-pub rows_no_rows : {b : Bool} {ts mid : List Tok} → WhichE b ts mid → Not (terminal.Word word.Rows) mid → No Returns (Past 2) ts
+pub rows_no_rows : {b : Bool} {ts mid : List Tok} → WhichE b ts mid → Not (terminal.Word word.Rows) mid → No Returns (Past clause.RETURN) ts
 rows_no_rows e n a to return_none s = absurd (omega arith)
 rows_no_rows which_all n a to return_all s = n refl
 rows_no_rows which_updated n a to return_updated s = n refl
 
-pub rows_no_end : {b : Bool} {ts mid : List Tok} (next : List Tok) → WhichE b ts mid → mid ≡ Word word.Rows ∷ next → part (terminal_at next) ≤ 2 → No Returns (Past 2) ts
+pub rows_no_end : {b : Bool} {ts mid : List Tok} (next : List Tok) → WhichE b ts mid → mid ≡ Word word.Rows ∷ next → part (terminal_at next) ≤ clause.RETURN → No Returns (Past clause.RETURN) ts
 rows_no_end next e f l a to return_none s = absurd (omega arith)
 rows_no_end next which_all f l a to return_all s = let k = ap (λ x. part (terminal_at x)) (cut f) in absurd (omega arith)
 rows_no_end next which_updated f l a to return_updated s = let k = ap (λ x. part (terminal_at x)) (cut f) in absurd (omega arith)
@@ -85,7 +86,7 @@ pub rows_whole : {b : Bool} {ts mid to : List Tok} → WhichE b ts mid → mid �
 rows_whole {b} {ts} {mid} {to} which_all e = let P : List Tok → Type 0 = λ m. Returns false (Word word.All ∷ m) to in subst P (sym e) return_all
 rows_whole {b} {ts} {mid} {to} which_updated e = let P : List Tok → Type 0 = λ m. Returns true (Word word.Updated ∷ m) to in subst P (sym e) return_updated
 
-pub return_no_end : {ts : List Tok} → Not (terminal.Word word.Return) ts → part (terminal_at ts) ≤ 2 → No ReturnE (Past 2) ts
+pub return_no_end : {ts : List Tok} → Not (terminal.Word word.Return) ts → part (terminal_at ts) ≤ clause.RETURN → No ReturnE (Past clause.RETURN) ts
 return_no_end n l a to return_none s = absurd (omega arith)
 return_no_end n l a to return_all s = n refl
 return_no_end n l a to return_updated s = n refl
@@ -134,16 +135,16 @@ axes_same (axes d m) (axes d' m') =
     let q = cols_same m (begin Cols p.1 m') in
     (cc, q.1)
 
-pub axes_past : {a : List Sel × List Sel} {ts to : List Tok} → AxesE a ts to → Past 5 ts
+pub axes_past : {a : List Sel × List Sel} {ts to : List Tok} → AxesE a ts to → Past clause.PARTITION ts
 axes_past (axes (dims d) m) = omega arith
 
-pub ref_no_source : {ts : List Tok} → No SourceE Anywhere ts → No Refers (Past 1) ts
+pub ref_no_source : {ts : List Tok} → No SourceE Anywhere ts → No Refers (Past clause.OPTION) ts
 ref_no_source h a to (reference d c m o) s = h _ _ (source d) tt
 
-pub ref_no_axes : {x : List ℕ × Plain} {ts mid : List Tok} → SourceE x ts mid → No AxesE Anywhere mid → No Refers (Past 1) ts
+pub ref_no_axes : {x : List ℕ × Plain} {ts mid : List Tok} → SourceE x ts mid → No AxesE Anywhere mid → No Refers (Past clause.OPTION) ts
 ref_no_axes e h a to (reference d c m o) s = let p = source_same e (source d) in h _ _ (begin AxesE p.1 (axes (dims c) m)) tt
 
-pub ref_no_opts : {x : List ℕ × Plain} {y : List Sel × List Sel} {ts mid next : List Tok} → SourceE x ts mid → AxesE y mid next → No (ManyOf OptE) (Past 1) next → No Refers (Past 1) ts
+pub ref_no_opts : {x : List ℕ × Plain} {y : List Sel × List Sel} {ts mid next : List Tok} → SourceE x ts mid → AxesE y mid next → No (ManyOf OptE) (Past clause.OPTION) next → No Refers (Past clause.OPTION) ts
 ref_no_opts e f h a to (reference d c m o) s =
     let p = source_same e (source d) in
     let q = axes_same f (begin AxesE p.1 (axes (dims c) m)) in
@@ -152,42 +153,42 @@ ref_no_opts e f h a to (reference d c m o) s =
 pub ref_whole : {x : List ℕ × Plain} {y : List Sel × List Sel} {os : List Opt} {ts mid next to : List Tok} → SourceE x ts mid → AxesE y mid next → ManyOf OptE os next to → Refers (ref_of x.0 x.1 y.0 y.1 os) ts to
 ref_whole (source d) (axes (dims c) m) o = reference d c m o
 
-refs_past_one : {rs : List RefTree} {ts to : List Tok} → ManyOf RefE rs ts to → Past 3 to → Past 1 ts
+refs_past_one : {rs : List RefTree} {ts to : List Tok} → ManyOf RefE rs ts to → Past clause.REFERENCE to → Past clause.OPTION ts
 refs_past_one d s = let h = refs_past d s in omega arith
 
-pub refs_no_ref : {ts : List Tok} → No Refers (Past 1) ts → No (ManyOf RefE) (Past 3) (Word word.Reference ∷ ts)
+pub refs_no_ref : {ts : List Tok} → No Refers (Past clause.OPTION) ts → No (ManyOf RefE) (Past clause.REFERENCE) (Word word.Reference ∷ ts)
 refs_no_ref h a to many_end s = absurd (omega arith)
 refs_no_ref h a to (many_more d ds) s = h _ _ d (refs_past_one ds s)
 
-pub refs_no_end : {ts : List Tok} → Not (terminal.Word word.Reference) ts → part (terminal_at ts) ≤ 3 → No (ManyOf RefE) (Past 3) ts
+pub refs_no_end : {ts : List Tok} → Not (terminal.Word word.Reference) ts → part (terminal_at ts) ≤ clause.REFERENCE → No (ManyOf RefE) (Past clause.REFERENCE) ts
 refs_no_end n l a to many_end s = absurd (omega arith)
 refs_no_end n l a to (many_more (reference d c m o) ds) s = n refl
 
 -- MAIN and PARTITION BY
-pub main_no_name : {ts : List Tok} → No NameE Anywhere ts → No MainE (Past 4) (Word word.Main ∷ ts)
+pub main_no_name : {ts : List Tok} → No NameE Anywhere ts → No MainE (Past clause.MAIN) (Word word.Main ∷ ts)
 main_no_name h a to main_none s = absurd (omega arith)
 main_no_name h a to main_some s = h _ _ name tt
 
-pub main_no_end : {n : List ℕ} {ts : List Tok} → part (terminal_at ts) ≤ 4 → No MainE (Past 4) (Word word.Main ∷ Name n ∷ ts)
+pub main_no_end : {n : List ℕ} {ts : List Tok} → part (terminal_at ts) ≤ clause.MAIN → No MainE (Past clause.MAIN) (Word word.Main ∷ Name n ∷ ts)
 main_no_end l a to main_none s = absurd (omega arith)
 main_no_end l a to main_some s = absurd (omega arith)
 
-pub main_no_word : {ts : List Tok} → Not (terminal.Word word.Main) ts → part (terminal_at ts) ≤ 4 → No MainE (Past 4) ts
+pub main_no_word : {ts : List Tok} → Not (terminal.Word word.Main) ts → part (terminal_at ts) ≤ clause.MAIN → No MainE (Past clause.MAIN) ts
 main_no_word n l a to main_none s = absurd (omega arith)
 main_no_word n l a to main_some s = n refl
 
-pub parts_no_by : {ts : List Tok} → Not (terminal.Word word.By) ts → No PartsE (Past 5) (Word word.Partition ∷ ts)
+pub parts_no_by : {ts : List Tok} → Not (terminal.Word word.By) ts → No PartsE (Past clause.PARTITION) (Word word.Partition ∷ ts)
 parts_no_by n a to parts_none s = absurd (omega arith)
 parts_no_by n a to (parts_some d) s = n refl
 
-pub parts_no_cols : {ts : List Tok} → No Cols Anywhere ts → No PartsE (Past 5) (Word word.Partition ∷ Word word.By ∷ ts)
+pub parts_no_cols : {ts : List Tok} → No Cols Anywhere ts → No PartsE (Past clause.PARTITION) (Word word.Partition ∷ Word word.By ∷ ts)
 parts_no_cols h a to parts_none s = absurd (omega arith)
 parts_no_cols h a to (parts_some d) s = h _ _ d tt
 
-pub parts_no_end : {xs : List Sel} {ts : List Tok} (mid : List Tok) → Cols xs ts mid → part (terminal_at mid) ≤ 5 → No PartsE (Past 5) (Word word.Partition ∷ Word word.By ∷ ts)
+pub parts_no_end : {xs : List Sel} {ts : List Tok} (mid : List Tok) → Cols xs ts mid → part (terminal_at mid) ≤ clause.PARTITION → No PartsE (Past clause.PARTITION) (Word word.Partition ∷ Word word.By ∷ ts)
 parts_no_end mid e l a to parts_none s = absurd (omega arith)
 parts_no_end mid e l a to (parts_some d) s = let k = ap (λ x. part (terminal_at x)) (cols_same e d).1 in absurd (omega arith)
 
-pub parts_no_word : {ts : List Tok} → Not (terminal.Word word.Partition) ts → part (terminal_at ts) ≤ 5 → No PartsE (Past 5) ts
+pub parts_no_word : {ts : List Tok} → Not (terminal.Word word.Partition) ts → part (terminal_at ts) ≤ clause.PARTITION → No PartsE (Past clause.PARTITION) ts
 parts_no_word n l a to parts_none s = absurd (omega arith)
 parts_no_word n l a to (parts_some d) s = n refl

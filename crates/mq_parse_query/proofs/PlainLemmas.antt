@@ -10,6 +10,7 @@ use Rattle.mq_lexer.specs.declared.keywords.Keyword.TheVariants as word
 use Rattle.mq_ast.specs.declared.terminals.Symbol.TheVariants as sign
 use Rattle.mq_ast.specs.declared.terminals.Terminal.TheVariants as terminal
 use Rattle.mq_ast.specs.Tokens.{Tok, Word, Name, terminal_at, opener}
+use Rattle.mq_ast.specs.declared.levels.TheConstants as level
 use Rattle.mq_ast.specs.Continuing.{loose, Stops, Not}
 use Rattle.mq_ast.specs.GrammarLists.{SomeOf, ManyOf, many_end, many_more, NameE, name}
 use Rattle.mq_ast.specs.GrammarExpression.{Expr}
@@ -22,10 +23,10 @@ use Rattle.mq_parse_query.specs.Lists.{EndsList}
 use Rattle.mq_parse_query.specs.PlainPieces.{SomeName, some_name, JoinFront, front_word, BareFront, front_comma, front_cross, OnFront, front_join, front_inner, ConditionE, condition, OnE, on_item, Leads}
 
 -- [AS] name
-pub some_no_name : {ts : List Tok} → No NameE Anywhere ts → No SomeName (Stops 8) ts
+pub some_no_name : {ts : List Tok} → No NameE Anywhere ts → No SomeName (Stops level.ITEM) ts
 some_no_name h a to some_name s = h _ _ name tt
 
-pub some_no_end : {n : List ℕ} {ts mid : List Tok} → NameE n ts mid → loose (terminal_at mid) ≤ 8 → No SomeName (Stops 8) ts
+pub some_no_end : {n : List ℕ} {ts mid : List Tok} → NameE n ts mid → loose (terminal_at mid) ≤ level.ITEM → No SomeName (Stops level.ITEM) ts
 some_no_end name l a to some_name s = absurd (omega arith)
 
 pub some_named : {n : List ℕ} {ts to : List Tok} → NameE n ts to → SomeName (Some n) ts to
@@ -37,63 +38,63 @@ alias_behind some_name = alias_as
 pub alias_bare : {o : Option (List ℕ)} {ts to : List Tok} → SomeName o ts to → AliasE o ts to
 alias_bare some_name = alias_name
 
-pub alias_no_behind : {ts : List Tok} → No SomeName (Stops 8) ts → No AliasE (Stops 8) (Word word.As ∷ ts)
+pub alias_no_behind : {ts : List Tok} → No SomeName (Stops level.ITEM) ts → No AliasE (Stops level.ITEM) (Word word.As ∷ ts)
 alias_no_behind h a to alias_none s = absurd (omega arith)
 alias_no_behind h a to alias_as s = h _ _ some_name s
 
-pub alias_no_bare : {n : List ℕ} {ts us : List Tok} → ts ≡ Name n ∷ us → No SomeName (Stops 8) ts → No AliasE (Stops 8) ts
+pub alias_no_bare : {n : List ℕ} {ts us : List Tok} → ts ≡ Name n ∷ us → No SomeName (Stops level.ITEM) ts → No AliasE (Stops level.ITEM) ts
 alias_no_bare e h a to alias_none s = let k = ap (λ x. loose (terminal_at x)) e in absurd (omega arith)
 alias_no_bare e h a to alias_as s = cc
 alias_no_bare e h a to alias_name s = h _ _ some_name s
 
-pub alias_no_end : {ts : List Tok} → Not (terminal.Word word.As) ts → Not terminal.Name ts → loose (terminal_at ts) ≤ 8 → No AliasE (Stops 8) ts
+pub alias_no_end : {ts : List Tok} → Not (terminal.Word word.As) ts → Not terminal.Name ts → loose (terminal_at ts) ≤ level.ITEM → No AliasE (Stops level.ITEM) ts
 alias_no_end n m l a to alias_none s = absurd (omega arith)
 alias_no_end n m l a to alias_as s = n refl
 alias_no_end n m l a to alias_name s = m refl
 
 -- e [[AS] name]
-pub sel_no_expr : {ts : List Tok} → No Expr (Stops 7) ts → No SelE (Stops 8) ts
+pub sel_no_expr : {ts : List Tok} → No Expr (Stops level.EXPRESSION) ts → No SelE (Stops level.ITEM) ts
 sel_no_expr h a to (sel d o) s = h _ _ d (alias_stop o s)
 
-pub sel_no_alias : {x : E} {ts mid : List Tok} → Expr x ts mid → Stops 7 mid → No AliasE (Stops 8) mid → No SelE (Stops 8) ts
+pub sel_no_alias : {x : E} {ts mid : List Tok} → Expr x ts mid → Stops level.EXPRESSION mid → No AliasE (Stops level.ITEM) mid → No SelE (Stops level.ITEM) ts
 sel_no_alias e r h a to (sel d o) s = let p = expr_same e d r (alias_stop o s) in h _ _ (begin AliasE p.1 o) s
 
 -- columns between brackets
 pub cols_no_open : {ts : List Tok} → Not (terminal.Sign sign.Open) ts → No Cols Anywhere ts
 cols_no_open n a to (cols d) s = n refl
 
-pub cols_no_list : {ts : List Tok} → No (SomeOf SelE) (EndsList (Stops 8)) ts → No Cols Anywhere (opener ∷ ts)
+pub cols_no_list : {ts : List Tok} → No (SomeOf SelE) (EndsList (Stops level.ITEM)) ts → No Cols Anywhere (opener ∷ ts)
 cols_no_list h a to (cols d) s = h _ _ d (omega arith, λ e. cc)
 
-pub cols_no_close : {xs : List Sel} {ts mid : List Tok} → SomeOf SelE xs ts mid → EndsList (Stops 8) mid → Not (terminal.Sign sign.Close) mid → No Cols Anywhere (opener ∷ ts)
+pub cols_no_close : {xs : List Sel} {ts mid : List Tok} → SomeOf SelE xs ts mid → EndsList (Stops level.ITEM) mid → Not (terminal.Sign sign.Close) mid → No Cols Anywhere (opener ∷ ts)
 cols_no_close e r n a to (cols d) s = let p = sels_same e d r (omega arith, λ e. cc) in n (ap terminal_at p.1)
 
 -- name [[AS] name]
-pub item_no_name : {ts : List Tok} → No NameE Anywhere ts → No (ItemE None) (Stops 8) ts
+pub item_no_name : {ts : List Tok} → No NameE Anywhere ts → No (ItemE None) (Stops level.ITEM) ts
 item_no_name h a to (item d) s = h _ _ name tt
 
-pub item_no_alias : {n : List ℕ} {ts mid : List Tok} → NameE n ts mid → No AliasE (Stops 8) mid → No (ItemE None) (Stops 8) ts
+pub item_no_alias : {n : List ℕ} {ts mid : List Tok} → NameE n ts mid → No AliasE (Stops level.ITEM) mid → No (ItemE None) (Stops level.ITEM) ts
 item_no_alias name h a to (item d) s = h _ _ d s
 
 pub item_named : {n : List ℕ} {o : Option (List ℕ)} {ts mid to : List Tok} → NameE n ts mid → AliasE o mid to → ItemE None (item_of n o None) ts to
 item_named name d = item d
 
 -- ON e
-pub condition_no_on : {ts : List Tok} → Not (terminal.Word word.On) ts → No ConditionE (Stops 8) ts
+pub condition_no_on : {ts : List Tok} → Not (terminal.Word word.On) ts → No ConditionE (Stops level.ITEM) ts
 condition_no_on n a to (condition d) s = n refl
 
-pub condition_no_expr : {ts : List Tok} → No Expr (Stops 7) ts → No ConditionE (Stops 8) (Word word.On ∷ ts)
+pub condition_no_expr : {ts : List Tok} → No Expr (Stops level.EXPRESSION) ts → No ConditionE (Stops level.ITEM) (Word word.On ∷ ts)
 condition_no_expr h a to (condition d) s = h _ _ d (omega arith)
 
-pub condition_no_end : {x : E} {ts : List Tok} (mid : List Tok) → Expr x ts mid → Stops 7 mid → loose (terminal_at mid) ≤ 8 → No ConditionE (Stops 8) (Word word.On ∷ ts)
+pub condition_no_end : {x : E} {ts : List Tok} (mid : List Tok) → Expr x ts mid → Stops level.EXPRESSION mid → loose (terminal_at mid) ≤ level.ITEM → No ConditionE (Stops level.ITEM) (Word word.On ∷ ts)
 condition_no_end mid e r l a to (condition d) s =
     let p = expr_same e d r (omega arith) in let k = ap (λ x. loose (terminal_at x)) p.1 in absurd (omega arith)
 
 -- item ON e
-pub on_no_item : {ts : List Tok} → No (ItemE None) (Stops 8) ts → No OnE (Stops 8) ts
+pub on_no_item : {ts : List Tok} → No (ItemE None) (Stops level.ITEM) ts → No OnE (Stops level.ITEM) ts
 on_no_item h a to (on_item (item d) (condition f)) s = h _ _ (item d) (omega arith)
 
-pub on_no_condition : {i : FromItem} {ts mid : List Tok} → ItemE None i ts mid → Stops 8 mid → No ConditionE (Stops 8) mid → No OnE (Stops 8) ts
+pub on_no_condition : {i : FromItem} {ts mid : List Tok} → ItemE None i ts mid → Stops level.ITEM mid → No ConditionE (Stops level.ITEM) mid → No OnE (Stops level.ITEM) ts
 on_no_condition e r h a to (on_item d (condition f)) s =
     let p = item_same e d r (omega arith) in h _ _ (begin ConditionE p.1 (condition f)) s
 
@@ -134,27 +135,27 @@ pub on_join : {i : FromItem} {ts us to : List Tok} → OnFront ts us → OnE i u
 on_join front_join (on_item d (condition f)) = join_on d f
 on_join (front_inner front_word) (on_item d (condition f)) = join_inner d f
 
-pub joins_no_bare : {ts us : List Tok} → BareFront ts us → No (ItemE None) (Stops 8) us → No (ManyOf JoinE) (Stops 9) ts
+pub joins_no_bare : {ts us : List Tok} → BareFront ts us → No (ItemE None) (Stops level.ITEM) us → No (ManyOf JoinE) (Stops level.SOURCES) ts
 joins_no_bare front_comma h a to many_end s = absurd (omega arith)
 joins_no_bare front_comma h a to (many_more (join_comma d) ds) s = h _ _ d (joins_stop ds s)
 joins_no_bare (front_cross front_word) h a to many_end s = absurd (omega arith)
 joins_no_bare (front_cross front_word) h a to (many_more (join_cross d) ds) s = h _ _ d (joins_stop ds s)
 
-pub joins_no_on : {ts us : List Tok} → OnFront ts us → No OnE (Stops 8) us → No (ManyOf JoinE) (Stops 9) ts
+pub joins_no_on : {ts us : List Tok} → OnFront ts us → No OnE (Stops level.ITEM) us → No (ManyOf JoinE) (Stops level.SOURCES) ts
 joins_no_on front_join h a to many_end s = absurd (omega arith)
 joins_no_on front_join h a to (many_more (join_on d f) ds) s = h _ _ (on_item d (condition f)) (joins_stop ds s)
 joins_no_on (front_inner front_word) h a to many_end s = absurd (omega arith)
 joins_no_on (front_inner front_word) h a to (many_more (join_inner d f) ds) s = h _ _ (on_item d (condition f)) (joins_stop ds s)
 
-pub joins_no_front : {ts : List Tok} → ((us : List Tok) → BareFront ts us → ⊥) → ((us : List Tok) → OnFront ts us → ⊥) → loose (terminal_at ts) ≤ 9 → No (ManyOf JoinE) (Stops 9) ts
+pub joins_no_front : {ts : List Tok} → ((us : List Tok) → BareFront ts us → ⊥) → ((us : List Tok) → OnFront ts us → ⊥) → loose (terminal_at ts) ≤ level.SOURCES → No (ManyOf JoinE) (Stops level.SOURCES) ts
 joins_no_front m n l a to many_end s = absurd (omega arith)
 joins_no_front m n l a to (many_more (join_comma d) ds) s = m _ front_comma
 joins_no_front m n l a to (many_more (join_cross d) ds) s = m _ (front_cross front_word)
 joins_no_front m n l a to (many_more (join_on d f) ds) s = n _ front_join
 joins_no_front m n l a to (many_more (join_inner d f) ds) s = n _ (front_inner front_word)
 
-pub from_no_item : {ts : List Tok} → No (ItemE None) (Stops 8) ts → No FromE (Stops 9) ts
+pub from_no_item : {ts : List Tok} → No (ItemE None) (Stops level.ITEM) ts → No FromE (Stops level.SOURCES) ts
 from_no_item h a to (items d ds) s = h _ _ d (joins_stop ds s)
 
-pub from_no_joins : {i : FromItem} {ts mid : List Tok} → ItemE None i ts mid → Stops 8 mid → No (ManyOf JoinE) (Stops 9) mid → No FromE (Stops 9) ts
+pub from_no_joins : {i : FromItem} {ts mid : List Tok} → ItemE None i ts mid → Stops level.ITEM mid → No (ManyOf JoinE) (Stops level.SOURCES) mid → No FromE (Stops level.SOURCES) ts
 from_no_joins e r h a to (items d ds) s = let p = item_same e d r (joins_stop ds s) in h _ _ (begin (ManyOf JoinE) p.1 ds) s

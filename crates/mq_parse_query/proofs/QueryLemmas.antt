@@ -9,6 +9,8 @@ use Rattle.mq_ast.specs.declared.queries.ModelTree.{ModelTree}
 use Rattle.mq_lexer.specs.declared.keywords.Keyword.TheVariants as word
 use Rattle.mq_ast.specs.declared.terminals.Terminal.TheVariants as terminal
 use Rattle.mq_ast.specs.Tokens.{Tok, Word, terminal_at}
+use Rattle.mq_ast.specs.declared.levels.TheConstants as level
+use Rattle.mq_ast.specs.declared.clauses.TheConstants as clause
 use Rattle.mq_ast.specs.Continuing.{loose, Stops, Not, Past}
 use Rattle.mq_ast.specs.GrammarLists.{ManyOf}
 use Rattle.mq_ast.specs.GrammarQuery.{PlainE, OrderE}
@@ -28,23 +30,23 @@ use Rattle.mq_parse_query.specs.ModelPieces.{dims, AxesE, axes, FrontE, front, B
 use Rattle.mq_parse_query.proofs.ModelLemmas.{axes_same, axes_past}
 
 -- {opt} [RETURN ..] {ref}
-pub front_no_opts : {ts : List Tok} → No (ManyOf OptE) (Past 1) ts → No FrontE (Past 3) ts
+pub front_no_opts : {ts : List Tok} → No (ManyOf OptE) (Past clause.OPTION) ts → No FrontE (Past clause.REFERENCE) ts
 front_no_opts h a to (front o b f) s = h _ _ o (return_past b (refs_past f s))
 
-pub front_no_return : {os : List Opt} {ts mid : List Tok} → ManyOf OptE os ts mid → Past 1 mid → No ReturnE (Past 2) mid → No FrontE (Past 3) ts
+pub front_no_return : {os : List Opt} {ts mid : List Tok} → ManyOf OptE os ts mid → Past clause.OPTION mid → No ReturnE (Past clause.RETURN) mid → No FrontE (Past clause.REFERENCE) ts
 front_no_return e r h a to (front o b f) s =
     let k = refs_past f s in
     let p = opts_same e o r (return_past b k) in
     h _ _ (begin ReturnE p.1 b) k
 
-pub front_no_refs : {os : List Opt} {x : Bool} {ts mid next : List Tok} → ManyOf OptE os ts mid → Past 1 mid → ReturnE x mid next → Past 2 next → No (ManyOf RefE) (Past 3) next → No FrontE (Past 3) ts
+pub front_no_refs : {os : List Opt} {x : Bool} {ts mid next : List Tok} → ManyOf OptE os ts mid → Past clause.OPTION mid → ReturnE x mid next → Past clause.RETURN next → No (ManyOf RefE) (Past clause.REFERENCE) next → No FrontE (Past clause.REFERENCE) ts
 front_no_refs e r g r' h a to (front o b f) s =
     let k = refs_past f s in
     let p = opts_same e o r (return_past b k) in
     let q = return_same g (begin ReturnE p.1 b) r' k in
     h _ _ (begin (ManyOf RefE) q.1 f) s
 
-front_end : {x y : Front} {ts to to' : List Tok} → FrontE x ts to → FrontE y ts to' → Past 3 to → Past 3 to' → to ≡ to'
+front_end : {x y : Front} {ts to to' : List Tok} → FrontE x ts to → FrontE y ts to' → Past clause.REFERENCE to → Past clause.REFERENCE to' → to ≡ to'
 front_end (front o b f) (front o' b' f') s s' =
     let k = refs_past f s in
     let k' = refs_past f' s' in
@@ -53,16 +55,16 @@ front_end (front o b f) (front o' b' f') s s' =
     (refs_same f (begin (ManyOf RefE) q.1 f') s s').1
 
 -- [MAIN name] [PARTITION BY cols] DIMENSION BY cols MEASURES cols
-pub body_no_main : {ts : List Tok} → No MainE (Past 4) ts → No BodyE Anywhere ts
+pub body_no_main : {ts : List Tok} → No MainE (Past clause.MAIN) ts → No BodyE Anywhere ts
 body_no_main h a to (body m p x) s = h _ _ m (parts_past p (axes_past x))
 
-pub body_no_parts : {o : Option (List ℕ)} {ts mid : List Tok} → MainE o ts mid → Past 4 mid → No PartsE (Past 5) mid → No BodyE Anywhere ts
+pub body_no_parts : {o : Option (List ℕ)} {ts mid : List Tok} → MainE o ts mid → Past clause.MAIN mid → No PartsE (Past clause.PARTITION) mid → No BodyE Anywhere ts
 body_no_parts e r h a to (body m p x) s =
     let k = axes_past x in
     let q = main_same e m r (parts_past p k) in
     h _ _ (begin PartsE q.1 p) k
 
-pub body_no_axes : {o : Option (List ℕ)} {ps : List Sel} {ts mid next : List Tok} → MainE o ts mid → Past 4 mid → PartsE ps mid next → Past 5 next → No AxesE Anywhere next → No BodyE Anywhere ts
+pub body_no_axes : {o : Option (List ℕ)} {ps : List Sel} {ts mid next : List Tok} → MainE o ts mid → Past clause.MAIN mid → PartsE ps mid next → Past clause.PARTITION next → No AxesE Anywhere next → No BodyE Anywhere ts
 body_no_axes e r f r' h a to (body m p x) s =
     let k = axes_past x in
     let q = main_same e m r (parts_past p k) in
@@ -77,41 +79,41 @@ body_end (body m p x) (body m' p' x') =
     let u = parts_same p (begin PartsE q.1 p') k k' in
     (axes_same x (begin AxesE u.1 x')).1
 
-body_past : {x : Body} {ts to : List Tok} → BodyE x ts to → Past 3 ts
+body_past : {x : Body} {ts to : List Tok} → BodyE x ts to → Past clause.REFERENCE ts
 body_past (body m p x) = main_past m (parts_past p (axes_past x))
 
 -- {opt} rules
-heading_past : {x : Head} {ts to : List Tok} → Heading x ts to → Opens to → Past 1 ts
+heading_past : {x : Head} {ts to : List Tok} → Heading x ts to → Opens to → Past clause.OPTION ts
 heading_past (heading d) o = head_past d o
 
 heading_end : {x y : Head} {ts to to' : List Tok} → Heading x ts to → Heading y ts to' → Opens to → Opens to' → to ≡ to'
 heading_end (heading d) (heading d') o o' = (head_same d d' o o').4
 
-pub tail_no_opts : {ts : List Tok} → No (ManyOf OptE) (Past 1) ts → No TailE Anywhere ts
+pub tail_no_opts : {ts : List Tok} → No (ManyOf OptE) (Past clause.OPTION) ts → No TailE Anywhere ts
 tail_no_opts h a to (tail o d l) s = h _ _ o (heading_past d (rules_open l))
 
-pub tail_no_head : {os : List Opt} {ts mid : List Tok} → ManyOf OptE os ts mid → Past 1 mid → No Heading Opens mid → No TailE Anywhere ts
+pub tail_no_head : {os : List Opt} {ts mid : List Tok} → ManyOf OptE os ts mid → Past clause.OPTION mid → No Heading Opens mid → No TailE Anywhere ts
 tail_no_head e r h a to (tail o d l) s =
     let p = opts_same e o r (heading_past d (rules_open l)) in
     h _ _ (begin Heading p.1 d) (rules_open l)
 
-pub tail_no_rules : {os : List Opt} {x : Head} {ts mid next : List Tok} → ManyOf OptE os ts mid → Past 1 mid → Heading x mid next → Opens next → No RuleList Anywhere next → No TailE Anywhere ts
+pub tail_no_rules : {os : List Opt} {x : Head} {ts mid next : List Tok} → ManyOf OptE os ts mid → Past clause.OPTION mid → Heading x mid next → Opens next → No RuleList Anywhere next → No TailE Anywhere ts
 tail_no_rules e r f r' h a to (tail o d l) s =
     let p = opts_same e o r (heading_past d (rules_open l)) in
     let q = heading_end f (begin Heading p.1 d) r' (rules_open l) in
     h _ _ (begin RuleList q l) tt
 
 -- MODEL
-pub model_no_front : {ts : List Tok} → No FrontE (Past 3) ts → No Modelling Anywhere ts
+pub model_no_front : {ts : List Tok} → No FrontE (Past clause.REFERENCE) ts → No Modelling Anywhere ts
 model_no_front h a to (model o r f n p d m g k l) s = h _ _ (front o r f) (body_past (body n p (axes (dims d) m)))
 
-pub model_no_body : {x : Front} {ts mid : List Tok} → FrontE x ts mid → Past 3 mid → No BodyE Anywhere mid → No Modelling Anywhere ts
+pub model_no_body : {x : Front} {ts mid : List Tok} → FrontE x ts mid → Past clause.REFERENCE mid → No BodyE Anywhere mid → No Modelling Anywhere ts
 model_no_body e r' h a to (model o r f n p d m g k l) s =
     let b = body n p (axes (dims d) m) in
     let q = front_end e (front o r f) r' (body_past b) in
     h _ _ (begin BodyE q b) tt
 
-pub model_no_tail : {x : Front} {y : Body} {ts mid next : List Tok} → FrontE x ts mid → Past 3 mid → BodyE y mid next → No TailE Anywhere next → No Modelling Anywhere ts
+pub model_no_tail : {x : Front} {y : Body} {ts mid next : List Tok} → FrontE x ts mid → Past clause.REFERENCE mid → BodyE y mid next → No TailE Anywhere next → No Modelling Anywhere ts
 model_no_tail e r' v h a to (model o r f n p d m g k l) s =
     let b = body n p (axes (dims d) m) in
     let q = front_end e (front o r f) r' (body_past b) in
@@ -128,34 +130,34 @@ pub model_no_word : {ts : List Tok} → Not (terminal.Word word.Model) ts → No
 model_no_word n a to d s = n (model_front d)
 
 -- [model] [ORDER BY key {',' key}]
-ends_order : (ts : List Tok) → Stops 12 ts → EndsOrder ts
+ends_order : (ts : List Tok) → Stops level.QUERY ts → EndsOrder ts
 ends_order ts s = (no_order ts s, ends_keys ts s)
 
-pub last_no_order : {ts : List Tok} → No OrderE EndsOrder ts → No OrderE (Stops 12) ts
+pub last_no_order : {ts : List Tok} → No OrderE EndsOrder ts → No OrderE (Stops level.QUERY) ts
 last_no_order h a to d s = h _ _ d (ends_order to s)
 
-pub last_no_end : {ks : List OrderKey} {ts : List Tok} (mid : List Tok) → OrderE ks ts mid → EndsOrder mid → loose (terminal_at mid) ≤ 12 → No OrderE (Stops 12) ts
+pub last_no_end : {ks : List OrderKey} {ts : List Tok} (mid : List Tok) → OrderE ks ts mid → EndsOrder mid → loose (terminal_at mid) ≤ level.QUERY → No OrderE (Stops level.QUERY) ts
 last_no_end mid e r l a to d s =
     let p = order_same e d r.0 (no_order to s) r.1 (ends_keys to s) in
     let k = ap (λ x. loose (terminal_at x)) p.1 in absurd (omega arith)
 
-pub end_no_model : {ts us : List Tok} → ts ≡ Word word.Model ∷ us → No ModelE Anywhere ts → No EndE (Stops 12) ts
+pub end_no_model : {ts us : List Tok} → ts ≡ Word word.Model ∷ us → No ModelE Anywhere ts → No EndE (Stops level.QUERY) ts
 end_no_model e h a to (ending model_none o) s = order_no_model o s (ap terminal_at e)
 end_no_model e h a to (ending (model_some d) o) s = h _ _ d tt
 
-pub end_no_last : {x : ModelTree} {ts us mid : List Tok} → ts ≡ Word word.Model ∷ us → ModelE x ts mid → No OrderE (Stops 12) mid → No EndE (Stops 12) ts
+pub end_no_last : {x : ModelTree} {ts us mid : List Tok} → ts ≡ Word word.Model ∷ us → ModelE x ts mid → No OrderE (Stops level.QUERY) mid → No EndE (Stops level.QUERY) ts
 end_no_last e f h a to (ending model_none o) s = order_no_model o s (ap terminal_at e)
 end_no_last e f h a to (ending (model_some d) o) s = let p = model_same f d in h _ _ (begin OrderE p.1 o) s
 
-pub end_no_order : {ts : List Tok} → Not (terminal.Word word.Model) ts → No OrderE (Stops 12) ts → No EndE (Stops 12) ts
+pub end_no_order : {ts : List Tok} → Not (terminal.Word word.Model) ts → No OrderE (Stops level.QUERY) ts → No EndE (Stops level.QUERY) ts
 end_no_order n h a to (ending model_none o) s = h _ _ o s
 end_no_order n h a to (ending (model_some d) o) s = n (model_front d)
 
 -- queries
-pub query_no_plain : {ts : List Tok} → No PlainE (Stops 11) ts → No QueryE (Stops 12) ts
+pub query_no_plain : {ts : List Tok} → No PlainE (Stops level.PLAIN) ts → No QueryE (Stops level.QUERY) ts
 query_no_plain h a to (query d m o) s = h _ _ d (model_stop m (order_stop o s))
 
-pub query_no_end : {x : Plain} {ts mid : List Tok} → PlainE x ts mid → Stops 11 mid → No EndE (Stops 12) mid → No QueryE (Stops 12) ts
+pub query_no_end : {x : Plain} {ts mid : List Tok} → PlainE x ts mid → Stops level.PLAIN mid → No EndE (Stops level.QUERY) mid → No QueryE (Stops level.QUERY) ts
 query_no_end e r h a to (query d m o) s =
     let p = plain_same e d r (model_stop m (order_stop o s)) in
     h _ _ (begin EndE p.1 (ending m o)) s

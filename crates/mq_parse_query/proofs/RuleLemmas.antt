@@ -15,6 +15,8 @@ use Rattle.mq_ast.specs.declared.terminals.Symbol.{Symbol}
 use Rattle.mq_ast.specs.declared.terminals.Symbol.TheVariants as sign
 use Rattle.mq_ast.specs.declared.terminals.Terminal.TheVariants as terminal
 use Rattle.mq_ast.specs.Tokens.{Tok, Word, Sign, Name, terminal_at, opener, closer, close_square, comma, equal}
+use Rattle.mq_ast.specs.declared.levels.TheConstants as level
+use Rattle.mq_ast.specs.declared.clauses.TheConstants as clause
 use Rattle.mq_ast.specs.Continuing.{loose, part, Stops, Not, Past}
 use Rattle.mq_ast.specs.OneTree.{OneTree}
 use Rattle.mq_ast.specs.GrammarLists.{SomeOf, NameE, name}
@@ -42,24 +44,24 @@ module _ {A : Type 0} (R : A → List Tok → List Tok → Type 0) (Stop : List 
       let p = some_same A R Stop (EndsList Stop) one (λ us q. q.0) before (λ x us vs q f. q.1 refl) e d r (closes to) in
       n (ap terminal_at p.1)
 
-pub ends_closed : (ts : List Tok) → EndsList (Stops 7) (closer ∷ ts)
+pub ends_closed : (ts : List Tok) → EndsList (Stops level.EXPRESSION) (closer ∷ ts)
 ends_closed ts = (omega arith, λ e. cc)
 
-pub ends_square : (ts : List Tok) → EndsList (Stops 7) (close_square ∷ ts)
+pub ends_square : (ts : List Tok) → EndsList (Stops level.EXPRESSION) (close_square ∷ ts)
 ends_square ts = (omega arith, λ e. cc)
 
 pub any_closed : (ts : List Tok) → EndsList Anywhere (closer ∷ ts)
 any_closed ts = (tt, λ e. cc)
 
 -- plain ')'
-pub plain_no_plain : {ts : List Tok} → No PlainE (Stops 11) ts → No PlainEnd Anywhere ts
+pub plain_no_plain : {ts : List Tok} → No PlainE (Stops level.PLAIN) ts → No PlainEnd Anywhere ts
 plain_no_plain h a to d s = h _ _ d (omega arith)
 
-pub plain_no_close : {x : Plain} {ts mid : List Tok} → PlainE x ts mid → Stops 11 mid → Not (terminal.Sign sign.Close) mid → No PlainEnd Anywhere ts
+pub plain_no_close : {x : Plain} {ts mid : List Tok} → PlainE x ts mid → Stops level.PLAIN mid → Not (terminal.Sign sign.Close) mid → No PlainEnd Anywhere ts
 plain_no_close e r n a to d s = let p = plain_same e d r (omega arith) in n (ap terminal_at p.1)
 
 -- what a FOR goes through
-pub alone_no_expr : {ts : List Tok} → No Expr (Stops 7) ts → No AloneE (Stops 7) ts
+pub alone_no_expr : {ts : List Tok} → No Expr (Stops level.EXPRESSION) ts → No AloneE (Stops level.EXPRESSION) ts
 alone_no_expr h a to (alone d) s = h _ _ d s
 
 pub values_no_open : {ts : List Tok} → Not (terminal.Sign sign.Open) ts → No InValues Anywhere ts
@@ -88,10 +90,10 @@ tuples_no_list n h a to (in_tuples (tuples_rows d)) s = n (plain_front d)
 pub start_no_from : {ts : List Tok} → Not (terminal.Word word.From) ts → No StartE Anywhere ts
 start_no_from n a to (start d) s = n refl
 
-pub start_no_expr : {ts : List Tok} → No Expr (Stops 7) ts → No StartE Anywhere (Word word.From ∷ ts)
+pub start_no_expr : {ts : List Tok} → No Expr (Stops level.EXPRESSION) ts → No StartE Anywhere (Word word.From ∷ ts)
 start_no_expr h a to (start d) s = h _ _ d (omega arith)
 
-pub start_no_to : {x : E} {ts mid : List Tok} → Expr x ts mid → Stops 7 mid → Not (terminal.Word word.To) mid → No StartE Anywhere (Word word.From ∷ ts)
+pub start_no_to : {x : E} {ts mid : List Tok} → Expr x ts mid → Stops level.EXPRESSION mid → Not (terminal.Word word.To) mid → No StartE Anywhere (Word word.From ∷ ts)
 start_no_to e r n a to (start d) s = let p = expr_same e d r (omega arith) in n (ap terminal_at p.1)
 
 start_same : {a b : E} {ts to to' : List Tok} → StartE a ts to → StartE b ts to' → Same a b to to'
@@ -101,10 +103,10 @@ pub down_no_word : {ts : List Tok} → Not (terminal.Word word.Increment) ts →
 down_no_word m n a to down_no s = m refl
 down_no_word m n a to down_yes s = n refl
 
-pub finish_no_expr : {ts : List Tok} → No Expr (Stops 7) ts → No FinishE Anywhere ts
+pub finish_no_expr : {ts : List Tok} → No Expr (Stops level.EXPRESSION) ts → No FinishE Anywhere ts
 finish_no_expr h a to (finish d b) s = h _ _ d (down_stop b)
 
-pub finish_no_down : {x : E} {ts mid : List Tok} → Expr x ts mid → Stops 7 mid → No DownE Anywhere mid → No FinishE Anywhere ts
+pub finish_no_down : {x : E} {ts mid : List Tok} → Expr x ts mid → Stops level.EXPRESSION mid → No DownE Anywhere mid → No FinishE Anywhere ts
 finish_no_down e r h a to (finish d b) s = let p = expr_same e d r (down_stop b) in h _ _ (begin DownE p.1 b) tt
 
 finish_same : {a b : E × Bool} {ts to to' : List Tok} → FinishE a ts to → FinishE b ts to' → Same a b to to'
@@ -113,35 +115,35 @@ finish_same (finish d b) (finish d' b') =
     let q = down_same b (begin DownE p.1 b') in
     (cc, q.1)
 
-pub range_no_start : {ts : List Tok} → No StartE Anywhere ts → No RangeE (Stops 7) ts
+pub range_no_start : {ts : List Tok} → No StartE Anywhere ts → No RangeE (Stops level.EXPRESSION) ts
 range_no_start h a to (range x y z) s = h _ _ x tt
 
-pub range_no_finish : {x : E} {ts mid : List Tok} → StartE x ts mid → No FinishE Anywhere mid → No RangeE (Stops 7) ts
+pub range_no_finish : {x : E} {ts mid : List Tok} → StartE x ts mid → No FinishE Anywhere mid → No RangeE (Stops level.EXPRESSION) ts
 range_no_finish e h a to (range x y z) s = let p = start_same e x in h _ _ (begin FinishE p.1 y) tt
 
-pub range_no_step : {v : E} {w : E × Bool} {ts mid next : List Tok} → StartE v ts mid → FinishE w mid next → No Expr (Stops 7) next → No RangeE (Stops 7) ts
+pub range_no_step : {v : E} {w : E × Bool} {ts mid next : List Tok} → StartE v ts mid → FinishE w mid next → No Expr (Stops level.EXPRESSION) next → No RangeE (Stops level.EXPRESSION) ts
 range_no_step e f h a to (range x y z) s =
     let p = start_same e x in
     let q = finish_same f (begin FinishE p.1 y) in
     h _ _ (begin Expr q.1 z) s
 
 -- a place behind FOR
-pub for_no_name : {ts : List Tok} → No NameE Anywhere ts → No ForPlace (Stops 7) ts
+pub for_no_name : {ts : List Tok} → No NameE Anywhere ts → No ForPlace (Stops level.EXPRESSION) ts
 for_no_name h a to (lit_expr d) s = expr_no_for d
 for_no_name h a to (lit_in l) s = h _ _ name tt
 for_no_name h a to (lit_range d f g k) s = h _ _ name tt
 
-pub for_no_values : {n : List ℕ} {ts : List Tok} → No InValues Anywhere ts → No ForPlace (Stops 7) (Name n ∷ Word word.In ∷ ts)
+pub for_no_values : {n : List ℕ} {ts : List Tok} → No InValues Anywhere ts → No ForPlace (Stops level.EXPRESSION) (Name n ∷ Word word.In ∷ ts)
 for_no_values h a to (lit_expr d) s = expr_no_for d
 for_no_values h a to (lit_in l) s = h _ _ (in_values l) tt
 
-pub for_no_end : {n : List ℕ} {x : ForList} {ts : List Tok} (mid : List Tok) → InValues x ts mid → loose (terminal_at mid) ≤ 7 → No ForPlace (Stops 7) (Name n ∷ Word word.In ∷ ts)
+pub for_no_end : {n : List ℕ} {x : ForList} {ts : List Tok} (mid : List Tok) → InValues x ts mid → loose (terminal_at mid) ≤ level.EXPRESSION → No ForPlace (Stops level.EXPRESSION) (Name n ∷ Word word.In ∷ ts)
 for_no_end mid e l a to (lit_expr d) s = expr_no_for d
 for_no_end mid (in_values e) l a to (lit_in d) s =
     let p = values_same e d in
     let k = ap (λ x. loose (terminal_at x)) p.1 in absurd (omega arith)
 
-pub for_no_range : {n : List ℕ} {ts : List Tok} → Not (terminal.Word word.In) ts → No RangeE (Stops 7) ts → No ForPlace (Stops 7) (Name n ∷ ts)
+pub for_no_range : {n : List ℕ} {ts : List Tok} → Not (terminal.Word word.In) ts → No RangeE (Stops level.EXPRESSION) ts → No ForPlace (Stops level.EXPRESSION) (Name n ∷ ts)
 for_no_range n h a to (lit_expr d) s = expr_no_for d
 for_no_range n h a to (lit_in l) s = n refl
 for_no_range n h a to (lit_range d f g k) s = h _ _ (range (start d) (finish f g) k) s
@@ -153,11 +155,11 @@ pub for_range : {n : List ℕ} {r : Range} {ts to : List Tok} → RangeE r ts to
 for_range (range (start d) (finish f g) k) = lit_range d f g k
 
 -- a place
-pub place_no_any : {ts : List Tok} → loose (terminal_at ts) ≤ 7 → No LitE (Stops 7) (Word word.Any ∷ ts)
+pub place_no_any : {ts : List Tok} → loose (terminal_at ts) ≤ level.EXPRESSION → No LitE (Stops level.EXPRESSION) (Word word.Any ∷ ts)
 place_no_any l a to lit_any s = absurd (omega arith)
 place_no_any l a to (lit_expr d) s = expr_no_any d
 
-pub place_no_expr : {ts : List Tok} → Not (terminal.Word word.Any) ts → Not (terminal.Word word.For) ts → No Expr (Stops 7) ts → No LitE (Stops 7) ts
+pub place_no_expr : {ts : List Tok} → Not (terminal.Word word.Any) ts → Not (terminal.Word word.For) ts → No Expr (Stops level.EXPRESSION) ts → No LitE (Stops level.EXPRESSION) ts
 place_no_expr m n h a to lit_any s = m refl
 place_no_expr m n h a to (lit_expr d) s = h _ _ d s
 place_no_expr m n h a to (lit_in l) s = n refl
@@ -206,34 +208,34 @@ left_end_same : {l l' : LeftTree} {ts to to' : List Tok} → LeftEnd l ts to →
 left_end_same d d' = let p = left_same d d' (omega arith, λ e. cc) (omega arith, λ e. cc) in (p.0, cut p.1)
 
 -- modes
-pub upsert_no_all : {ts : List Tok} → part (terminal_at ts) ≤ 6 → No Upserts (Past 6) (Word word.All ∷ ts)
+pub upsert_no_all : {ts : List Tok} → part (terminal_at ts) ≤ clause.MODE → No Upserts (Past clause.MODE) (Word word.All ∷ ts)
 upsert_no_all l a to mode_none s = absurd (omega arith)
 upsert_no_all l a to (mode_some mode_upsert) s = absurd (omega arith)
 upsert_no_all l a to (mode_some mode_upsert_all) s = absurd (omega arith)
 
-pub upsert_no_end : {ts : List Tok} → Not (terminal.Word word.All) ts → part (terminal_at ts) ≤ 6 → No Upserts (Past 6) ts
+pub upsert_no_end : {ts : List Tok} → Not (terminal.Word word.All) ts → part (terminal_at ts) ≤ clause.MODE → No Upserts (Past clause.MODE) ts
 upsert_no_end n l a to mode_none s = absurd (omega arith)
 upsert_no_end n l a to (mode_some mode_upsert) s = absurd (omega arith)
 upsert_no_end n l a to (mode_some mode_upsert_all) s = n refl
 
-pub mode_no_update : {ts : List Tok} → part (terminal_at ts) ≤ 6 → No MaybeMode (Past 6) (Word word.Update ∷ ts)
+pub mode_no_update : {ts : List Tok} → part (terminal_at ts) ≤ clause.MODE → No MaybeMode (Past clause.MODE) (Word word.Update ∷ ts)
 mode_no_update l a to mode_none s = absurd (omega arith)
 mode_no_update l a to (mode_some mode_update) s = absurd (omega arith)
 
-pub mode_no_word : {ts : List Tok} → Not (terminal.Word word.Update) ts → Not (terminal.Word word.Upsert) ts → part (terminal_at ts) ≤ 6 → No MaybeMode (Past 6) ts
+pub mode_no_word : {ts : List Tok} → Not (terminal.Word word.Update) ts → Not (terminal.Word word.Upsert) ts → part (terminal_at ts) ≤ clause.MODE → No MaybeMode (Past clause.MODE) ts
 mode_no_word m n l a to mode_none s = absurd (omega arith)
 mode_no_word m n l a to (mode_some mode_update) s = m refl
 mode_no_word m n l a to (mode_some mode_upsert) s = n refl
 mode_no_word m n l a to (mode_some mode_upsert_all) s = n refl
 
 -- [mode] name '['
-pub front_no_mode : {ts : List Tok} → No MaybeMode (Past 6) ts → No RuleFront Anywhere ts
+pub front_no_mode : {ts : List Tok} → No MaybeMode (Past clause.MODE) ts → No RuleFront Anywhere ts
 front_no_mode h a to (rule_front d) s = h _ _ d (omega arith)
 
-pub front_no_name : {m : Option Mode} {ts mid : List Tok} → MaybeMode m ts mid → Past 6 mid → No NameE Anywhere mid → No RuleFront Anywhere ts
+pub front_no_name : {m : Option Mode} {ts mid : List Tok} → MaybeMode m ts mid → Past clause.MODE mid → No NameE Anywhere mid → No RuleFront Anywhere ts
 front_no_name e r h a to (rule_front d) s = let p = maybe_mode_same e d r (omega arith) in h _ _ (begin NameE p.1 name) tt
 
-pub front_no_open : {m : Option Mode} {n : List ℕ} {ts mid next : List Tok} → MaybeMode m ts mid → Past 6 mid → mid ≡ Name n ∷ next → Not (terminal.Sign sign.OpenSquare) next → No RuleFront Anywhere ts
+pub front_no_open : {m : Option Mode} {n : List ℕ} {ts mid next : List Tok} → MaybeMode m ts mid → Past clause.MODE mid → mid ≡ Name n ∷ next → Not (terminal.Sign sign.OpenSquare) next → No RuleFront Anywhere ts
 front_no_open e r f k a to (rule_front d) s = let p = maybe_mode_same e d r (omega arith) in k (ap terminal_at (cut (sym f ∙ p.1)))
 
 front_same : {a b : Option Mode × List ℕ} {ts to to' : List Tok} → RuleFront a ts to → RuleFront b ts to' → Same a b to to'
@@ -249,25 +251,25 @@ before_equal ts = (λ e. cc, (λ e. cc, λ e. cc, λ e. cc))
 order_ends : {ks ks' : List OrderKey} {ts to to' : List Tok} → OrderE ks ts to → OrderE ks' ts to' → EndsOrder to → EndsOrder to' → Same ks ks' to to'
 order_ends d d' s s' = order_same d d' s.0 s'.0 s.1 s'.1
 
-pub right_no_order : {ts : List Tok} → No OrderE EndsOrder ts → No RuleRight (Stops 7) ts
+pub right_no_order : {ts : List Tok} → No OrderE EndsOrder ts → No RuleRight (Stops level.EXPRESSION) ts
 right_no_order h a to (rule_right {mid = m} o d) s = h _ _ o (before_equal m)
 
-pub right_no_equal : {ks : List OrderKey} {ts mid : List Tok} → OrderE ks ts mid → EndsOrder mid → Not (terminal_at (equal ∷ [])) mid → No RuleRight (Stops 7) ts
+pub right_no_equal : {ks : List OrderKey} {ts mid : List Tok} → OrderE ks ts mid → EndsOrder mid → Not (terminal_at (equal ∷ [])) mid → No RuleRight (Stops level.EXPRESSION) ts
 right_no_equal e r n a to (rule_right {mid = m} o d) s = let p = order_ends e o r (before_equal m) in n (ap terminal_at p.1)
 
-pub right_no_expr : {ks : List OrderKey} {ts mid next : List Tok} → OrderE ks ts mid → EndsOrder mid → mid ≡ equal ∷ next → No Expr (Stops 7) next → No RuleRight (Stops 7) ts
+pub right_no_expr : {ks : List OrderKey} {ts mid next : List Tok} → OrderE ks ts mid → EndsOrder mid → mid ≡ equal ∷ next → No Expr (Stops level.EXPRESSION) next → No RuleRight (Stops level.EXPRESSION) ts
 right_no_expr e r f h a to (rule_right {mid = m} o d) s =
     let p = order_ends e o r (before_equal m) in
     h _ _ (begin Expr (cut (sym f ∙ p.1)) d) s
 
 -- rules
-pub rule_no_front : {ts : List Tok} → No RuleFront Anywhere ts → No RuleE (Stops 7) ts
+pub rule_no_front : {ts : List Tok} → No RuleFront Anywhere ts → No RuleE (Stops level.EXPRESSION) ts
 rule_no_front h a to (rule m l o d) s = h _ _ (rule_front m) tt
 
-pub rule_no_left : {f : Option Mode × List ℕ} {ts mid : List Tok} → RuleFront f ts mid → No LeftEnd Anywhere mid → No RuleE (Stops 7) ts
+pub rule_no_left : {f : Option Mode × List ℕ} {ts mid : List Tok} → RuleFront f ts mid → No LeftEnd Anywhere mid → No RuleE (Stops level.EXPRESSION) ts
 rule_no_left e h a to (rule m l o d) s = let p = front_same e (rule_front m) in h _ _ (begin LeftEnd p.1 l) tt
 
-pub rule_no_right : {f : Option Mode × List ℕ} {x : LeftTree} {ts mid next : List Tok} → RuleFront f ts mid → LeftEnd x mid next → No RuleRight (Stops 7) next → No RuleE (Stops 7) ts
+pub rule_no_right : {f : Option Mode × List ℕ} {x : LeftTree} {ts mid next : List Tok} → RuleFront f ts mid → LeftEnd x mid next → No RuleRight (Stops level.EXPRESSION) next → No RuleE (Stops level.EXPRESSION) ts
 rule_no_right e g h a to (rule m l o d) s =
     let p = front_same e (rule_front m) in
     let q = left_end_same g (begin LeftEnd p.1 l) in

@@ -1,6 +1,7 @@
 //! Lists of columns (docs/LANGUAGE.md, "Queries").
 
 ghost use Rattle.std.specs.Prelude.{◌≡◌, ◌≤◌, length};
+ghost use Rattle.mq_ast.specs.declared.levels.TheConstants as level;
 ghost use Rattle.mq_ast.specs.Continuing.{Stops};
 ghost use Rattle.mq_ast.specs.GrammarLists.{SomeOf};
 ghost use Rattle.mq_ast.specs.GrammarQuery.{AliasE, Cols, SelE, sel_of};
@@ -9,7 +10,7 @@ ghost use Rattle.mq_parse_query.specs.Lists.{EndsList};
 ghost use Rattle.mq_parse_query.specs.PlainPieces.{SomeName};
 
 use crate::lists::{Listed, read_list};
-use mq_ast::{E, Keyword, Sel, Symbol};
+use mq_ast::{E, Keyword, Sel, Symbol, levels};
 use mq_lexer::Token;
 use mq_parse_expr::{behind_word, name_at, pass_sign, read_expr, read_name, settled};
 use mq_values::{Fail, Items, Refused, Words};
@@ -22,7 +23,7 @@ pub(crate) fn read_alias(
     at: usize,
 ) -> Result<(Option<Words>, usize), Fail<Refused>>
     requires { at ≤ length t.now }
-    ensures { Gives AliasE (Stops 8) t.now at result }
+    ensures { Gives AliasE (Stops level.ITEM) t.now at result }
 {
     if let Some(behind) = behind_word(t, at, Keyword::As) {
         return read_alias_name(alloc, t, behind);
@@ -30,7 +31,7 @@ pub(crate) fn read_alias(
     if let Some(_) = name_at(t, at) {
         return read_alias_name(alloc, t, at);
     }
-    settled(t, at, 8)?;
+    settled(t, at, levels::ITEM)?;
     Ok((None, at))
 }
 
@@ -41,10 +42,10 @@ fn read_alias_name(
     at: usize,
 ) -> Result<(Option<Words>, usize), Fail<Refused>>
     requires { at ≤ length t.now }
-    ensures { Gives SomeName (Stops 8) t.now at result }
+    ensures { Gives SomeName (Stops level.ITEM) t.now at result }
 {
     let (name, to) = read_name(alloc, t, at)?;
-    settled(t, to, 8)?;
+    settled(t, to, levels::ITEM)?;
     Ok((Some(name), to))
 }
 
@@ -58,7 +59,7 @@ impl Listed for Sel {
 
     ghost reads = { SelE };
 
-    ghost stop = { Stops 8 };
+    ghost stop = { Stops level.ITEM };
 
     ghost one = { sel_same };
 
@@ -84,7 +85,7 @@ pub(crate) fn read_sels(
     at: usize,
 ) -> Result<(Items<Sel>, usize), Fail<Refused>>
     requires { at ≤ length t.now }
-    ensures { Gives (SomeOf SelE) (EndsList (Stops 8)) t.now at result }
+    ensures { Gives (SomeOf SelE) (EndsList (Stops level.ITEM)) t.now at result }
 {
     read_list::<Sel>(alloc, t, at)
 }

@@ -2,6 +2,7 @@
 
 ghost use Rattle.std.specs.Prelude.{◌≡◌, ◌≤◌, List, Some, None, length, MatchOption};
 ghost use Rattle.mq_ast.specs.Tokens.{Tok};
+ghost use Rattle.mq_ast.specs.declared.levels.TheConstants as level;
 ghost use Rattle.mq_ast.specs.Continuing.{Stops};
 ghost use Rattle.mq_ast.specs.GrammarQuery.{FromE, ItemE, item_of};
 ghost use Rattle.mq_parse_expr.specs.Reading.{Gives, from};
@@ -9,7 +10,7 @@ ghost use Rattle.mq_parse_query.specs.PlainPieces.{BareFront, ConditionE, JoinFr
 
 use crate::columns::read_alias;
 use crate::lists::{Repeated, read_many};
-use mq_ast::{E, FromItem, Keyword, Symbol};
+use mq_ast::{E, FromItem, Keyword, Symbol, levels};
 use mq_lexer::Token;
 use mq_parse_expr::{behind_sign, behind_word, pass_word, read_expr, read_name, settled};
 use mq_values::{Fail, Items, Refused, Words};
@@ -18,7 +19,7 @@ use std::alloc::Global;
 // A table and its alias.
 fn read_item(alloc: Global, t: &[Token<'_>], at: usize) -> Result<(FromItem, usize), Fail<Refused>>
     requires { at ≤ length t.now }
-    ensures { Gives (ItemE None) (Stops 8) t.now at result }
+    ensures { Gives (ItemE None) (Stops level.ITEM) t.now at result }
 {
     let (table, mid) = read_name(alloc, t, at)?;
     let (alias, to) = read_alias(alloc, t, mid)?;
@@ -38,11 +39,11 @@ fn bare_item(table: Words, alias: Option<Words>) -> FromItem
 // ON and a condition.
 fn read_condition(alloc: Global, t: &[Token<'_>], at: usize) -> Result<(E, usize), Fail<Refused>>
     requires { at ≤ length t.now }
-    ensures { Gives ConditionE (Stops 8) t.now at result }
+    ensures { Gives ConditionE (Stops level.ITEM) t.now at result }
 {
     let behind = pass_word(t, at, Keyword::On)?;
     let (e, to) = read_expr(alloc, t, behind)?;
-    settled(t, to, 8)?;
+    settled(t, to, levels::ITEM)?;
     Ok((e, to))
 }
 
@@ -53,7 +54,7 @@ fn read_on_item(
     at: usize,
 ) -> Result<(FromItem, usize), Fail<Refused>>
     requires { at ≤ length t.now }
-    ensures { Gives OnE (Stops 8) t.now at result }
+    ensures { Gives OnE (Stops level.ITEM) t.now at result }
 {
     let (bare, mid) = read_item(alloc, t, at)?;
     let (e, to) = read_condition(alloc, t, mid)?;
@@ -113,9 +114,9 @@ impl Repeated for Joins {
 
     ghost reads = { JoinE };
 
-    ghost stop = { Stops 8 };
+    ghost stop = { Stops level.ITEM };
 
-    ghost end = { Stops 9 };
+    ghost end = { Stops level.SOURCES };
 
     ghost one = { join_same };
 
@@ -136,7 +137,7 @@ impl Repeated for Joins {
         if let Some(behind) = on_front(t, at) {
             return Ok(Some(read_on_item(alloc, t, behind)?));
         }
-        settled(t, at, 9)?;
+        settled(t, at, levels::SOURCES)?;
         Ok(None)
     }
 }
@@ -148,7 +149,7 @@ pub(crate) fn read_from(
     at: usize,
 ) -> Result<(Items<FromItem>, usize), Fail<Refused>>
     requires { at ≤ length t.now }
-    ensures { Gives FromE (Stops 9) t.now at result }
+    ensures { Gives FromE (Stops level.SOURCES) t.now at result }
 {
     let (first, mid) = read_item(alloc, t, at)?;
     let (mut all, to) = read_many::<Joins>(alloc, t, mid)?;

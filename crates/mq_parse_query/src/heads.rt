@@ -2,6 +2,7 @@
 
 ghost use Rattle.std.specs.Prelude.{◌≡◌, ◌≢◌, ◌≤◌, ◌+◌, ◌∷◌, length, MatchOption};
 ghost use Rattle.mq_ast.specs.Tokens.{Word, terminal_at};
+ghost use Rattle.mq_ast.specs.declared.clauses.TheConstants as clause;
 ghost use Rattle.mq_ast.specs.Continuing.{Past};
 ghost use Rattle.mq_ast.specs.GrammarModel.{AutoE, MainE, OptE, PartsE, RefE, ReturnE, UntilE, ref_of};
 ghost use Rattle.std.proofs.Common.{arith};
@@ -15,7 +16,7 @@ use crate::columns::read_cols;
 use crate::left::read_plain_end;
 use crate::lists::{Repeated, read_many};
 use crate::rules::{past, read_mode};
-use mq_ast::{E, Keyword, Opt, Plain, RefTree, Sel, Symbol, Terminal};
+use mq_ast::{E, Keyword, Opt, Plain, RefTree, Sel, Symbol, Terminal, clauses};
 use mq_lexer::Token;
 use mq_parse_expr::{behind_word, pass_sign, pass_word, read_int, read_name, read_round, terminal};
 use mq_values::{Fail, Items, Mode, Num, Refused, Words};
@@ -48,7 +49,7 @@ fn second_word(opt: Opt) -> Keyword
 
 // The option whose first word stands at a place.
 fn option_at(t: &[Token<'_>], at: usize) -> Option<Opt>
-    ensures { MatchOption result (Past 1 (from t.now at)) (λ o. Then (Word (first_word o)) t.now at (at + 1)) }
+    ensures { MatchOption result (Past clause.OPTION (from t.now at)) (λ o. Then (Word (first_word o)) t.now at (at + 1)) }
 {
     option_of(terminal(t, at))
 }
@@ -56,7 +57,7 @@ fn option_at(t: &[Token<'_>], at: usize) -> Option<Opt>
 // The option at a place, and the place behind it, where one stands there.
 fn next_option(t: &[Token<'_>], at: usize) -> Result<Option<(Opt, usize)>, Fail<Refused>>
     requires { at ≤ length t.now }
-    ensures { lists.Turns OptE Anywhere (Past 1) t.now at result }
+    ensures { lists.Turns OptE Anywhere (Past clause.OPTION) t.now at result }
 {
     match option_at(t, at) {
         Some(opt) => {
@@ -74,7 +75,7 @@ impl Repeated for Opt {
 
     ghost stop = { Anywhere };
 
-    ghost end = { Past 1 };
+    ghost end = { Past clause.OPTION };
 
     fn next(
         _alloc: Global,
@@ -108,23 +109,23 @@ fn read_which(t: &[Token<'_>], at: usize) -> Result<(bool, usize), Fail<Refused>
 
 // RETURN, behind it.
 fn read_rows(t: &[Token<'_>], at: usize) -> Result<(bool, usize), Fail<Refused>>
-    ensures { Gives Returns (Past 2) t.now at result }
+    ensures { Gives Returns (Past clause.RETURN) t.now at result }
 {
     let (updated, end) = read_which(t, at)?;
     let to = pass_word(t, end, Keyword::Rows)?;
-    past(t, to, 2)?;
+    past(t, to, clauses::RETURN)?;
     Ok((updated, to))
 }
 
 /// RETURN, where it stands there, and whether UPDATED stands in it.
 pub(crate) fn read_return(t: &[Token<'_>], at: usize) -> Result<(bool, usize), Fail<Refused>>
     requires { at ≤ length t.now }
-    ensures { Gives ReturnE (Past 2) t.now at result }
+    ensures { Gives ReturnE (Past clause.RETURN) t.now at result }
 {
     match behind_word(t, at, Keyword::Return) {
         Some(behind) => read_rows(t, behind),
         None => {
-            past(t, at, 2)?;
+            past(t, at, clauses::RETURN)?;
             Ok((false, at))
         }
     }
@@ -189,7 +190,7 @@ fn ref_tree(source: (Words, Plain), axes: (Items<Sel>, Items<Sel>), opts: Items<
 
 // A REFERENCE, behind its word.
 fn read_ref(alloc: Global, t: &[Token<'_>], at: usize) -> Result<(RefTree, usize), Fail<Refused>>
-    ensures { Gives Refers (Past 1) t.now at result }
+    ensures { Gives Refers (Past clause.OPTION) t.now at result }
 {
     let (source, mid) = read_source(alloc, t, at)?;
     let (axes, next) = read_axes(alloc, t, mid)?;
@@ -204,7 +205,7 @@ fn next_ref(
     at: usize,
 ) -> Result<Option<(RefTree, usize)>, Fail<Refused>>
     requires { at ≤ length t.now }
-    ensures { lists.Turns RefE (Past 1) (Past 3) t.now at result }
+    ensures { lists.Turns RefE (Past clause.OPTION) (Past clause.REFERENCE) t.now at result }
 {
     match behind_word(t, at, Keyword::Reference) {
         Some(behind) => {
@@ -212,7 +213,7 @@ fn next_ref(
             Ok(Some((found, to)))
         }
         None => {
-            past(t, at, 3)?;
+            past(t, at, clauses::REFERENCE)?;
             Ok(None)
         }
     }
@@ -223,9 +224,9 @@ impl Repeated for RefTree {
 
     ghost reads = { RefE };
 
-    ghost stop = { Past 1 };
+    ghost stop = { Past clause.OPTION };
 
-    ghost end = { Past 3 };
+    ghost end = { Past clause.REFERENCE };
 
     fn next(
         alloc: Global,
@@ -251,16 +252,16 @@ pub(crate) fn read_main(
     at: usize,
 ) -> Result<(Option<Words>, usize), Fail<Refused>>
     requires { at ≤ length t.now }
-    ensures { Gives MainE (Past 4) t.now at result }
+    ensures { Gives MainE (Past clause.MAIN) t.now at result }
 {
     match behind_word(t, at, Keyword::Main) {
         Some(behind) => {
             let (name, to) = read_name(alloc, t, behind)?;
-            past(t, to, 4)?;
+            past(t, to, clauses::MAIN)?;
             Ok((Some(name), to))
         }
         None => {
-            past(t, at, 4)?;
+            past(t, at, clauses::MAIN)?;
             Ok((None, at))
         }
     }
@@ -273,17 +274,17 @@ pub(crate) fn read_parts(
     at: usize,
 ) -> Result<(Items<Sel>, usize), Fail<Refused>>
     requires { at ≤ length t.now }
-    ensures { Gives PartsE (Past 5) t.now at result }
+    ensures { Gives PartsE (Past clause.PARTITION) t.now at result }
 {
     match behind_word(t, at, Keyword::Partition) {
         Some(partition) => {
             let by = pass_word(t, partition, Keyword::By)?;
             let (parts, to) = read_cols(alloc, t, by)?;
-            past(t, to, 5)?;
+            past(t, to, clauses::PARTITION)?;
             Ok((parts, to))
         }
         None => {
-            past(t, at, 5)?;
+            past(t, at, clauses::PARTITION)?;
             Ok((Items::new(alloc), at))
         }
     }
@@ -291,17 +292,17 @@ pub(crate) fn read_parts(
 
 // ORDER, behind AUTOMATIC or SEQUENTIAL.
 fn read_auto_end(t: &[Token<'_>], at: usize, auto: bool) -> Result<(bool, usize), Fail<Refused>>
-    ensures { Gives (AutoEnd auto) (Past 7) t.now at result }
+    ensures { Gives (AutoEnd auto) (Past clause.ORDER) t.now at result }
 {
     let to = pass_word(t, at, Keyword::Order)?;
-    past(t, to, 7)?;
+    past(t, to, clauses::ORDER)?;
     Ok((auto, to))
 }
 
 // The order of the rules, where it stands there: whether it is AUTOMATIC.
 fn read_auto(t: &[Token<'_>], at: usize) -> Result<(bool, usize), Fail<Refused>>
     requires { at ≤ length t.now }
-    ensures { Gives AutoE (Past 7) t.now at result }
+    ensures { Gives AutoE (Past clause.ORDER) t.now at result }
 {
     if let Some(behind) = behind_word(t, at, Keyword::Automatic) {
         return read_auto_end(t, behind, true);
@@ -309,7 +310,7 @@ fn read_auto(t: &[Token<'_>], at: usize) -> Result<(bool, usize), Fail<Refused>>
     match behind_word(t, at, Keyword::Sequential) {
         Some(behind) => read_auto_end(t, behind, false),
         None => {
-            past(t, at, 7)?;
+            past(t, at, clauses::ORDER)?;
             Ok((false, at))
         }
     }
@@ -322,16 +323,16 @@ fn read_until(
     at: usize,
 ) -> Result<(Option<E>, usize), Fail<Refused>>
     requires { at ≤ length t.now }
-    ensures { Gives UntilE (Past 9) t.now at result }
+    ensures { Gives UntilE (Past clause.UNTIL) t.now at result }
 {
     match behind_word(t, at, Keyword::Until) {
         Some(behind) => {
             let (e, to) = read_round(alloc, t, behind)?;
-            past(t, to, 9)?;
+            past(t, to, clauses::UNTIL)?;
             Ok((Some(e), to))
         }
         None => {
-            past(t, at, 9)?;
+            past(t, at, clauses::UNTIL)?;
             Ok((None, at))
         }
     }
@@ -353,7 +354,7 @@ fn read_turns(
     t: &[Token<'_>],
     at: usize,
 ) -> Result<((Option<Num>, Option<E>), usize), Fail<Refused>>
-    ensures { Gives Iterates (Past 9) t.now at result }
+    ensures { Gives Iterates (Past clause.UNTIL) t.now at result }
 {
     let (number, mid) = read_round_int(t, at)?;
     let (until, to) = read_until(alloc, t, mid)?;
@@ -367,12 +368,12 @@ fn read_iterate(
     at: usize,
 ) -> Result<((Option<Num>, Option<E>), usize), Fail<Refused>>
     requires { at ≤ length t.now }
-    ensures { Gives Turning (Past 9) t.now at result }
+    ensures { Gives Turning (Past clause.UNTIL) t.now at result }
 {
     match behind_word(t, at, Keyword::Iterate) {
         Some(behind) => read_turns(alloc, t, behind),
         None => {
-            past(t, at, 9)?;
+            past(t, at, clauses::UNTIL)?;
             Ok(((None, None), at))
         }
     }

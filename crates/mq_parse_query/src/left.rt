@@ -3,6 +3,7 @@
 ghost use Rattle.std.specs.Prelude.{◌≡◌, ◌≤◌, ◌∷◌, [], List, length, IfOk, MatchOption};
 ghost use Rattle.mq_ast.specs.declared.queries.LeftPlace.TheVariants as left_place;
 ghost use Rattle.mq_ast.specs.Tokens.{Tok, Sign};
+ghost use Rattle.mq_ast.specs.declared.levels.TheConstants as level;
 ghost use Rattle.mq_ast.specs.Continuing.{Stops};
 ghost use Rattle.mq_ast.specs.GrammarLists.{NameE};
 ghost use Rattle.mq_ast.specs.GrammarExpression.{Tuple};
@@ -16,7 +17,7 @@ ghost use Rattle.mq_ast.proofs.OneRule.{alone_same, lit_same, tuple_one};
 
 use crate::lists::{Listed, read_list};
 use crate::plain::read_plain;
-use mq_ast::{E, ForList, Keyword, LeftPlace, LeftTree, Plain, Symbol};
+use mq_ast::{E, ForList, Keyword, LeftPlace, LeftTree, Plain, Symbol, levels};
 use mq_lexer::Token;
 use mq_parse_expr::{
     behind_sign, behind_word, pass_sign, pass_word, read_expr, read_name, read_tuple, settled,
@@ -100,7 +101,7 @@ impl Listed for Alone {
 
     ghost reads = { AloneE };
 
-    ghost stop = { Stops 7 };
+    ghost stop = { Stops level.EXPRESSION };
 
     fn read(alloc: Global, t: &[Token<'_>], at: usize) -> Result<(Items<E>, usize), Fail<Refused>> {
         read_alone(alloc, t, at)
@@ -114,7 +115,7 @@ impl Listed for Alone {
 // An expression, as a list of one.
 fn read_alone(alloc: Global, t: &[Token<'_>], at: usize) -> Result<(Items<E>, usize), Fail<Refused>>
     requires { at ≤ length t.now }
-    ensures { Gives AloneE (Stops 7) t.now at result }
+    ensures { Gives AloneE (Stops level.EXPRESSION) t.now at result }
 {
     let (e, to) = read_expr(alloc, t, at)?;
     Ok((list_of(alloc, e)?, to))
@@ -223,7 +224,7 @@ fn range_from(start: E, finish: (E, bool), step: E) -> Range
 
 // FROM, TO, and INCREMENT or DECREMENT, each with its expression.
 fn read_range(alloc: Global, t: &[Token<'_>], at: usize) -> Result<(Range, usize), Fail<Refused>>
-    ensures { Gives RangeE (Stops 7) t.now at result }
+    ensures { Gives RangeE (Stops level.EXPRESSION) t.now at result }
 {
     let (start, mid) = read_start(alloc, t, at)?;
     let (finish, last) = read_finish(alloc, t, mid)?;
@@ -245,13 +246,13 @@ fn for_range(dim: Words, range: Range) -> LeftPlace
 
 // A FOR of one dimension, behind FOR.
 fn read_for(alloc: Global, t: &[Token<'_>], at: usize) -> Result<(LeftPlace, usize), Fail<Refused>>
-    ensures { Gives ForPlace (Stops 7) t.now at result }
+    ensures { Gives ForPlace (Stops level.EXPRESSION) t.now at result }
 {
     let (dim, mid) = read_name(alloc, t, at)?;
     match behind_word(t, mid, Keyword::In) {
         Some(behind) => {
             let (list, to) = read_values(alloc, t, behind)?;
-            settled(t, to, 7)?;
+            settled(t, to, levels::EXPRESSION)?;
             Ok((LeftPlace::ForIn { dim, list }, to))
         }
         None => {
@@ -268,10 +269,10 @@ fn read_place(
     at: usize,
 ) -> Result<(LeftPlace, usize), Fail<Refused>>
     requires { at ≤ length t.now }
-    ensures { Gives LitE (Stops 7) t.now at result }
+    ensures { Gives LitE (Stops level.EXPRESSION) t.now at result }
 {
     if let Some(to) = behind_word(t, at, Keyword::Any) {
-        settled(t, to, 7)?;
+        settled(t, to, levels::EXPRESSION)?;
         return Ok((LeftPlace::Any, to));
     }
     match behind_word(t, at, Keyword::For) {
@@ -288,7 +289,7 @@ impl Listed for LeftPlace {
 
     ghost reads = { LitE };
 
-    ghost stop = { Stops 7 };
+    ghost stop = { Stops level.EXPRESSION };
 
     fn read(
         alloc: Global,

@@ -1,6 +1,7 @@
 //! The MODEL clause (docs/LANGUAGE.md, "The MODEL clause").
 
 ghost use Rattle.std.specs.Prelude.{◌≡◌, ◌≤◌, length};
+ghost use Rattle.mq_ast.specs.declared.clauses.TheConstants as clause;
 ghost use Rattle.mq_ast.specs.Continuing.{Past};
 ghost use Rattle.mq_ast.specs.GrammarModel.{ModelE};
 ghost use Rattle.mq_parse_expr.specs.Reading.{Anywhere, Gives};
@@ -41,7 +42,7 @@ pub(crate) struct Tail {
 
 fn read_front(alloc: Global, t: &[Token<'_>], at: usize) -> Result<(Front, usize), Fail<Refused>>
     requires { at ≤ length t.now }
-    ensures { Gives FrontE (Past 3) t.now at result }
+    ensures { Gives FrontE (Past clause.REFERENCE) t.now at result }
 {
     let (opts, mid) = read_many::<Opt>(alloc, t, at)?;
     let (updated, next) = read_return(t, mid)?;

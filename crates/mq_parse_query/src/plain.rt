@@ -1,6 +1,7 @@
 //! The plain part of a query (docs/LANGUAGE.md, "Queries").
 
 ghost use Rattle.std.specs.Prelude.{◌≡◌, ◌≤◌, true, false, [], length};
+ghost use Rattle.mq_ast.specs.declared.levels.TheConstants as level;
 ghost use Rattle.mq_ast.specs.Continuing.{Stops};
 ghost use Rattle.mq_ast.specs.GrammarQuery.{GroupE, PlainE, WhereE, plain_of};
 ghost use Rattle.mq_parse_expr.specs.Reading.{Anywhere, Gives};
@@ -9,7 +10,7 @@ ghost use Rattle.mq_parse_query.specs.PlainPieces.{ShownE, SourceE, shown_of, so
 use crate::columns::read_sels;
 use crate::froms::read_from;
 use crate::lists::{Listed, read_list};
-use mq_ast::{E, FromItem, Keyword, Path, Plain, Sel, Symbol};
+use mq_ast::{E, FromItem, Keyword, Path, Plain, Sel, Symbol, levels};
 use mq_lexer::Token;
 use mq_parse_expr::{behind_sign, behind_word, pass_word, read_expr, read_path, settled};
 use mq_values::{Fail, Items, ProdOp, Refused};
@@ -22,14 +23,14 @@ pub fn read_where(
     at: usize,
 ) -> Result<(Option<E>, usize), Fail<Refused>>
     requires { at ≤ length t.now }
-    ensures { Gives WhereE (Stops 10) t.now at result }
+    ensures { Gives WhereE (Stops level.FILTERED) t.now at result }
 {
     let Some(behind) = behind_word(t, at, Keyword::Where) else {
-        settled(t, at, 10)?;
+        settled(t, at, levels::FILTERED)?;
         return Ok((None, at));
     };
     let (e, to) = read_expr(alloc, t, behind)?;
-    settled(t, to, 10)?;
+    settled(t, to, levels::FILTERED)?;
     Ok((Some(e), to))
 }
 
@@ -43,7 +44,7 @@ impl Listed for Path {
 
     ghost reads = { PathE };
 
-    ghost stop = { Stops 1 };
+    ghost stop = { Stops level.PATH };
 
     ghost one = { path_one };
 
@@ -61,15 +62,15 @@ fn read_group(
     at: usize,
 ) -> Result<(Items<Path>, usize), Fail<Refused>>
     requires { at ≤ length t.now }
-    ensures { Gives GroupE (Stops 11) t.now at result }
+    ensures { Gives GroupE (Stops level.PLAIN) t.now at result }
 {
     let Some(group) = behind_word(t, at, Keyword::Group) else {
-        settled(t, at, 11)?;
+        settled(t, at, levels::PLAIN)?;
         return Ok((Items::new(alloc), at));
     };
     let by = pass_word(t, group, Keyword::By)?;
     let (paths, to) = read_list::<Path>(alloc, t, by)?;
-    settled(t, to, 11)?;
+    settled(t, to, levels::PLAIN)?;
     Ok((paths, to))
 }
 
@@ -130,7 +131,7 @@ fn source_with(froms: Items<FromItem>, filter: Option<E>, group: Items<Path>) ->
 // What stands behind FROM.
 fn read_source(alloc: Global, t: &[Token<'_>], at: usize) -> Result<(Source, usize), Fail<Refused>>
     requires { at ≤ length t.now }
-    ensures { Gives SourceE (Stops 11) t.now at result }
+    ensures { Gives SourceE (Stops level.PLAIN) t.now at result }
 {
     let (froms, mid) = read_from(alloc, t, at)?;
     let (filter, last) = read_where(alloc, t, mid)?;
@@ -157,7 +158,7 @@ pub(crate) fn read_plain(
     at: usize,
 ) -> Result<(Plain, usize), Fail<Refused>>
     requires { at ≤ length t.now }
-    ensures { Gives PlainE (Stops 11) t.now at result }
+    ensures { Gives PlainE (Stops level.PLAIN) t.now at result }
 {
     let select = pass_word(t, at, Keyword::Select)?;
     let (shown, mid) = read_shown(alloc, t, select)?;

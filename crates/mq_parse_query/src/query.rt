@@ -1,6 +1,7 @@
 //! Whole queries (docs/LANGUAGE.md, "Queries").
 
 ghost use Rattle.std.specs.Prelude.{◌≡◌, ◌≤◌, length};
+ghost use Rattle.mq_ast.specs.declared.levels.TheConstants as level;
 ghost use Rattle.mq_ast.specs.Continuing.{Stops};
 ghost use Rattle.mq_ast.specs.GrammarQuery.{OrderE};
 ghost use Rattle.mq_ast.specs.GrammarModel.{QueryE, query_of};
@@ -10,7 +11,7 @@ ghost use Rattle.mq_parse_query.specs.ModelPieces.{EndE};
 use crate::model::read_model;
 use crate::order::read_order;
 use crate::plain::read_plain;
-use mq_ast::{Keyword, ModelTree, OrderKey, Plain, Query};
+use mq_ast::{Keyword, ModelTree, OrderKey, Plain, Query, levels};
 use mq_lexer::Token;
 use mq_parse_expr::{behind_word, settled};
 use mq_values::{Fail, Items, Refused};
@@ -23,10 +24,10 @@ fn read_last(
     at: usize,
 ) -> Result<(Items<OrderKey>, usize), Fail<Refused>>
     requires { at ≤ length t.now }
-    ensures { Gives OrderE (Stops 12) t.now at result }
+    ensures { Gives OrderE (Stops level.QUERY) t.now at result }
 {
     let (order, to) = read_order(alloc, t, at)?;
-    settled(t, to, 12)?;
+    settled(t, to, levels::QUERY)?;
     Ok((order, to))
 }
 
@@ -37,7 +38,7 @@ fn read_end(
     at: usize,
 ) -> Result<((Option<ModelTree>, Items<OrderKey>), usize), Fail<Refused>>
     requires { at ≤ length t.now }
-    ensures { Gives EndE (Stops 12) t.now at result }
+    ensures { Gives EndE (Stops level.QUERY) t.now at result }
 {
     match behind_word(t, at, Keyword::Model) {
         Some(_) => {
@@ -71,7 +72,7 @@ pub fn read_query(
     at: usize,
 ) -> Result<(Query, usize), Fail<Refused>>
     requires { at ≤ length t.now }
-    ensures { Gives QueryE (Stops 12) t.now at result }
+    ensures { Gives QueryE (Stops level.QUERY) t.now at result }
 {
     let (plain, mid) = read_plain(alloc, t, at)?;
     let (end, to) = read_end(alloc, t, mid)?;

@@ -2,6 +2,8 @@
 
 ghost use Rattle.std.specs.Prelude.{◌≡◌, ◌≤◌, ◌<◌, length, MatchResult};
 ghost use Rattle.mq_ast.specs.Tokens.{terminal_at};
+ghost use Rattle.mq_ast.specs.declared.levels.TheConstants as level;
+ghost use Rattle.mq_ast.specs.declared.clauses.TheConstants as clause;
 ghost use Rattle.mq_ast.specs.Continuing.{Past, Stops, part};
 ghost use Rattle.mq_ast.specs.GrammarRule.{MaybeMode, RuleE, RuleList, rule_of};
 ghost use Rattle.mq_parse_expr.specs.Reading.{Anywhere, Fails, Gives, from};
@@ -12,30 +14,30 @@ ghost use Rattle.mq_ast.proofs.OneRule.{rule_same};
 use crate::left::{read_closed, read_left};
 use crate::lists::Listed;
 use crate::order::read_order;
-use mq_ast::{E, Keyword, LeftTree, OrderKey, RuleTree, Symbol, Terminal};
+use mq_ast::{E, Keyword, LeftTree, OrderKey, RuleTree, Symbol, Terminal, clauses};
 use mq_lexer::Token;
 use mq_parse_expr::{behind_sign, behind_word, pass_sign, read_expr, read_name, terminal};
 use mq_values::{CmpOp, Fail, Items, Mode, Refused, Words};
 use std::alloc::Global;
 
-// The number of the part of a MODEL clause that begins so (docs/LANGUAGE.md, "The MODEL clause").
+// Which part of a MODEL clause begins so (docs/LANGUAGE.md, "The MODEL clause").
 fn part_of(terminal: Terminal) -> u8
     ensures { result ≡ part terminal }
 {
     match terminal {
         Terminal::Word(word) => match word {
-            Keyword::Ignore | Keyword::Keep | Keyword::Unique => 1,
-            Keyword::Return => 2,
-            Keyword::Reference => 3,
-            Keyword::Main => 4,
-            Keyword::Partition => 5,
-            Keyword::Update | Keyword::Upsert | Keyword::All => 6,
-            Keyword::Automatic | Keyword::Sequential => 7,
-            Keyword::Iterate => 8,
-            Keyword::Until => 9,
-            _ => 10,
+            Keyword::Ignore | Keyword::Keep | Keyword::Unique => clauses::OPTION,
+            Keyword::Return => clauses::RETURN,
+            Keyword::Reference => clauses::REFERENCE,
+            Keyword::Main => clauses::MAIN,
+            Keyword::Partition => clauses::PARTITION,
+            Keyword::Update | Keyword::Upsert | Keyword::All => clauses::MODE,
+            Keyword::Automatic | Keyword::Sequential => clauses::ORDER,
+            Keyword::Iterate => clauses::ITERATE,
+            Keyword::Until => clauses::UNTIL,
+            _ => clauses::NONE,
         },
-        _ => 10,
+        _ => clauses::NONE,
     }
 }
 
@@ -53,15 +55,15 @@ pub(crate) fn past(t: &[Token<'_>], at: usize, last: u8) -> Result<(), Fail<Refu
 // UPSERT with ALL or without it, behind UPSERT.
 fn read_upsert(t: &[Token<'_>], at: usize) -> Result<(Option<Mode>, usize), Fail<Refused>>
     requires { at ≤ length t.now }
-    ensures { Gives Upserts (Past 6) t.now at result }
+    ensures { Gives Upserts (Past clause.MODE) t.now at result }
 {
     match behind_word(t, at, Keyword::All) {
         Some(to) => {
-            past(t, to, 6)?;
+            past(t, to, clauses::MODE)?;
             Ok((Some(Mode::UpsertAll), to))
         }
         None => {
-            past(t, at, 6)?;
+            past(t, at, clauses::MODE)?;
             Ok((Some(Mode::Upsert), at))
         }
     }
@@ -70,16 +72,16 @@ fn read_upsert(t: &[Token<'_>], at: usize) -> Result<(Option<Mode>, usize), Fail
 /// A mode, where one stands there.
 pub(crate) fn read_mode(t: &[Token<'_>], at: usize) -> Result<(Option<Mode>, usize), Fail<Refused>>
     requires { at ≤ length t.now }
-    ensures { Gives MaybeMode (Past 6) t.now at result }
+    ensures { Gives MaybeMode (Past clause.MODE) t.now at result }
 {
     if let Some(to) = behind_word(t, at, Keyword::Update) {
-        past(t, to, 6)?;
+        past(t, to, clauses::MODE)?;
         return Ok((Some(Mode::Update), to));
     }
     match behind_word(t, at, Keyword::Upsert) {
         Some(behind) => read_upsert(t, behind),
         None => {
-            past(t, at, 6)?;
+            past(t, at, clauses::MODE)?;
             Ok((None, at))
         }
     }
@@ -107,7 +109,7 @@ fn read_right(
     at: usize,
 ) -> Result<((Items<OrderKey>, E), usize), Fail<Refused>>
     requires { at ≤ length t.now }
-    ensures { Gives RuleRight (Stops 7) t.now at result }
+    ensures { Gives RuleRight (Stops level.EXPRESSION) t.now at result }
 {
     let (order, end) = read_order(alloc, t, at)?;
     let behind = pass_sign(t, end, Symbol::Cmp(CmpOp::Eq))?;
@@ -132,7 +134,7 @@ fn rule_tree(front: (Option<Mode>, Words), left: LeftTree, right: (Items<OrderKe
 // A rule.
 fn read_rule(alloc: Global, t: &[Token<'_>], at: usize) -> Result<(RuleTree, usize), Fail<Refused>>
     requires { at ≤ length t.now }
-    ensures { Gives RuleE (Stops 7) t.now at result }
+    ensures { Gives RuleE (Stops level.EXPRESSION) t.now at result }
 {
     let (front, mid) = read_front(alloc, t, at)?;
     let (left, next) = read_left(alloc, t, mid)?;
@@ -145,7 +147,7 @@ impl Listed for RuleTree {
 
     ghost reads = { RuleE };
 
-    ghost stop = { Stops 7 };
+    ghost stop = { Stops level.EXPRESSION };
 
     fn read(alloc: Global, t: &[Token<'_>], at: usize) -> Result<(RuleTree, usize), Fail<Refused>> {
         read_rule(alloc, t, at)

@@ -10,6 +10,7 @@ use Rattle.mq_ast.specs.declared.terminals.Symbol.TheVariants as sign
 use Rattle.mq_values.specs.declared.operators.CmpOp.TheVariants as cmp
 use Rattle.mq_ast.specs.declared.terminals.Terminal.TheVariants as terminal
 use Rattle.mq_ast.specs.Tokens.{Tok, Word, Name, Text, terminal_at, opener, comma, equal}
+use Rattle.mq_ast.specs.declared.levels.TheConstants as level
 use Rattle.mq_ast.specs.Continuing.{loose, Stops, Not, EndsCols}
 use Rattle.mq_ast.specs.GrammarNames.{KindE}
 use Rattle.mq_ast.specs.GrammarLists.{SomeOf, some_of, MoreOf, more_end, more_comma, NameE, name}
@@ -50,44 +51,44 @@ pub names_no_close : {ns : List (List ℕ)} {ts mid : List Tok} → SomeOf NameE
 names_no_close e r n a to (names d) s = let p = names_same e d r.1 (λ e. cc) in n (ap terminal_at p.1)
 
 -- [NOT NULL]
-pub null_no_null : {ts : List Tok} → Not (terminal.Word word.Null) ts → No NotNullE (Stops 7) (Word word.Not ∷ ts)
+pub null_no_null : {ts : List Tok} → Not (terminal.Word word.Null) ts → No NotNullE (Stops level.EXPRESSION) (Word word.Not ∷ ts)
 null_no_null n a to null_may s = absurd (omega arith)
 null_no_null n a to null_not s = n refl
 
-pub null_no_end : {ts : List Tok} → loose (terminal_at ts) ≤ 7 → No NotNullE (Stops 7) (Word word.Not ∷ Word word.Null ∷ ts)
+pub null_no_end : {ts : List Tok} → loose (terminal_at ts) ≤ level.EXPRESSION → No NotNullE (Stops level.EXPRESSION) (Word word.Not ∷ Word word.Null ∷ ts)
 null_no_end l a to null_may s = absurd (omega arith)
 null_no_end l a to null_not s = absurd (omega arith)
 
-pub null_no_plain : {ts : List Tok} → Not (terminal.Word word.Not) ts → loose (terminal_at ts) ≤ 7 → No NotNullE (Stops 7) ts
+pub null_no_plain : {ts : List Tok} → Not (terminal.Word word.Not) ts → loose (terminal_at ts) ≤ level.EXPRESSION → No NotNullE (Stops level.EXPRESSION) ts
 null_no_plain n l a to null_may s = absurd (omega arith)
 null_no_plain n l a to null_not s = n refl
 
 -- a column
-pub col_no_name : {ts : List Tok} → No NameE Anywhere ts → No ColE (Stops 7) ts
+pub col_no_name : {ts : List Tok} → No NameE Anywhere ts → No ColE (Stops level.EXPRESSION) ts
 col_no_name h a to (col k b) s = h _ _ name tt
 
-pub col_no_kind : {n : List ℕ} {ts : List Tok} → No KindE Anywhere ts → No ColE (Stops 7) (Name n ∷ ts)
+pub col_no_kind : {n : List ℕ} {ts : List Tok} → No KindE Anywhere ts → No ColE (Stops level.EXPRESSION) (Name n ∷ ts)
 col_no_kind h a to (col k b) s = h _ _ k tt
 
-pub col_no_null : {n : List ℕ} {k : Kind} {ts mid : List Tok} → KindE k ts mid → No NotNullE (Stops 7) mid → No ColE (Stops 7) (Name n ∷ ts)
+pub col_no_null : {n : List ℕ} {k : Kind} {ts mid : List Tok} → KindE k ts mid → No NotNullE (Stops level.EXPRESSION) mid → No ColE (Stops level.EXPRESSION) (Name n ∷ ts)
 col_no_null e h a to (col k b) s = let p = kind_same e k in h _ _ (begin NotNullE p.1 b) s
 
 -- columns, up to a comma before PRIMARY
-cols_stop : {cs : List ColDef} {from to : List Tok} → MoreOf ColE cs from to → EndsCols to → Stops 7 from
+cols_stop : {cs : List ColDef} {from to : List Tok} → MoreOf ColE cs from to → EndsCols to → Stops level.EXPRESSION from
 cols_stop more_end s = s.0
 cols_stop (more_comma d ds) s = omega arith
 
-pub cols_no_first : {ts : List Tok} → No ColE (Stops 7) ts → No (SomeOf ColE) EndsCols ts
+pub cols_no_first : {ts : List Tok} → No ColE (Stops level.EXPRESSION) ts → No (SomeOf ColE) EndsCols ts
 cols_no_first h a to (some_of d ds) s = h _ _ d (cols_stop ds s)
 
-pub cols_no_others : {c : ColDef} {ts mid : List Tok} → ColE c ts mid → Stops 7 mid → No (MoreOf ColE) EndsCols mid → No (SomeOf ColE) EndsCols ts
+pub cols_no_others : {c : ColDef} {ts mid : List Tok} → ColE c ts mid → Stops level.EXPRESSION mid → No (MoreOf ColE) EndsCols mid → No (SomeOf ColE) EndsCols ts
 cols_no_others e r h a to (some_of d ds) s = let p = col_same _ _ _ _ _ e d r (cols_stop ds s) in h _ _ (begin (MoreOf ColE) p.1 ds) s
 
-pub cols_no_next : {ts : List Tok} → Not (terminal.Word word.Primary) ts → No ColE (Stops 7) ts → No (MoreOf ColE) EndsCols (comma ∷ ts)
+pub cols_no_next : {ts : List Tok} → Not (terminal.Word word.Primary) ts → No ColE (Stops level.EXPRESSION) ts → No (MoreOf ColE) EndsCols (comma ∷ ts)
 cols_no_next n h a to more_end s = n (s.1 refl)
 cols_no_next n h a to (more_comma d ds) s = h _ _ d (cols_stop ds s)
 
-pub cols_no_more : {c : ColDef} {ts mid : List Tok} → Not (terminal.Word word.Primary) ts → ColE c ts mid → Stops 7 mid → No (MoreOf ColE) EndsCols mid → No (MoreOf ColE) EndsCols (comma ∷ ts)
+pub cols_no_more : {c : ColDef} {ts mid : List Tok} → Not (terminal.Word word.Primary) ts → ColE c ts mid → Stops level.EXPRESSION mid → No (MoreOf ColE) EndsCols mid → No (MoreOf ColE) EndsCols (comma ∷ ts)
 cols_no_more n e r h a to more_end s = n (s.1 refl)
 cols_no_more n e r h a to (more_comma d ds) s = let p = col_same _ _ _ _ _ e d r (cols_stop ds s) in h _ _ (begin (MoreOf ColE) p.1 ds) s
 
@@ -131,24 +132,24 @@ values_no_values e n a to names_none s = elim e [ ]
 values_no_values e n a to (names_some d) s = let p = names_of_same e d in n (ap terminal_at p.1)
 
 -- name '=' e
-pub set_no_name : {ts : List Tok} → No NameE Anywhere ts → No SetE (Stops 7) ts
+pub set_no_name : {ts : List Tok} → No NameE Anywhere ts → No SetE (Stops level.EXPRESSION) ts
 set_no_name h a to (set d) s = h _ _ name tt
 
-pub set_no_equal : {n : List ℕ} {ts : List Tok} → Not (terminal.Sign (sign.Cmp cmp.Eq)) ts → No SetE (Stops 7) (Name n ∷ ts)
+pub set_no_equal : {n : List ℕ} {ts : List Tok} → Not (terminal.Sign (sign.Cmp cmp.Eq)) ts → No SetE (Stops level.EXPRESSION) (Name n ∷ ts)
 set_no_equal n a to (set d) s = n refl
 
-pub set_no_value : {n : List ℕ} {ts : List Tok} → No Expr (Stops 7) ts → No SetE (Stops 7) (Name n ∷ equal ∷ ts)
+pub set_no_value : {n : List ℕ} {ts : List Tok} → No Expr (Stops level.EXPRESSION) ts → No SetE (Stops level.EXPRESSION) (Name n ∷ equal ∷ ts)
 set_no_value h a to (set d) s = h _ _ d s
 
 -- the new values and the condition
-pub where_ends : {o : Option E} {from to : List Tok} → WhereE o from to → Stops 10 to → EndsList (Stops 7) from
-where_ends w s = let r = where_stop w s in (omega (arith, r), stops_not 9 (terminal.Sign sign.Comma) _ (omega arith) r)
+pub where_ends : {o : Option E} {from to : List Tok} → WhereE o from to → Stops level.FILTERED to → EndsList (Stops level.EXPRESSION) from
+where_ends w s = let r = where_stop w s in (omega (arith, r), stops_not level.SOURCES (terminal.Sign sign.Comma) _ (omega arith) r)
 
-pub changes_no_sets : {ts : List Tok} → No (SomeOf SetE) (EndsList (Stops 7)) ts → No Changes (Stops 10) ts
+pub changes_no_sets : {ts : List Tok} → No (SomeOf SetE) (EndsList (Stops level.EXPRESSION)) ts → No Changes (Stops level.FILTERED) ts
 changes_no_sets h a to (changes d w) s = h _ _ d (where_ends w s)
 
-pub changes_no_where : {xs : List (List ℕ × E)} {ts mid : List Tok} → SomeOf SetE xs ts mid → EndsList (Stops 7) mid → No WhereE (Stops 10) mid → No Changes (Stops 10) ts
+pub changes_no_where : {xs : List (List ℕ × E)} {ts mid : List Tok} → SomeOf SetE xs ts mid → EndsList (Stops level.EXPRESSION) mid → No WhereE (Stops level.FILTERED) mid → No Changes (Stops level.FILTERED) ts
 changes_no_where e r h a to (changes d w) s = let p = sets_same e d r (where_ends w s) in h _ _ (begin WhereE p.1 w) s
 
-pub changes_same : {c c' : List (List ℕ × E) × Option E} {ts to to' : List Tok} → Changes c ts to → Changes c' ts to' → Stops 10 to → Stops 10 to' → to ≡ to'
+pub changes_same : {c c' : List (List ℕ × E) × Option E} {ts to to' : List Tok} → Changes c ts to → Changes c' ts to' → Stops level.FILTERED to → Stops level.FILTERED to' → to ≡ to'
 changes_same (changes d w) (changes d' w') s s' = let p = sets_same d d' (where_ends w s) (where_ends w' s') in (where_same w (begin WhereE p.1 w') s s').1

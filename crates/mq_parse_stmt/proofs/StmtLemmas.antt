@@ -13,6 +13,7 @@ use Rattle.mq_ast.specs.declared.statements.Stmt.TheVariants as stmt
 use Rattle.mq_lexer.specs.declared.keywords.Keyword.TheVariants as word
 use Rattle.mq_ast.specs.declared.terminals.Terminal.TheVariants as terminal
 use Rattle.mq_ast.specs.Tokens.{Tok, Word, Name, Text}
+use Rattle.mq_ast.specs.declared.levels.TheConstants as level
 use Rattle.mq_ast.specs.Continuing.{Stops, Not}
 use Rattle.mq_ast.specs.GrammarLists.{SomeOf, NameE, name}
 use Rattle.mq_ast.specs.GrammarExpression.{Tuple}
@@ -64,10 +65,10 @@ view_no_name n h a (stmt_create_view d) = h _ _ word_name tt
 pub view_no_as : {n : List ℕ} {ts : List Tok} → Not (terminal.Word word.As) ts → NoStmt (Word word.Create ∷ Word word.View ∷ Name n ∷ ts)
 view_no_as x a (stmt_create_view d) = x refl
 
-pub view_no_query : {n : List ℕ} {ts : List Tok} → No QueryE (Stops 12) ts → NoStmt (Word word.Create ∷ Word word.View ∷ Name n ∷ Word word.As ∷ ts)
+pub view_no_query : {n : List ℕ} {ts : List Tok} → No QueryE (Stops level.QUERY) ts → NoStmt (Word word.Create ∷ Word word.View ∷ Name n ∷ Word word.As ∷ ts)
 view_no_query h a (stmt_create_view d) = h _ _ d (omega arith)
 
-pub view_no_end : {n : List ℕ} {q : Query} {ts to : List Tok} → QueryE q ts to → Stops 12 to → to ≢ [] → NoStmt (Word word.Create ∷ Word word.View ∷ Name n ∷ Word word.As ∷ ts)
+pub view_no_end : {n : List ℕ} {q : Query} {ts to : List Tok} → QueryE q ts to → Stops level.QUERY to → to ≢ [] → NoStmt (Word word.Create ∷ Word word.View ∷ Name n ∷ Word word.As ∷ ts)
 view_no_end e r x a (stmt_create_view d) = x (query_same e d r (omega arith)).1
 
 -- DROP
@@ -106,10 +107,10 @@ update_no_name h a (stmt_update d w) = h _ _ name tt
 pub update_no_set : {n : List ℕ} {ts : List Tok} → Not (terminal.Word word.Set) ts → NoStmt (Word word.Update ∷ Name n ∷ ts)
 update_no_set x a (stmt_update d w) = x refl
 
-pub update_no_changes : {n : List ℕ} {ts : List Tok} → No Changes (Stops 10) ts → NoStmt (Word word.Update ∷ Name n ∷ Word word.Set ∷ ts)
+pub update_no_changes : {n : List ℕ} {ts : List Tok} → No Changes (Stops level.FILTERED) ts → NoStmt (Word word.Update ∷ Name n ∷ Word word.Set ∷ ts)
 update_no_changes h a (stmt_update d w) = h _ _ (changes d w) (omega arith)
 
-pub update_no_end : {n : List ℕ} {c : List (List ℕ × E) × Option E} {ts to : List Tok} → Changes c ts to → Stops 10 to → to ≢ [] → NoStmt (Word word.Update ∷ Name n ∷ Word word.Set ∷ ts)
+pub update_no_end : {n : List ℕ} {c : List (List ℕ × E) × Option E} {ts to : List Tok} → Changes c ts to → Stops level.FILTERED to → to ≢ [] → NoStmt (Word word.Update ∷ Name n ∷ Word word.Set ∷ ts)
 update_no_end e r x a (stmt_update d w) = x (changes_same e (changes d w) r (omega arith))
 
 pub update_read : {n : List ℕ} {c : List (List ℕ × E) × Option E} {ts : List Tok} → Changes c ts [] → StmtE (stmt.Update n c.0 c.1) (Word word.Update ∷ Name n ∷ Word word.Set ∷ ts)
@@ -119,10 +120,10 @@ update_read (changes d w) = stmt_update d w
 pub delete_no_name : {ts : List Tok} → No (WordName word.From) Anywhere ts → NoStmt (Word word.Delete ∷ ts)
 delete_no_name h a (stmt_delete w) = h _ _ word_name tt
 
-pub delete_no_where : {n : List ℕ} {ts : List Tok} → No WhereE (Stops 10) ts → NoStmt (Word word.Delete ∷ Word word.From ∷ Name n ∷ ts)
+pub delete_no_where : {n : List ℕ} {ts : List Tok} → No WhereE (Stops level.FILTERED) ts → NoStmt (Word word.Delete ∷ Word word.From ∷ Name n ∷ ts)
 delete_no_where h a (stmt_delete w) = h _ _ w (omega arith)
 
-pub delete_no_end : {n : List ℕ} {o : Option E} {ts to : List Tok} → WhereE o ts to → Stops 10 to → to ≢ [] → NoStmt (Word word.Delete ∷ Word word.From ∷ Name n ∷ ts)
+pub delete_no_end : {n : List ℕ} {o : Option E} {ts to : List Tok} → WhereE o ts to → Stops level.FILTERED to → to ≢ [] → NoStmt (Word word.Delete ∷ Word word.From ∷ Name n ∷ ts)
 delete_no_end e r x a (stmt_delete w) = x (where_same e w r (omega arith)).1
 
 -- LOAD and SHOW
@@ -145,10 +146,10 @@ pub show_no_end : {n : List ℕ} {ts : List Tok} → ts ≢ [] → NoStmt (Word 
 show_no_end x a stmt_show = x refl
 
 -- a query
-pub query_no_query : {ts : List Tok} → No QueryE (Stops 12) (Word word.Select ∷ ts) → NoStmt (Word word.Select ∷ ts)
+pub query_no_query : {ts : List Tok} → No QueryE (Stops level.QUERY) (Word word.Select ∷ ts) → NoStmt (Word word.Select ∷ ts)
 query_no_query h a (stmt_query d) = h _ _ d (omega arith)
 
-pub query_no_end : {q : Query} {ts to : List Tok} → QueryE q (Word word.Select ∷ ts) to → Stops 12 to → to ≢ [] → NoStmt (Word word.Select ∷ ts)
+pub query_no_end : {q : Query} {ts to : List Tok} → QueryE q (Word word.Select ∷ ts) to → Stops level.QUERY to → to ≢ [] → NoStmt (Word word.Select ∷ ts)
 query_no_end e r x a (stmt_query d) = x (query_same e d r (omega arith)).1
 
 -- another first token

@@ -2,6 +2,7 @@
 
 ghost use Rattle.std.specs.Prelude.{◌≡◌, ◌≢◌, ◌≤◌, ◌<◌, List, ◌∷◌, length};
 ghost use Rattle.mq_ast.specs.Tokens.{Tok, Word};
+ghost use Rattle.mq_ast.specs.declared.levels.TheConstants as level;
 ghost use Rattle.mq_ast.specs.Continuing.{Stops};
 ghost use Rattle.mq_ast.specs.GrammarStatement.{SetE};
 ghost use Rattle.mq_ast.proofs.OneStatement.{set_same};
@@ -74,7 +75,7 @@ fn read_changes(
     at: usize,
 ) -> Result<((Items<(Words, E)>, Option<E>), usize), Fail<Refused>>
     requires { at ≤ length t.now }
-    ensures { Gives Changes (Stops 10) t.now at result }
+    ensures { Gives Changes (Stops level.FILTERED) t.now at result }
 {
     let (sets, mid) = read_list::<Set>(alloc, t, at)?;
     let (filter, to) = read_where(alloc, t, mid)?;
@@ -91,7 +92,7 @@ impl Listed for Set {
 
     ghost reads = { SetE };
 
-    ghost stop = { Stops 7 };
+    ghost stop = { Stops level.EXPRESSION };
 
     ghost one = { set_same };
 
@@ -107,7 +108,7 @@ impl Listed for Set {
 }
 
 fn read_set(alloc: Global, t: &[Token<'_>], at: usize) -> Result<((Words, E), usize), Fail<Refused>>
-    ensures { Gives SetE (Stops 7) t.now at result }
+    ensures { Gives SetE (Stops level.EXPRESSION) t.now at result }
 {
     let (name, mid) = read_name(alloc, t, at)?;
     let value = pass_sign(t, mid, Symbol::Cmp(CmpOp::Eq))?;

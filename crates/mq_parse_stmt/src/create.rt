@@ -2,6 +2,7 @@
 
 ghost use Rattle.std.specs.Prelude.{◌≡◌, ◌≢◌, ◌≤◌, List, ◌∷◌, length, MatchOption};
 ghost use Rattle.mq_ast.specs.Tokens.{Tok, Word, comma, terminal_at, rest_of};
+ghost use Rattle.mq_ast.specs.declared.levels.TheConstants as level;
 ghost use Rattle.mq_ast.specs.Continuing.{Stops, EndsCols, Not};
 ghost use Rattle.mq_ast.specs.GrammarLists.{SomeOf, MoreOf};
 ghost use Rattle.mq_ast.specs.GrammarStatement.{ColE, NotNullE, col_of};
@@ -10,7 +11,7 @@ ghost use Rattle.mq_parse_stmt.specs.Pieces.{Body, KeyEnd, KeyBehind};
 ghost use Rattle.mq_parse_stmt.specs.Parsing.{Whole};
 
 use crate::pieces::{ended, read_names, read_word_name};
-use mq_ast::{ColDef, Keyword, Stmt, Symbol, Terminal};
+use mq_ast::{ColDef, Keyword, Stmt, Symbol, Terminal, levels};
 use mq_lexer::Token;
 use mq_parse_expr::{
     behind_sign, behind_word, pass_sign, pass_word, read_kind, read_name, settled,
@@ -125,7 +126,7 @@ fn read_more_cols(
     at: usize,
 ) -> Result<(Items<ColDef>, usize), Fail<Refused>>
     requires in_range { at ≤ length t.now }
-    requires stops { Stops 7 (from t.now at) }
+    requires stops { Stops level.EXPRESSION (from t.now at) }
     ensures { Gives (MoreOf ColE) EndsCols t.now at result }
 {
     let mut found = Items::new(alloc);
@@ -153,7 +154,7 @@ fn behind_comma(t: &[Token<'_>], at: usize) -> Option<usize>
 
 // A column: its name, its kind, and NOT NULL where it stands there.
 fn read_col(alloc: Global, t: &[Token<'_>], at: usize) -> Result<(ColDef, usize), Fail<Refused>>
-    ensures { Gives ColE (Stops 7) t.now at result }
+    ensures { Gives ColE (Stops level.EXPRESSION) t.now at result }
 {
     let (name, mid) = read_name(alloc, t, at)?;
     let (kind, next) = read_kind(t, mid)?;
@@ -174,16 +175,16 @@ fn column(name: Words, kind: Kind, not_null: bool) -> ColDef
 // Whether NOT NULL stands at a place, and the place behind it.
 fn read_not_null(t: &[Token<'_>], at: usize) -> Result<(bool, usize), Fail<Refused>>
     requires { at ≤ length t.now }
-    ensures { Gives NotNullE (Stops 7) t.now at result }
+    ensures { Gives NotNullE (Stops level.EXPRESSION) t.now at result }
 {
     match behind_word(t, at, Keyword::Not) {
         Some(not) => {
             let to = pass_word(t, not, Keyword::Null)?;
-            settled(t, to, 7)?;
+            settled(t, to, levels::EXPRESSION)?;
             Ok((true, to))
         }
         None => {
-            settled(t, at, 7)?;
+            settled(t, at, levels::EXPRESSION)?;
             Ok((false, at))
         }
     }

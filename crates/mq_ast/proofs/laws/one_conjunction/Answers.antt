@@ -1,4 +1,4 @@
-use Rattle.mq_ast.proofs.OneExpression.{and_same}
+use Rattle.mq_ast.specs.Laws.OneExpressionLemmas.{and_same}
 use Rattle.mq_ast.proofs.laws.one_conjunction.Goals as goal
 
 pub returns : goal.returns

@@ -1,4 +1,4 @@
-use Rattle.mq_ast.proofs.OneExpression.{expr_same}
+use Rattle.mq_ast.specs.Laws.OneExpressionLemmas.{expr_same}
 use Rattle.mq_ast.proofs.laws.one_expression.Goals as goal
 
 pub returns : goal.returns

@@ -1,4 +1,4 @@
-use Rattle.mq_ast.proofs.OneQuery.{plain_same}
+use Rattle.mq_ast.specs.Laws.OneQueryLemmas.{plain_same}
 use Rattle.mq_ast.proofs.laws.one_plain.Goals as goal
 
 pub returns : goal.returns

@@ -1,4 +1,4 @@
-use Rattle.mq_ast.proofs.OneExpression.{prim_same, sign_same}
+use Rattle.mq_ast.specs.Laws.OneExpressionLemmas.{prim_same, sign_same}
 use Rattle.mq_ast.proofs.laws.one_primary.Goals as goal
 
 pub returns-clause-primary : goal.returns-clause-primary

@@ -1,4 +1,4 @@
-use Rattle.mq_ast.proofs.OneExpression.{prod_same}
+use Rattle.mq_ast.specs.Laws.OneExpressionLemmas.{prod_same}
 use Rattle.mq_ast.proofs.laws.one_product.Goals as goal
 
 pub returns : goal.returns

@@ -1,4 +1,4 @@
-use Rattle.mq_ast.proofs.OneModel.{query_same}
+use Rattle.mq_ast.specs.Laws.OneModelLemmas.{query_same}
 use Rattle.mq_ast.proofs.laws.one_query.Goals as goal
 
 pub returns : goal.returns

@@ -1,4 +1,4 @@
-use Rattle.mq_ast.proofs.OneStatement.{stmt_same}
+use Rattle.mq_ast.specs.Laws.OneStatementLemmas.{stmt_same}
 use Rattle.mq_ast.proofs.laws.one_statement.Goals as goal
 
 pub returns : goal.returns

@@ -1,4 +1,4 @@
-use Rattle.mq_ast.proofs.OneExpression.{sum_same}
+use Rattle.mq_ast.specs.Laws.OneExpressionLemmas.{sum_same}
 use Rattle.mq_ast.proofs.laws.one_sum.Goals as goal
 
 pub returns : goal.returns

@@ -1,4 +1,4 @@
-use Rattle.mq_ast.proofs.OneExpression.{test_same, not_same}
+use Rattle.mq_ast.specs.Laws.OneExpressionLemmas.{test_same, not_same}
 use Rattle.mq_ast.proofs.laws.one_test.Goals as goal
 
 pub returns-clause-test : goal.returns-clause-test

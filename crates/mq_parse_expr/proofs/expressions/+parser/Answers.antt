@@ -6,6 +6,7 @@ use Rattle.mq_lexer.specs.declared.keywords.Keyword.TheVariants as word
 use Rattle.mq_ast.specs.declared.terminals.Symbol.TheVariants as sign
 use Rattle.mq_ast.specs.declared.terminals.Terminal.TheVariants as terminal
 use Rattle.mq_ast.specs.Tokens.{Word, Aggregate, Sign, Name, terminal_at, opener, closer, comma}
+use Rattle.mq_ast.specs.declared.levels.TheConstants as level
 use Rattle.mq_ast.specs.Continuing.{loose, Stops, Ends}
 use Rattle.mq_ast.specs.Chains.{sum_term, prod_term}
 use Rattle.mq_ast.specs.GrammarNames.{PathE}
@@ -41,16 +42,16 @@ read_expr-returns t c =
 pub read_ors-returns-in_err-e : goal.read_ors-returns-in_err-e
 read_ors-returns-in_err-e t c =
     let p = err_from_is_err_and c.from_residual.result c.from_residual.ensures.1 in
-    rw (p.1, p.2) (exit c.in_err-e.field-0.0 c.in_err-e.ensures (λ h. cut_short MoreOr (Stops 6) (Stops 7) c.args.t.now c.args.at c.loop-behind.to c.loop-behind.found c.loop-behind.invariant (Word word.Or) c.in-Some.behind c.in-Some.ensures (or_no_next h)))
+    rw (p.1, p.2) (exit c.in_err-e.field-0.0 c.in_err-e.ensures (λ h. cut_short MoreOr (Stops level.CONJUNCTION) (Stops level.EXPRESSION) c.args.t.now c.args.at c.loop-behind.to c.loop-behind.found c.loop-behind.invariant (Word word.Or) c.in-Some.behind c.in-Some.ensures (or_no_next h)))
 
 pub read_ors-loop-behind-preserved : goal.read_ors-loop-behind-preserved
 read_ors-loop-behind-preserved t c =
     let d = c.in_ok-e.ensures in
-    one_more MoreOr (Stops 6) (Stops 7) c.args.t.now c.args.at c.loop-behind.to c.loop-behind.found c.loop-behind.invariant (Word word.Or) c.in-Some.behind c.in-Some.ensures c.in_ok-e.e c.in_ok-e.next c.push.new.self (λ rest last ds. or_more d.2 ds) (λ h. or_no_more d.2 d.3 h) d.3 d.0 d.1 c.in_ok-push.ensures.ok
+    one_more MoreOr (Stops level.CONJUNCTION) (Stops level.EXPRESSION) c.args.t.now c.args.at c.loop-behind.to c.loop-behind.found c.loop-behind.invariant (Word word.Or) c.in-Some.behind c.in-Some.ensures c.in_ok-e.e c.in_ok-e.next c.push.new.self (λ rest last ds. or_more d.2 ds) (λ h. or_no_more d.2 d.3 h) d.3 d.0 d.1 c.in_ok-push.ensures.ok
 
 pub read_ors-returns : goal.read_ors-returns
 read_ors-returns t c =
-    all_found MoreOr (Stops 6) (Stops 7) c.args.t.now c.args.at c.loop-behind.to c.loop-behind.found c.loop-behind.invariant or_end (stops_or (terminal_at (from c.args.t.now c.loop-behind.to)) c.loop-behind.invariant.stops c.in_default.ensures)
+    all_found MoreOr (Stops level.CONJUNCTION) (Stops level.EXPRESSION) c.args.t.now c.args.at c.loop-behind.to c.loop-behind.found c.loop-behind.invariant or_end (stops_or (terminal_at (from c.args.t.now c.loop-behind.to)) c.loop-behind.invariant.stops c.in_default.ensures)
 
 pub read_and-returns-in_err-first : goal.read_and-returns-in_err-first
 read_and-returns-in_err-first t c =
@@ -71,21 +72,21 @@ read_and-returns t c =
 pub read_ands-returns-in_err-e : goal.read_ands-returns-in_err-e
 read_ands-returns-in_err-e t c =
     let p = err_from_is_err_and c.from_residual.result c.from_residual.ensures.1 in
-    rw (p.1, p.2) (exit c.in_err-e.field-0.0 c.in_err-e.ensures (λ h. cut_short MoreAnd (Stops 5) (Stops 6) c.args.t.now c.args.at c.loop-behind.to c.loop-behind.found c.loop-behind.invariant (Word word.And) c.in-Some.behind c.in-Some.ensures (and_no_next h)))
+    rw (p.1, p.2) (exit c.in_err-e.field-0.0 c.in_err-e.ensures (λ h. cut_short MoreAnd (Stops level.TEST) (Stops level.CONJUNCTION) c.args.t.now c.args.at c.loop-behind.to c.loop-behind.found c.loop-behind.invariant (Word word.And) c.in-Some.behind c.in-Some.ensures (and_no_next h)))
 
 pub read_ands-loop-behind-preserved : goal.read_ands-loop-behind-preserved
 read_ands-loop-behind-preserved t c =
     let d = c.in_ok-e.ensures in
-    one_more MoreAnd (Stops 5) (Stops 6) c.args.t.now c.args.at c.loop-behind.to c.loop-behind.found c.loop-behind.invariant (Word word.And) c.in-Some.behind c.in-Some.ensures c.in_ok-e.e c.in_ok-e.next c.push.new.self (λ rest last ds. and_more d.2 ds) (λ h. and_no_more d.2 d.3 h) d.3 d.0 d.1 c.in_ok-push.ensures.ok
+    one_more MoreAnd (Stops level.TEST) (Stops level.CONJUNCTION) c.args.t.now c.args.at c.loop-behind.to c.loop-behind.found c.loop-behind.invariant (Word word.And) c.in-Some.behind c.in-Some.ensures c.in_ok-e.e c.in_ok-e.next c.push.new.self (λ rest last ds. and_more d.2 ds) (λ h. and_no_more d.2 d.3 h) d.3 d.0 d.1 c.in_ok-push.ensures.ok
 
 pub read_ands-returns : goal.read_ands-returns
 read_ands-returns t c =
-    all_found MoreAnd (Stops 5) (Stops 6) c.args.t.now c.args.at c.loop-behind.to c.loop-behind.found c.loop-behind.invariant and_end (stops_and (terminal_at (from c.args.t.now c.loop-behind.to)) c.loop-behind.invariant.stops c.in_default.ensures)
+    all_found MoreAnd (Stops level.TEST) (Stops level.CONJUNCTION) c.args.t.now c.args.at c.loop-behind.to c.loop-behind.found c.loop-behind.invariant and_end (stops_and (terminal_at (from c.args.t.now c.loop-behind.to)) c.loop-behind.invariant.stops c.in_default.ensures)
 
 pub read_not-returns-in_err-e-in-Some : goal.read_not-returns-in_err-e-in-Some
 read_not-returns-in_err-e-in-Some t c =
     let p = err_from_is_err_and c.from_residual.result c.from_residual.ensures.1 in
-    rw (p.1, p.2) (exit c.in_err-e-in-Some.field-0.0 c.in_err-e-in-Some.ensures (λ h. here NotE (Stops 5) c.in-Some.ensures.2 (not_no_not h)))
+    rw (p.1, p.2) (exit c.in_err-e-in-Some.field-0.0 c.in_err-e-in-Some.ensures (λ h. here NotE (Stops level.TEST) c.in-Some.ensures.2 (not_no_not h)))
 
 pub read_not-returns-in_ok-negation-in-Some : goal.read_not-returns-in_ok-negation-in-Some
 read_not-returns-in_ok-negation-in-Some t c =
@@ -95,7 +96,7 @@ read_not-returns-in_ok-negation-in-Some t c =
 
 pub read_not-returns-in-None : goal.read_not-returns-in-None
 read_not-returns-in-None t c =
-    gives_as NotE TestE (Stops 5) (Stops 5) c.args.t.now c.args.at c.args.at c.read_test-in-None.result (omega arith) (λ a to d s. (not_plain d, s)) (λ h. not_no_plain c.in-None.ensures h) c.read_test-in-None.ensures
+    gives_as NotE TestE (Stops level.TEST) (Stops level.TEST) c.args.t.now c.args.at c.args.at c.read_test-in-None.result (omega arith) (λ a to d s. (not_plain d, s)) (λ h. not_no_plain c.in-None.ensures h) c.read_test-in-None.ensures
 
 pub read_test-returns-in_err-a : goal.read_test-returns-in_err-a
 read_test-returns-in_err-a t c =
@@ -105,32 +106,32 @@ read_test-returns-in_err-a t c =
 pub read_test-returns : goal.read_test-returns
 read_test-returns t c =
     let a = c.in_ok-a.ensures in
-    gives_as TestE (TestTail c.in_ok-a.a) (Stops 5) (Stops 5) c.args.t.now c.args.at c.in_ok-a.mid c.read_tail.result a.0 (λ b to d s. (test a.2 d, s)) (λ h. test_no_tail a.2 a.3 h) c.read_tail.ensures
+    gives_as TestE (TestTail c.in_ok-a.a) (Stops level.TEST) (Stops level.TEST) c.args.t.now c.args.at c.in_ok-a.mid c.read_tail.result a.0 (λ b to d s. (test a.2 d, s)) (λ h. test_no_tail a.2 a.3 h) c.read_tail.ensures
 
 pub read_tail-returns-in-Cmp : goal.read_tail-returns-in-Cmp
 read_tail-returns-in-Cmp t c =
     let f = tail_front (tail.Cmp c.in-Cmp.op) (from c.args.t.now c.args.at) c.in-Cmp.ensures.tail in
-    fronted (TestTail c.args.a) (Stops 5) (cmp_front c.in-Cmp.op) c.args.t.now c.args.at (c.args.at + 1) c.read_cmp.result (omega arith) (at_front (Sign (sign.Cmp c.in-Cmp.op)) c.args.t.now c.args.at f) c.read_cmp.ensures
+    fronted (TestTail c.args.a) (Stops level.TEST) (cmp_front c.in-Cmp.op) c.args.t.now c.args.at (c.args.at + 1) c.read_cmp.result (omega arith) (at_front (Sign (sign.Cmp c.in-Cmp.op)) c.args.t.now c.args.at f) c.read_cmp.ensures
 
 pub read_tail-returns-in-Between : goal.read_tail-returns-in-Between
 read_tail-returns-in-Between t c =
     let f = tail_front tail.Between (from c.args.t.now c.args.at) c.in-Between.ensures.tail in
-    fronted (TestTail c.args.a) (Stops 5) (between_front false) c.args.t.now c.args.at (c.args.at + 1) c.read_between.result (omega arith) (at_front (Word word.Between) c.args.t.now c.args.at f) c.read_between.ensures
+    fronted (TestTail c.args.a) (Stops level.TEST) (between_front false) c.args.t.now c.args.at (c.args.at + 1) c.read_between.result (omega arith) (at_front (Word word.Between) c.args.t.now c.args.at f) c.read_between.ensures
 
 pub read_tail-returns-in-In : goal.read_tail-returns-in-In
 read_tail-returns-in-In t c =
     let f = tail_front tail.In (from c.args.t.now c.args.at) c.in-In.ensures.tail in
-    fronted (TestTail c.args.a) (Stops 5) (in_front false) c.args.t.now c.args.at (c.args.at + 1) c.read_in.result (omega arith) (at_front (Word word.In) c.args.t.now c.args.at f) c.read_in.ensures
+    fronted (TestTail c.args.a) (Stops level.TEST) (in_front false) c.args.t.now c.args.at (c.args.at + 1) c.read_in.result (omega arith) (at_front (Word word.In) c.args.t.now c.args.at f) c.read_in.ensures
 
 pub read_tail-returns-in-Is : goal.read_tail-returns-in-Is
 read_tail-returns-in-Is t c =
     let f = tail_front tail.Is (from c.args.t.now c.args.at) c.in-Is.ensures.tail in
-    fronted (TestTail c.args.a) (Stops 5) is_front c.args.t.now c.args.at (c.args.at + 1) c.read_is.result (omega arith) (at_front (Word word.Is) c.args.t.now c.args.at f) c.read_is.ensures
+    fronted (TestTail c.args.a) (Stops level.TEST) is_front c.args.t.now c.args.at (c.args.at + 1) c.read_is.result (omega arith) (at_front (Word word.Is) c.args.t.now c.args.at f) c.read_is.ensures
 
 pub read_tail-returns-in-Not : goal.read_tail-returns-in-Not
 read_tail-returns-in-Not t c =
     let f = tail_front tail.Not (from c.args.t.now c.args.at) c.in-Not.ensures.tail in
-    fronted (TestTail c.args.a) (Stops 5) not_front c.args.t.now c.args.at (c.args.at + 1) c.read_negated.result (omega arith) (at_front (Word word.Not) c.args.t.now c.args.at f) c.read_negated.ensures
+    fronted (TestTail c.args.a) (Stops level.TEST) not_front c.args.t.now c.args.at (c.args.at + 1) c.read_negated.result (omega arith) (at_front (Word word.Not) c.args.t.now c.args.at f) c.read_negated.ensures
 
 pub read_tail-returns-in-Done : goal.read_tail-returns-in-Done
 read_tail-returns-in-Done t c =
@@ -139,12 +140,12 @@ read_tail-returns-in-Done t c =
 pub read_negated-returns-in-Between : goal.read_negated-returns-in-Between
 read_negated-returns-in-Between t c =
     let f = tail_front tail.Between (from c.args.t.now c.args.at) c.in-Between.ensures.tail in
-    fronted (Since not_front c.args.a) (Stops 5) (λ us. Word word.Between ∷ us) c.args.t.now c.args.at (c.args.at + 1) c.read_between.result (omega arith) (at_front (Word word.Between) c.args.t.now c.args.at f) c.read_between.ensures
+    fronted (Since not_front c.args.a) (Stops level.TEST) (λ us. Word word.Between ∷ us) c.args.t.now c.args.at (c.args.at + 1) c.read_between.result (omega arith) (at_front (Word word.Between) c.args.t.now c.args.at f) c.read_between.ensures
 
 pub read_negated-returns-in-In : goal.read_negated-returns-in-In
 read_negated-returns-in-In t c =
     let f = tail_front tail.In (from c.args.t.now c.args.at) c.in-In.ensures.tail in
-    fronted (Since not_front c.args.a) (Stops 5) (λ us. Word word.In ∷ us) c.args.t.now c.args.at (c.args.at + 1) c.read_in.result (omega arith) (at_front (Word word.In) c.args.t.now c.args.at f) c.read_in.ensures
+    fronted (Since not_front c.args.a) (Stops level.TEST) (λ us. Word word.In ∷ us) c.args.t.now c.args.at (c.args.at + 1) c.read_in.result (omega arith) (at_front (Word word.In) c.args.t.now c.args.at f) c.read_in.ensures
 
 pub read_negated-returns-in_default : goal.read_negated-returns-in_default
 read_negated-returns-in_default t c =
@@ -248,16 +249,16 @@ read_exprs-returns t c =
 pub read_more_exprs-returns-in_err-e : goal.read_more_exprs-returns-in_err-e
 read_more_exprs-returns-in_err-e t c =
     let p = err_from_is_err_and c.from_residual.result c.from_residual.ensures.1 in
-    rw (p.1, p.2) (exit c.in_err-e.field-0.0 c.in_err-e.ensures (λ h. cut_short MoreExprs (Stops 7) (Ends (terminal.Sign sign.Comma)) c.args.t.now c.args.at c.loop-behind.to c.loop-behind.found c.loop-behind.invariant comma c.in-Some.behind c.in-Some.ensures (exprs_no_next h)))
+    rw (p.1, p.2) (exit c.in_err-e.field-0.0 c.in_err-e.ensures (λ h. cut_short MoreExprs (Stops level.EXPRESSION) (Ends (terminal.Sign sign.Comma)) c.args.t.now c.args.at c.loop-behind.to c.loop-behind.found c.loop-behind.invariant comma c.in-Some.behind c.in-Some.ensures (exprs_no_next h)))
 
 pub read_more_exprs-loop-behind-preserved : goal.read_more_exprs-loop-behind-preserved
 read_more_exprs-loop-behind-preserved t c =
     let d = c.in_ok-e.ensures in
-    one_more MoreExprs (Stops 7) (Ends (terminal.Sign sign.Comma)) c.args.t.now c.args.at c.loop-behind.to c.loop-behind.found c.loop-behind.invariant comma c.in-Some.behind c.in-Some.ensures c.in_ok-e.e c.in_ok-e.next c.push.new.self (λ rest last ds. exprs_more d.2 ds) (λ h. exprs_no_more d.2 d.3 h) d.3 d.0 d.1 c.in_ok-push.ensures.ok
+    one_more MoreExprs (Stops level.EXPRESSION) (Ends (terminal.Sign sign.Comma)) c.args.t.now c.args.at c.loop-behind.to c.loop-behind.found c.loop-behind.invariant comma c.in-Some.behind c.in-Some.ensures c.in_ok-e.e c.in_ok-e.next c.push.new.self (λ rest last ds. exprs_more d.2 ds) (λ h. exprs_no_more d.2 d.3 h) d.3 d.0 d.1 c.in_ok-push.ensures.ok
 
 pub read_more_exprs-returns : goal.read_more_exprs-returns
 read_more_exprs-returns t c =
-    all_found MoreExprs (Stops 7) (Ends (terminal.Sign sign.Comma)) c.args.t.now c.args.at c.loop-behind.to c.loop-behind.found c.loop-behind.invariant exprs_end (c.loop-behind.invariant.stops, c.in_default.ensures)
+    all_found MoreExprs (Stops level.EXPRESSION) (Ends (terminal.Sign sign.Comma)) c.args.t.now c.args.at c.loop-behind.to c.loop-behind.found c.loop-behind.invariant exprs_end (c.loop-behind.invariant.stops, c.in_default.ensures)
 
 pub read_sum-returns-in_err-first : goal.read_sum-returns-in_err-first
 read_sum-returns-in_err-first t c =
@@ -278,16 +279,16 @@ read_sum-returns t c =
 pub read_sums-returns-in_err-e : goal.read_sums-returns-in_err-e
 read_sums-returns-in_err-e t c =
     let p = err_from_is_err_and c.from_residual.result c.from_residual.ensures.1 in
-    rw (p.1, p.2) (exit c.in_err-e.field-0.0 c.in_err-e.ensures (λ h. cut_short MoreSum (Stops 3) (Stops 4) c.args.t.now c.args.at c.loop-op.to c.loop-op.found c.loop-op.invariant (Sign (sign.Sum c.in-Some.op)) (c.loop-op.to + 1) c.in-Some.ensures (sum_no_next h)))
+    rw (p.1, p.2) (exit c.in_err-e.field-0.0 c.in_err-e.ensures (λ h. cut_short MoreSum (Stops level.PRODUCT) (Stops level.SUM) c.args.t.now c.args.at c.loop-op.to c.loop-op.found c.loop-op.invariant (Sign (sign.Sum c.in-Some.op)) (c.loop-op.to + 1) c.in-Some.ensures (sum_no_next h)))
 
 pub read_sums-loop-op-preserved : goal.read_sums-loop-op-preserved
 read_sums-loop-op-preserved t c =
     let d = c.in_ok-e.ensures in
-    one_more MoreSum (Stops 3) (Stops 4) c.args.t.now c.args.at c.loop-op.to c.loop-op.found c.loop-op.invariant (Sign (sign.Sum c.in-Some.op)) (c.loop-op.to + 1) c.in-Some.ensures (sum_term c.in-Some.op c.in_ok-e.e) c.in_ok-e.next c.push.new.self (λ rest last ds. sum_more d.2 ds) (λ h. sum_no_more d.2 d.3 h) d.3 d.0 d.1 c.in_ok-push.ensures.ok
+    one_more MoreSum (Stops level.PRODUCT) (Stops level.SUM) c.args.t.now c.args.at c.loop-op.to c.loop-op.found c.loop-op.invariant (Sign (sign.Sum c.in-Some.op)) (c.loop-op.to + 1) c.in-Some.ensures (sum_term c.in-Some.op c.in_ok-e.e) c.in_ok-e.next c.push.new.self (λ rest last ds. sum_more d.2 ds) (λ h. sum_no_more d.2 d.3 h) d.3 d.0 d.1 c.in_ok-push.ensures.ok
 
 pub read_sums-returns : goal.read_sums-returns
 read_sums-returns t c =
-    all_found MoreSum (Stops 3) (Stops 4) c.args.t.now c.args.at c.loop-op.to c.loop-op.found c.loop-op.invariant sum_end (stops_sum (terminal_at (from c.args.t.now c.loop-op.to)) c.loop-op.invariant.stops c.in_default.ensures)
+    all_found MoreSum (Stops level.PRODUCT) (Stops level.SUM) c.args.t.now c.args.at c.loop-op.to c.loop-op.found c.loop-op.invariant sum_end (stops_sum (terminal_at (from c.args.t.now c.loop-op.to)) c.loop-op.invariant.stops c.in_default.ensures)
 
 pub read_prod-returns-in_err-first : goal.read_prod-returns-in_err-first
 read_prod-returns-in_err-first t c =
@@ -308,21 +309,21 @@ read_prod-returns t c =
 pub read_prods-returns-in_err-e : goal.read_prods-returns-in_err-e
 read_prods-returns-in_err-e t c =
     let p = err_from_is_err_and c.from_residual.result c.from_residual.ensures.1 in
-    rw (p.1, p.2) (exit c.in_err-e.field-0.0 c.in_err-e.ensures (λ h. cut_short MoreProd (Stops 2) (Stops 3) c.args.t.now c.args.at c.loop-op.to c.loop-op.found c.loop-op.invariant (Sign (sign.Prod c.in-Some.op)) (c.loop-op.to + 1) c.in-Some.ensures (prod_no_next h)))
+    rw (p.1, p.2) (exit c.in_err-e.field-0.0 c.in_err-e.ensures (λ h. cut_short MoreProd (Stops level.PRIMARY) (Stops level.PRODUCT) c.args.t.now c.args.at c.loop-op.to c.loop-op.found c.loop-op.invariant (Sign (sign.Prod c.in-Some.op)) (c.loop-op.to + 1) c.in-Some.ensures (prod_no_next h)))
 
 pub read_prods-loop-op-preserved : goal.read_prods-loop-op-preserved
 read_prods-loop-op-preserved t c =
     let d = c.in_ok-e.ensures in
-    one_more MoreProd (Stops 2) (Stops 3) c.args.t.now c.args.at c.loop-op.to c.loop-op.found c.loop-op.invariant (Sign (sign.Prod c.in-Some.op)) (c.loop-op.to + 1) c.in-Some.ensures (prod_term c.in-Some.op c.in_ok-e.e) c.in_ok-e.next c.push.new.self (λ rest last ds. prod_more d.2 ds) (λ h. prod_no_more d.2 d.3 h) d.3 d.0 d.1 c.in_ok-push.ensures.ok
+    one_more MoreProd (Stops level.PRIMARY) (Stops level.PRODUCT) c.args.t.now c.args.at c.loop-op.to c.loop-op.found c.loop-op.invariant (Sign (sign.Prod c.in-Some.op)) (c.loop-op.to + 1) c.in-Some.ensures (prod_term c.in-Some.op c.in_ok-e.e) c.in_ok-e.next c.push.new.self (λ rest last ds. prod_more d.2 ds) (λ h. prod_no_more d.2 d.3 h) d.3 d.0 d.1 c.in_ok-push.ensures.ok
 
 pub read_prods-returns : goal.read_prods-returns
 read_prods-returns t c =
-    all_found MoreProd (Stops 2) (Stops 3) c.args.t.now c.args.at c.loop-op.to c.loop-op.found c.loop-op.invariant prod_end (stops_prod (terminal_at (from c.args.t.now c.loop-op.to)) c.loop-op.invariant.stops c.in_default.ensures)
+    all_found MoreProd (Stops level.PRIMARY) (Stops level.PRODUCT) c.args.t.now c.args.at c.loop-op.to c.loop-op.found c.loop-op.invariant prod_end (stops_prod (terminal_at (from c.args.t.now c.loop-op.to)) c.loop-op.invariant.stops c.in_default.ensures)
 
 pub read_sign-returns-in_err-e-in-Some : goal.read_sign-returns-in_err-e-in-Some
 read_sign-returns-in_err-e-in-Some t c =
     let p = err_from_is_err_and c.from_residual.result c.from_residual.ensures.1 in
-    rw (p.1, p.2) (exit c.in_err-e-in-Some.field-0.0 c.in_err-e-in-Some.ensures (λ h. here SignE (Stops 2) c.in-Some.ensures.2 (sign_no_minus h)))
+    rw (p.1, p.2) (exit c.in_err-e-in-Some.field-0.0 c.in_err-e-in-Some.ensures (λ h. here SignE (Stops level.PRIMARY) c.in-Some.ensures.2 (sign_no_minus h)))
 
 pub read_sign-returns-in_ok-signed-in-Some : goal.read_sign-returns-in_ok-signed-in-Some
 read_sign-returns-in_ok-signed-in-Some t c =
@@ -332,12 +333,12 @@ read_sign-returns-in_ok-signed-in-Some t c =
 
 pub read_sign-returns-in-None : goal.read_sign-returns-in-None
 read_sign-returns-in-None t c =
-    gives_as SignE PrimE (Stops 2) (Stops 2) c.args.t.now c.args.at c.args.at c.read_prim-in-None.result (omega arith) (λ a to d s. (sign_plain d, s)) (λ h. sign_no_plain c.in-None.ensures h) c.read_prim-in-None.ensures
+    gives_as SignE PrimE (Stops level.PRIMARY) (Stops level.PRIMARY) c.args.t.now c.args.at c.args.at c.read_prim-in-None.result (omega arith) (λ a to d s. (sign_plain d, s)) (λ h. sign_no_plain c.in-None.ensures h) c.read_prim-in-None.ensures
 
 pub read_prim-returns-in-Aggregate : goal.read_prim-returns-in-Aggregate
 read_prim-returns-in-Aggregate t c =
     let f = form_front (form.Aggregate c.in-Aggregate.agg) (from c.args.t.now c.args.at) c.in-Aggregate.ensures.form in
-    fronted PrimE (Stops 2) (λ us. Aggregate c.in-Aggregate.agg ∷ us) c.args.t.now c.args.at (c.args.at + 1) c.read_agg.result (omega arith) (at_front (Aggregate c.in-Aggregate.agg) c.args.t.now c.args.at f) c.read_agg.ensures
+    fronted PrimE (Stops level.PRIMARY) (λ us. Aggregate c.in-Aggregate.agg ∷ us) c.args.t.now c.args.at (c.args.at + 1) c.read_agg.result (omega arith) (at_front (Aggregate c.in-Aggregate.agg) c.args.t.now c.args.at f) c.read_agg.ensures
 
 pub read_prim-returns-in-Other : goal.read_prim-returns-in-Other
 read_prim-returns-in-Other t c =
@@ -389,12 +390,12 @@ read_closed-read_leaf-requires t c =
 pub read_name-returns-in_err-path : goal.read_name-returns-in_err-path
 read_name-returns-in_err-path t c =
     let p = err_from_is_err_and c.from_residual.result c.from_residual.ensures.1 in
-    rw (p.1, p.2) (exit c.in_err-path.field-0.0 c.in_err-path.ensures (λ h. let n = (split_name (from c.args.t.now c.args.at) c.requires.begins) in here PrimE (Stops 2) n.1 (prim_no_path (here PathE (Stops 1) (sym n.1) h))))
+    rw (p.1, p.2) (exit c.in_err-path.field-0.0 c.in_err-path.ensures (λ h. let n = (split_name (from c.args.t.now c.args.at) c.requires.begins) in here PrimE (Stops level.PRIMARY) n.1 (prim_no_path (here PathE (Stops level.PATH) (sym n.1) h))))
 
 pub read_name-returns-in_err-settled : goal.read_name-returns-in_err-settled
 read_name-returns-in_err-settled t c =
     let p = err_from_is_err_and c.from_residual-in_err-settled.result c.from_residual-in_err-settled.ensures.1 in
-    rw (p.1, p.2) (exit c.in_err-settled.field-0.0 c.in_err-settled.ensures (λ h. let n = (split_name (from c.args.t.now c.args.at) c.requires.begins) in here PrimE (Stops 2) n.1 (path_no_end (from c.args.t.now c.in_ok-path.mid) (there PathE (sym n.1) c.in_ok-path.ensures.2) c.in_ok-path.ensures.3 c.in_default.ensures h)))
+    rw (p.1, p.2) (exit c.in_err-settled.field-0.0 c.in_err-settled.ensures (λ h. let n = (split_name (from c.args.t.now c.args.at) c.requires.begins) in here PrimE (Stops level.PRIMARY) n.1 (path_no_end (from c.args.t.now c.in_ok-path.mid) (there PathE (sym n.1) c.in_ok-path.ensures.2) c.in_ok-path.ensures.3 c.in_default.ensures h)))
 
 pub read_name-returns-in_default : goal.read_name-returns-in_default
 read_name-returns-in_default t c =
@@ -405,12 +406,12 @@ read_name-returns-in_default t c =
 pub read_name-returns-in_err-places : goal.read_name-returns-in_err-places
 read_name-returns-in_err-places t c =
     let p = err_from_is_err_and c.from_residual-in_err-places.result c.from_residual-in_err-places.ensures.1 in
-    rw (p.1, p.2) (exit c.in_err-places.field-0.0 c.in_err-places.ensures (λ h. let n = (split_name (from c.args.t.now c.args.at) c.requires.begins) in here PrimE (Stops 2) n.1 (cell_no_places (there PathE (sym n.1) c.in_ok-path.ensures.2) c.in_ok-path.ensures.3 (ap terminal_at c.in-Some.ensures.2) h)))
+    rw (p.1, p.2) (exit c.in_err-places.field-0.0 c.in_err-places.ensures (λ h. let n = (split_name (from c.args.t.now c.args.at) c.requires.begins) in here PrimE (Stops level.PRIMARY) n.1 (cell_no_places (there PathE (sym n.1) c.in_ok-path.ensures.2) c.in_ok-path.ensures.3 (ap terminal_at c.in-Some.ensures.2) h)))
 
 pub read_name-returns-in_err-settled-2 : goal.read_name-returns-in_err-settled-2
 read_name-returns-in_err-settled-2 t c =
     let p = err_from_is_err_and c.from_residual-in_err-settled-2.result c.from_residual-in_err-settled-2.ensures.1 in
-    rw (p.1, p.2) (exit c.in_err-settled-2.field-0.0 c.in_err-settled-2.ensures (λ h. let n = (split_name (from c.args.t.now c.args.at) c.requires.begins) in here PrimE (Stops 2) n.1 (cell_no_end (from c.args.t.now c.in_ok-places.to) (there PathE (sym n.1) c.in_ok-path.ensures.2) c.in_ok-path.ensures.3 c.in_ok-places.ensures.2 h)))
+    rw (p.1, p.2) (exit c.in_err-settled-2.field-0.0 c.in_err-settled-2.ensures (λ h. let n = (split_name (from c.args.t.now c.args.at) c.requires.begins) in here PrimE (Stops level.PRIMARY) n.1 (cell_no_end (from c.args.t.now c.in_ok-places.to) (there PathE (sym n.1) c.in_ok-path.ensures.2) c.in_ok-path.ensures.3 c.in_ok-places.ensures.2 h)))
 
 pub read_name-returns : goal.read_name-returns
 read_name-returns t c =
@@ -422,7 +423,7 @@ read_name-returns t c =
 pub read_agg-returns-in_err-settled-in-All : goal.read_agg-returns-in_err-settled-in-All
 read_agg-returns-in_err-settled-in-All t c =
     let p = err_from_is_err_and c.from_residual.result c.from_residual.ensures.1 in
-    rw (p.1, p.2) (exit c.in_err-settled-in-All.field-0.0 c.in_err-settled-in-All.ensures (λ h. here (Behind (Aggregate c.args.agg)) (Stops 2) c.in-All.ensures.3 (all_no_end h)))
+    rw (p.1, p.2) (exit c.in_err-settled-in-All.field-0.0 c.in_err-settled-in-All.ensures (λ h. here (Behind (Aggregate c.args.agg)) (Stops level.PRIMARY) c.in-All.ensures.3 (all_no_end h)))
 
 pub read_agg-returns-in_ok-settled-in-All : goal.read_agg-returns-in_ok-settled-in-All
 read_agg-returns-in_ok-settled-in-All t c =
@@ -432,7 +433,7 @@ read_agg-returns-in_ok-settled-in-All t c =
 pub read_agg-returns-in_ok-measure-in-Cells : goal.read_agg-returns-in_ok-measure-in-Cells
 read_agg-returns-in_ok-measure-in-Cells t c =
     let a = c.in-Cells.ensures in
-    fronted (Behind (Aggregate c.args.agg)) (Stops 2) (λ us. opener ∷ Name c.in-Cells.measure.now ∷ closer ∷ us) c.args.t.now c.args.at c.in-Cells.cells c.read_range.result a.0 a.2 (measured c.args.agg c.args.t.now c.in-Cells.cells c.read_range.result c.in_ok-measure-in-Cells.ensures c.read_range.ensures)
+    fronted (Behind (Aggregate c.args.agg)) (Stops level.PRIMARY) (λ us. opener ∷ Name c.in-Cells.measure.now ∷ closer ∷ us) c.args.t.now c.args.at c.in-Cells.cells c.read_range.result a.0 a.2 (measured c.args.agg c.args.t.now c.in-Cells.cells c.read_range.result c.in_ok-measure-in-Cells.ensures c.read_range.ensures)
 
 pub read_agg-returns-in_err-e-in-Values : goal.read_agg-returns-in_err-e-in-Values
 read_agg-returns-in_err-e-in-Values t c =
@@ -643,21 +644,21 @@ read_brackets-returns t c =
 pub read_places-returns-in_err-place : goal.read_places-returns-in_err-place
 read_places-returns-in_err-place t c =
     let p = err_from_is_err_and c.from_residual.result c.from_residual.ensures.1 in
-    rw (p.1, p.2) (exit c.in_err-place.field-0.0 c.in_err-place.ensures (λ h. cut_short MorePlaces (Stops 7) (Ends (terminal.Sign sign.Comma)) c.args.t.now c.args.at c.loop-behind.to c.loop-behind.found c.loop-behind.invariant comma c.in-Some.behind c.in-Some.ensures (places_no_next h)))
+    rw (p.1, p.2) (exit c.in_err-place.field-0.0 c.in_err-place.ensures (λ h. cut_short MorePlaces (Stops level.EXPRESSION) (Ends (terminal.Sign sign.Comma)) c.args.t.now c.args.at c.loop-behind.to c.loop-behind.found c.loop-behind.invariant comma c.in-Some.behind c.in-Some.ensures (places_no_next h)))
 
 pub read_places-loop-behind-preserved : goal.read_places-loop-behind-preserved
 read_places-loop-behind-preserved t c =
     let d = c.in_ok-place.ensures in
-    one_more MorePlaces (Stops 7) (Ends (terminal.Sign sign.Comma)) c.args.t.now c.args.at c.loop-behind.to c.loop-behind.found c.loop-behind.invariant comma c.in-Some.behind c.in-Some.ensures c.in_ok-place.place c.in_ok-place.next c.push.new.self (λ rest last ds. places_more d.2 ds) (λ h. places_no_more d.2 d.3 h) d.3 d.0 d.1 c.in_ok-push.ensures.ok
+    one_more MorePlaces (Stops level.EXPRESSION) (Ends (terminal.Sign sign.Comma)) c.args.t.now c.args.at c.loop-behind.to c.loop-behind.found c.loop-behind.invariant comma c.in-Some.behind c.in-Some.ensures c.in_ok-place.place c.in_ok-place.next c.push.new.self (λ rest last ds. places_more d.2 ds) (λ h. places_no_more d.2 d.3 h) d.3 d.0 d.1 c.in_ok-push.ensures.ok
 
 pub read_places-returns : goal.read_places-returns
 read_places-returns t c =
-    all_found MorePlaces (Stops 7) (Ends (terminal.Sign sign.Comma)) c.args.t.now c.args.at c.loop-behind.to c.loop-behind.found c.loop-behind.invariant places_end (c.loop-behind.invariant.stops, c.in_default.ensures)
+    all_found MorePlaces (Stops level.EXPRESSION) (Ends (terminal.Sign sign.Comma)) c.args.t.now c.args.at c.loop-behind.to c.loop-behind.found c.loop-behind.invariant places_end (c.loop-behind.invariant.stops, c.in_default.ensures)
 
 pub read_place-returns-in_err-settled-in-Some : goal.read_place-returns-in_err-settled-in-Some
 read_place-returns-in_err-settled-in-Some t c =
     let p = err_from_is_err_and c.from_residual.result c.from_residual.ensures.1 in
-    rw (p.1, p.2) (exit c.in_err-settled-in-Some.field-0.0 c.in_err-settled-in-Some.ensures (λ h. here PlaceE (Stops 7) c.in-Some.ensures.2 (place_no_end h)))
+    rw (p.1, p.2) (exit c.in_err-settled-in-Some.field-0.0 c.in_err-settled-in-Some.ensures (λ h. here PlaceE (Stops level.EXPRESSION) c.in-Some.ensures.2 (place_no_end h)))
 
 pub read_place-returns-in_ok-settled-in-Some : goal.read_place-returns-in_ok-settled-in-Some
 read_place-returns-in_ok-settled-in-Some t c =

@@ -1,6 +1,7 @@
 use Rattle.std.proofs.Common.{◌+◌, ◌-◌, ◌*◌, ◌≤◌, length}
 use Rattle.mq_ast.specs.declared.terminals.Symbol.TheVariants as sign
 use Rattle.mq_ast.specs.declared.terminals.Terminal.TheVariants as terminal
+use Rattle.mq_ast.specs.declared.levels.TheConstants as level
 use Rattle.mq_ast.specs.Continuing.{Stops, Ends}
 use Rattle.mq_ast.specs.GrammarExpression.{MoreOr, MoreAnd, MoreExprs, MoreSum, MoreProd, MorePlaces}
 use Rattle.mq_parse_expr.proofs.Steps.{SoFar}
@@ -113,37 +114,37 @@ abbrev pub decreases-read_call : goal.decreases-read_call
 decreases-read_call l = 40 * (length l.t.now - l.at) + 21
 
 abbrev pub invariant-read_ors-loop-behind : goal.invariant-read_ors-loop-behind
-invariant-read_ors-loop-behind l = SoFar MoreOr (Stops 6) (Stops 7) l.t l.fn.at l.to l.found
+invariant-read_ors-loop-behind l = SoFar MoreOr (Stops level.CONJUNCTION) (Stops level.EXPRESSION) l.t l.fn.at l.to l.found
 
 abbrev pub decreases-read_ors-loop-behind : goal.decreases-read_ors-loop-behind
 decreases-read_ors-loop-behind l = length l.t - l.to
 
 abbrev pub invariant-read_ands-loop-behind : goal.invariant-read_ands-loop-behind
-invariant-read_ands-loop-behind l = SoFar MoreAnd (Stops 5) (Stops 6) l.t l.fn.at l.to l.found
+invariant-read_ands-loop-behind l = SoFar MoreAnd (Stops level.TEST) (Stops level.CONJUNCTION) l.t l.fn.at l.to l.found
 
 abbrev pub decreases-read_ands-loop-behind : goal.decreases-read_ands-loop-behind
 decreases-read_ands-loop-behind l = length l.t - l.to
 
 abbrev pub invariant-read_more_exprs-loop-behind : goal.invariant-read_more_exprs-loop-behind
-invariant-read_more_exprs-loop-behind l = SoFar MoreExprs (Stops 7) (Ends (terminal.Sign sign.Comma)) l.t l.fn.at l.to l.found
+invariant-read_more_exprs-loop-behind l = SoFar MoreExprs (Stops level.EXPRESSION) (Ends (terminal.Sign sign.Comma)) l.t l.fn.at l.to l.found
 
 abbrev pub decreases-read_more_exprs-loop-behind : goal.decreases-read_more_exprs-loop-behind
 decreases-read_more_exprs-loop-behind l = length l.t - l.to
 
 abbrev pub invariant-read_sums-loop-op : goal.invariant-read_sums-loop-op
-invariant-read_sums-loop-op l = SoFar MoreSum (Stops 3) (Stops 4) l.t l.fn.at l.to l.found
+invariant-read_sums-loop-op l = SoFar MoreSum (Stops level.PRODUCT) (Stops level.SUM) l.t l.fn.at l.to l.found
 
 abbrev pub decreases-read_sums-loop-op : goal.decreases-read_sums-loop-op
 decreases-read_sums-loop-op l = length l.t - l.to
 
 abbrev pub invariant-read_prods-loop-op : goal.invariant-read_prods-loop-op
-invariant-read_prods-loop-op l = SoFar MoreProd (Stops 2) (Stops 3) l.t l.fn.at l.to l.found
+invariant-read_prods-loop-op l = SoFar MoreProd (Stops level.PRIMARY) (Stops level.PRODUCT) l.t l.fn.at l.to l.found
 
 abbrev pub decreases-read_prods-loop-op : goal.decreases-read_prods-loop-op
 decreases-read_prods-loop-op l = length l.t - l.to
 
 abbrev pub invariant-read_places-loop-behind : goal.invariant-read_places-loop-behind
-invariant-read_places-loop-behind l = SoFar MorePlaces (Stops 7) (Ends (terminal.Sign sign.Comma)) l.t l.fn.at l.to l.found
+invariant-read_places-loop-behind l = SoFar MorePlaces (Stops level.EXPRESSION) (Ends (terminal.Sign sign.Comma)) l.t l.fn.at l.to l.found
 
 abbrev pub decreases-read_places-loop-behind : goal.decreases-read_places-loop-behind
 decreases-read_places-loop-behind l = length l.t - l.to

@@ -1,6 +1,7 @@
 use Rattle.std.proofs.Common.{◌∷◌, ap, ◌∙◌, arith}
 use Rattle.std.proofs.lemmas.Result.{err_from_is_err_and}
 use Rattle.mq_ast.specs.Tokens.{Word}
+use Rattle.mq_ast.specs.declared.clauses.TheConstants as clause
 use Rattle.mq_ast.specs.Continuing.{Past}
 use Rattle.mq_ast.specs.GrammarLists.{ManyOf}
 use Rattle.mq_parse_expr.specs.Reading.{from}
@@ -13,7 +14,7 @@ use Rattle.mq_parse_query.proofs.heads.next_option.Goals as goal
 pub returns-in_err-to-in-Some : goal.returns-in_err-to-in-Some
 returns-in_err-to-in-Some c =
     let p = err_from_is_err_and c.from_residual.result c.from_residual.ensures.1 in
-    rw (p.1, p.2) (exit c.in_err-to-in-Some.field-0.0 c.in_err-to-in-Some.ensures (λ h. here (ManyOf OptE) (Past 1) c.in-Some.ensures.2 (option_no_second c.in-Some.opt (rw c.second_word.ensures at h))))
+    rw (p.1, p.2) (exit c.in_err-to-in-Some.field-0.0 c.in_err-to-in-Some.ensures (λ h. here (ManyOf OptE) (Past clause.OPTION) c.in-Some.ensures.2 (option_no_second c.in-Some.opt (rw c.second_word.ensures at h))))
 
 pub returns-in_ok-to-in-Some : goal.returns-in_ok-to-in-Some
 returns-in_ok-to-in-Some c =

@@ -1,5 +1,6 @@
 use Rattle.std.proofs.Common.{arith}
 use Rattle.std.proofs.lemmas.Result.{err_from_is_err_and}
+use Rattle.mq_ast.specs.declared.clauses.TheConstants as clause
 use Rattle.mq_ast.specs.Continuing.{Past}
 use Rattle.mq_ast.specs.GrammarLists.{ManyOf}
 use Rattle.mq_parse_expr.proofs.Steps.{exit, here, there}
@@ -10,7 +11,7 @@ use Rattle.mq_parse_query.proofs.heads.next_ref.Goals as goal
 pub returns-in_err-found-in-Some : goal.returns-in_err-found-in-Some
 returns-in_err-found-in-Some c =
     let p = err_from_is_err_and c.from_residual.result c.from_residual.ensures.1 in
-    rw (p.1, p.2) (exit c.in_err-found-in-Some.field-0.0 c.in_err-found-in-Some.ensures (λ h. here (ManyOf RefE) (Past 3) c.in-Some.ensures.2 (refs_no_ref h)))
+    rw (p.1, p.2) (exit c.in_err-found-in-Some.field-0.0 c.in_err-found-in-Some.ensures (λ h. here (ManyOf RefE) (Past clause.REFERENCE) c.in-Some.ensures.2 (refs_no_ref h)))
 
 pub returns-in_ok-found-in-Some : goal.returns-in_ok-found-in-Some
 returns-in_ok-found-in-Some c =

@@ -1,5 +1,6 @@
 use Rattle.std.proofs.Common.{true, false, arith}
 use Rattle.std.proofs.lemmas.Result.{err_from_is_err_and}
+use Rattle.mq_ast.specs.declared.clauses.TheConstants as clause
 use Rattle.mq_ast.specs.Continuing.{Past}
 use Rattle.mq_parse_expr.proofs.Steps.{exit, here, there, gives_as}
 use Rattle.mq_parse_query.proofs.HeadLemmas.{auto_no_yes, auto_no_no, yes_auto, no_auto, auto_no_word}
@@ -10,12 +11,12 @@ use Rattle.mq_parse_query.proofs.heads.read_auto.Goals as goal
 pub returns-in-Some : goal.returns-in-Some
 returns-in-Some c =
     let s = c.in-Some.ensures in
-    gives_as AutoE (AutoEnd true) (Past 7) (Past 7) c.args.t.now c.args.at c.in-Some.behind c.read_auto_end.result (omega (arith, s.0)) (λ a to d r. (there AutoE s.2 (yes_auto d), r)) (λ h. here AutoE (Past 7) s.2 (auto_no_yes h)) c.read_auto_end.ensures
+    gives_as AutoE (AutoEnd true) (Past clause.ORDER) (Past clause.ORDER) c.args.t.now c.args.at c.in-Some.behind c.read_auto_end.result (omega (arith, s.0)) (λ a to d r. (there AutoE s.2 (yes_auto d), r)) (λ h. here AutoE (Past clause.ORDER) s.2 (auto_no_yes h)) c.read_auto_end.ensures
 
 pub returns-in-Some-behind_word : goal.returns-in-Some-behind_word
 returns-in-Some-behind_word c =
     let s = c.in-Some-behind_word.ensures in
-    gives_as AutoE (AutoEnd false) (Past 7) (Past 7) c.args.t.now c.args.at c.in-Some-behind_word.behind c.read_auto_end-in-Some-behind_word.result (omega (arith, s.0)) (λ a to d r. (there AutoE s.2 (no_auto d), r)) (λ h. here AutoE (Past 7) s.2 (auto_no_no h)) c.read_auto_end-in-Some-behind_word.ensures
+    gives_as AutoE (AutoEnd false) (Past clause.ORDER) (Past clause.ORDER) c.args.t.now c.args.at c.in-Some-behind_word.behind c.read_auto_end-in-Some-behind_word.result (omega (arith, s.0)) (λ a to d r. (there AutoE s.2 (no_auto d), r)) (λ h. here AutoE (Past clause.ORDER) s.2 (auto_no_no h)) c.read_auto_end-in-Some-behind_word.ensures
 
 pub returns-in_err-past-in-None : goal.returns-in_err-past-in-None
 returns-in_err-past-in-None c =

@@ -1,5 +1,6 @@
 use Rattle.std.proofs.Common.{arith}
 use Rattle.std.proofs.lemmas.Result.{err_from_is_err_and}
+use Rattle.mq_ast.specs.declared.clauses.TheConstants as clause
 use Rattle.mq_ast.specs.Continuing.{Past}
 use Rattle.mq_parse_expr.proofs.Steps.{exit, here, there}
 use Rattle.mq_parse_query.proofs.HeadLemmas.{auto_no_order, auto_no_end}
@@ -14,7 +15,7 @@ returns-in_err-to c =
 pub returns-in_err-past : goal.returns-in_err-past
 returns-in_err-past c =
     let p = err_from_is_err_and c.from_residual-in_err-past.result c.from_residual-in_err-past.ensures.1 in
-    rw (p.1, p.2) (exit c.in_err-past.field-0.0 c.in_err-past.ensures (λ h. here (AutoEnd c.args.auto) (Past 7) c.in_ok-to.ensures.2 (auto_no_end h)))
+    rw (p.1, p.2) (exit c.in_err-past.field-0.0 c.in_err-past.ensures (λ h. here (AutoEnd c.args.auto) (Past clause.ORDER) c.in_ok-to.ensures.2 (auto_no_end h)))
 
 pub returns : goal.returns
 returns c = let e = c.in_ok-to.ensures in (omega (arith, e.0), e.1, there (AutoEnd c.args.auto) e.2 auto_end, c.in_ok-past.ensures)

@@ -2,6 +2,7 @@ use Rattle.std.proofs.Common.{◌∷◌, ap, ◌∙◌, arith}
 use Rattle.std.proofs.lemmas.Result.{err_from_is_err_and}
 use Rattle.mq_lexer.specs.declared.keywords.Keyword.TheVariants as word
 use Rattle.mq_ast.specs.Tokens.{Word}
+use Rattle.mq_ast.specs.declared.clauses.TheConstants as clause
 use Rattle.mq_ast.specs.Continuing.{Past}
 use Rattle.mq_parse_expr.proofs.Steps.{exit, here, there}
 use Rattle.mq_parse_expr.proofs.NameLemmas.{named}
@@ -12,12 +13,12 @@ use Rattle.mq_parse_query.proofs.heads.read_main.Goals as goal
 pub returns-in_err-name-in-Some : goal.returns-in_err-name-in-Some
 returns-in_err-name-in-Some c =
     let p = err_from_is_err_and c.from_residual.result c.from_residual.ensures.1 in
-    rw (p.1, p.2) (exit c.in_err-name-in-Some.field-0.0 c.in_err-name-in-Some.ensures (λ h. here MainE (Past 4) c.in-Some.ensures.2 (main_no_name h)))
+    rw (p.1, p.2) (exit c.in_err-name-in-Some.field-0.0 c.in_err-name-in-Some.ensures (λ h. here MainE (Past clause.MAIN) c.in-Some.ensures.2 (main_no_name h)))
 
 pub returns-in_err-past-in-Some : goal.returns-in_err-past-in-Some
 returns-in_err-past-in-Some c =
     let p = err_from_is_err_and c.from_residual-in_err-past-in-Some.result c.from_residual-in_err-past-in-Some.ensures.1 in
-    rw (p.1, p.2) (exit c.in_err-past-in-Some.field-0.0 c.in_err-past-in-Some.ensures (λ h. here MainE (Past 4) (c.in-Some.ensures.2 ∙ ap (λ r. Word word.Main ∷ r) (named c.in_ok-name-in-Some.ensures.2)) (main_no_end h)))
+    rw (p.1, p.2) (exit c.in_err-past-in-Some.field-0.0 c.in_err-past-in-Some.ensures (λ h. here MainE (Past clause.MAIN) (c.in-Some.ensures.2 ∙ ap (λ r. Word word.Main ∷ r) (named c.in_ok-name-in-Some.ensures.2)) (main_no_end h)))
 
 pub returns-in_ok-past-in-Some : goal.returns-in_ok-past-in-Some
 returns-in_ok-past-in-Some c =

@@ -2,6 +2,7 @@ use Rattle.std.proofs.Common.{◌∷◌, arith}
 use Rattle.std.proofs.lemmas.Result.{err_from_is_err_and}
 use Rattle.mq_lexer.specs.declared.keywords.Keyword.TheVariants as word
 use Rattle.mq_ast.specs.Tokens.{Word}
+use Rattle.mq_ast.specs.declared.clauses.TheConstants as clause
 use Rattle.mq_ast.specs.Continuing.{Past}
 use Rattle.mq_parse_expr.proofs.Steps.{exit, fronted}
 use Rattle.mq_parse_query.proofs.ModelLemmas.{return_no_end}
@@ -9,7 +10,7 @@ use Rattle.mq_ast.specs.GrammarModel.{ReturnE, return_none}
 use Rattle.mq_parse_query.proofs.heads.read_return.Goals as goal
 
 pub returns-in-Some : goal.returns-in-Some
-returns-in-Some c = let s = c.in-Some.ensures in fronted ReturnE (Past 2) (λ us. Word word.Return ∷ us) c.args.t.now c.args.at c.in-Some.behind c.read_rows.result (omega (arith, s.0)) s.2 c.read_rows.ensures
+returns-in-Some c = let s = c.in-Some.ensures in fronted ReturnE (Past clause.RETURN) (λ us. Word word.Return ∷ us) c.args.t.now c.args.at c.in-Some.behind c.read_rows.result (omega (arith, s.0)) s.2 c.read_rows.ensures
 
 pub returns-in_err-past-in-None : goal.returns-in_err-past-in-None
 returns-in_err-past-in-None c =

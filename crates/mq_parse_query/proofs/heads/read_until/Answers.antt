@@ -1,5 +1,6 @@
 use Rattle.std.proofs.Common.{arith}
 use Rattle.std.proofs.lemmas.Result.{err_from_is_err_and}
+use Rattle.mq_ast.specs.declared.clauses.TheConstants as clause
 use Rattle.mq_ast.specs.Continuing.{Past}
 use Rattle.mq_parse_expr.specs.Reading.{from}
 use Rattle.mq_parse_expr.proofs.Steps.{exit, here, there}
@@ -10,12 +11,12 @@ use Rattle.mq_parse_query.proofs.heads.read_until.Goals as goal
 pub returns-in_err-e-in-Some : goal.returns-in_err-e-in-Some
 returns-in_err-e-in-Some c =
     let p = err_from_is_err_and c.from_residual.result c.from_residual.ensures.1 in
-    rw (p.1, p.2) (exit c.in_err-e-in-Some.field-0.0 c.in_err-e-in-Some.ensures (λ h. here UntilE (Past 9) c.in-Some.ensures.2 (until_no_round h)))
+    rw (p.1, p.2) (exit c.in_err-e-in-Some.field-0.0 c.in_err-e-in-Some.ensures (λ h. here UntilE (Past clause.UNTIL) c.in-Some.ensures.2 (until_no_round h)))
 
 pub returns-in_err-past-in-Some : goal.returns-in_err-past-in-Some
 returns-in_err-past-in-Some c =
     let p = err_from_is_err_and c.from_residual-in_err-past-in-Some.result c.from_residual-in_err-past-in-Some.ensures.1 in
-    rw (p.1, p.2) (exit c.in_err-past-in-Some.field-0.0 c.in_err-past-in-Some.ensures (λ h. here UntilE (Past 9) c.in-Some.ensures.2 (until_no_end (from c.args.t.now c.in_ok-e-in-Some.to) c.in_ok-e-in-Some.ensures.2 h)))
+    rw (p.1, p.2) (exit c.in_err-past-in-Some.field-0.0 c.in_err-past-in-Some.ensures (λ h. here UntilE (Past clause.UNTIL) c.in-Some.ensures.2 (until_no_end (from c.args.t.now c.in_ok-e-in-Some.to) c.in_ok-e-in-Some.ensures.2 h)))
 
 pub returns-in_ok-past-in-Some : goal.returns-in_ok-past-in-Some
 returns-in_ok-past-in-Some c =

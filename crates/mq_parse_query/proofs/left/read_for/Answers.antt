@@ -1,6 +1,7 @@
 use Rattle.std.proofs.Common.{◌∷◌, ap, ◌∙◌, arith}
 use Rattle.std.proofs.lemmas.Result.{err_from_is_err_and}
 use Rattle.mq_ast.specs.Tokens.{Name}
+use Rattle.mq_ast.specs.declared.levels.TheConstants as level
 use Rattle.mq_ast.specs.Continuing.{Stops}
 use Rattle.mq_parse_expr.specs.Reading.{from}
 use Rattle.mq_parse_expr.proofs.Steps.{exit, here, there, as_value}
@@ -17,12 +18,12 @@ returns-in_err-dim c =
 pub returns-in_err-list-in-Some : goal.returns-in_err-list-in-Some
 returns-in_err-list-in-Some c =
     let p = err_from_is_err_and c.from_residual-in_err-list-in-Some.result c.from_residual-in_err-list-in-Some.ensures.1 in
-    rw (p.1, p.2) (exit c.in_err-list-in-Some.field-0.0 c.in_err-list-in-Some.ensures (λ h. here ForPlace (Stops 7) (named c.in_ok-dim.ensures.2 ∙ ap (λ r. Name c.in_ok-dim.dim ∷ r) c.in-Some.ensures.2) (for_no_values h)))
+    rw (p.1, p.2) (exit c.in_err-list-in-Some.field-0.0 c.in_err-list-in-Some.ensures (λ h. here ForPlace (Stops level.EXPRESSION) (named c.in_ok-dim.ensures.2 ∙ ap (λ r. Name c.in_ok-dim.dim ∷ r) c.in-Some.ensures.2) (for_no_values h)))
 
 pub returns-in_err-settled-in-Some : goal.returns-in_err-settled-in-Some
 returns-in_err-settled-in-Some c =
     let p = err_from_is_err_and c.from_residual-in_err-settled-in-Some.result c.from_residual-in_err-settled-in-Some.ensures.1 in
-    rw (p.1, p.2) (exit c.in_err-settled-in-Some.field-0.0 c.in_err-settled-in-Some.ensures (λ h. here ForPlace (Stops 7) (named c.in_ok-dim.ensures.2 ∙ ap (λ r. Name c.in_ok-dim.dim ∷ r) c.in-Some.ensures.2) (for_no_end (from c.args.t.now c.in_ok-list-in-Some.to) c.in_ok-list-in-Some.ensures.2 h)))
+    rw (p.1, p.2) (exit c.in_err-settled-in-Some.field-0.0 c.in_err-settled-in-Some.ensures (λ h. here ForPlace (Stops level.EXPRESSION) (named c.in_ok-dim.ensures.2 ∙ ap (λ r. Name c.in_ok-dim.dim ∷ r) c.in-Some.ensures.2) (for_no_end (from c.args.t.now c.in_ok-list-in-Some.to) c.in_ok-list-in-Some.ensures.2 h)))
 
 pub returns-in_ok-settled-in-Some : goal.returns-in_ok-settled-in-Some
 returns-in_ok-settled-in-Some c =
@@ -34,7 +35,7 @@ returns-in_ok-settled-in-Some c =
 pub returns-in_err-range-in-None : goal.returns-in_err-range-in-None
 returns-in_err-range-in-None c =
     let p = err_from_is_err_and c.from_residual-in_err-range-in-None.result c.from_residual-in_err-range-in-None.ensures.1 in
-    rw (p.1, p.2) (exit c.in_err-range-in-None.field-0.0 c.in_err-range-in-None.ensures (λ h. here ForPlace (Stops 7) (named c.in_ok-dim.ensures.2) (for_no_range c.in-None.ensures h)))
+    rw (p.1, p.2) (exit c.in_err-range-in-None.field-0.0 c.in_err-range-in-None.ensures (λ h. here ForPlace (Stops level.EXPRESSION) (named c.in_ok-dim.ensures.2) (for_no_range c.in-None.ensures h)))
 
 pub returns-in_ok-range-in-None : goal.returns-in_ok-range-in-None
 returns-in_ok-range-in-None c =

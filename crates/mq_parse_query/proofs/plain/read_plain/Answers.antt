@@ -1,5 +1,6 @@
 use Rattle.std.proofs.Common.{arith}
 use Rattle.std.proofs.lemmas.Result.{err_from_is_err_and}
+use Rattle.mq_ast.specs.declared.levels.TheConstants as level
 use Rattle.mq_ast.specs.Continuing.{Stops}
 use Rattle.mq_ast.specs.GrammarQuery.{PlainE}
 use Rattle.mq_parse_expr.proofs.Steps.{exit, here, there, as_value}
@@ -14,12 +15,12 @@ returns-in_err-select c =
 pub returns-in_err-shown : goal.returns-in_err-shown
 returns-in_err-shown c =
     let p = err_from_is_err_and c.from_residual-in_err-shown.result c.from_residual-in_err-shown.ensures.1 in
-    rw (p.1, p.2) (exit c.in_err-shown.field-0.0 c.in_err-shown.ensures (λ h. here PlainE (Stops 11) c.in_ok-select.ensures.2 (plain_no_shown h)))
+    rw (p.1, p.2) (exit c.in_err-shown.field-0.0 c.in_err-shown.ensures (λ h. here PlainE (Stops level.PLAIN) c.in_ok-select.ensures.2 (plain_no_shown h)))
 
 pub returns-in_err-source : goal.returns-in_err-source
 returns-in_err-source c =
     let p = err_from_is_err_and c.from_residual-in_err-source.result c.from_residual-in_err-source.ensures.1 in
-    rw (p.1, p.2) (exit c.in_err-source.field-0.0 c.in_err-source.ensures (λ h. here PlainE (Stops 11) c.in_ok-select.ensures.2 (plain_no_source c.in_ok-shown.ensures.2 h)))
+    rw (p.1, p.2) (exit c.in_err-source.field-0.0 c.in_err-source.ensures (λ h. here PlainE (Stops level.PLAIN) c.in_ok-select.ensures.2 (plain_no_source c.in_ok-shown.ensures.2 h)))
 
 pub returns : goal.returns
 returns c =

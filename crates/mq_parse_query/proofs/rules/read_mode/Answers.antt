@@ -2,6 +2,7 @@ use Rattle.std.proofs.Common.{◌∷◌, arith}
 use Rattle.std.proofs.lemmas.Result.{err_from_is_err_and}
 use Rattle.mq_lexer.specs.declared.keywords.Keyword.TheVariants as word
 use Rattle.mq_ast.specs.Tokens.{Word}
+use Rattle.mq_ast.specs.declared.clauses.TheConstants as clause
 use Rattle.mq_ast.specs.Continuing.{Past}
 use Rattle.mq_parse_expr.proofs.Steps.{exit, here, there, fronted}
 use Rattle.mq_parse_query.proofs.RuleLemmas.{mode_no_update, mode_no_word}
@@ -11,13 +12,13 @@ use Rattle.mq_parse_query.proofs.rules.read_mode.Goals as goal
 pub returns-in_err-past : goal.returns-in_err-past
 returns-in_err-past c =
     let p = err_from_is_err_and c.from_residual.result c.from_residual.ensures.1 in
-    rw (p.1, p.2) (exit c.in_err-past.field-0.0 c.in_err-past.ensures (λ h. here MaybeMode (Past 6) c.in-Some.ensures.2 (mode_no_update h)))
+    rw (p.1, p.2) (exit c.in_err-past.field-0.0 c.in_err-past.ensures (λ h. here MaybeMode (Past clause.MODE) c.in-Some.ensures.2 (mode_no_update h)))
 
 pub returns-in-Some : goal.returns-in-Some
 returns-in-Some c = let s = c.in-Some.ensures in (omega (arith, s.0), s.1, there MaybeMode s.2 (mode_some mode_update), c.in_ok-past.ensures)
 
 pub returns-in-Some-behind_word : goal.returns-in-Some-behind_word
-returns-in-Some-behind_word c = let s = c.in-Some-behind_word.ensures in fronted MaybeMode (Past 6) (λ us. Word word.Upsert ∷ us) c.args.t.now c.args.at c.in-Some-behind_word.behind c.read_upsert.result (omega (arith, s.0)) s.2 c.read_upsert.ensures
+returns-in-Some-behind_word c = let s = c.in-Some-behind_word.ensures in fronted MaybeMode (Past clause.MODE) (λ us. Word word.Upsert ∷ us) c.args.t.now c.args.at c.in-Some-behind_word.behind c.read_upsert.result (omega (arith, s.0)) s.2 c.read_upsert.ensures
 
 pub returns-in_err-past-in-None : goal.returns-in_err-past-in-None
 returns-in_err-past-in-None c =

@@ -1,5 +1,6 @@
 use Rattle.std.proofs.Common.{arith}
 use Rattle.std.proofs.lemmas.Result.{err_from_is_err_and}
+use Rattle.mq_ast.specs.declared.clauses.TheConstants as clause
 use Rattle.mq_ast.specs.Continuing.{Past}
 use Rattle.mq_parse_expr.proofs.Steps.{exit, here, there}
 use Rattle.mq_parse_query.proofs.RuleLemmas.{upsert_no_all, upsert_no_end}
@@ -10,7 +11,7 @@ use Rattle.mq_parse_query.proofs.rules.read_upsert.Goals as goal
 pub returns-in_err-past-in-Some : goal.returns-in_err-past-in-Some
 returns-in_err-past-in-Some c =
     let p = err_from_is_err_and c.from_residual.result c.from_residual.ensures.1 in
-    rw (p.1, p.2) (exit c.in_err-past-in-Some.field-0.0 c.in_err-past-in-Some.ensures (λ h. here Upserts (Past 6) c.in-Some.ensures.2 (upsert_no_all h)))
+    rw (p.1, p.2) (exit c.in_err-past-in-Some.field-0.0 c.in_err-past-in-Some.ensures (λ h. here Upserts (Past clause.MODE) c.in-Some.ensures.2 (upsert_no_all h)))
 
 pub returns-in_ok-past-in-Some : goal.returns-in_ok-past-in-Some
 returns-in_ok-past-in-Some c = let s = c.in-Some.ensures in (omega (arith, s.0), s.1, there Upserts s.2 (mode_some mode_upsert_all), c.in_ok-past-in-Some.ensures)

@@ -1,6 +1,7 @@
 use Rattle.std.proofs.Common.{◌∷◌, ap, ◌∙◌, arith}
 use Rattle.std.proofs.lemmas.Result.{err_from_is_err_and}
 use Rattle.mq_ast.specs.Tokens.{Name}
+use Rattle.mq_ast.specs.declared.levels.TheConstants as level
 use Rattle.mq_ast.specs.Continuing.{Stops}
 use Rattle.mq_ast.specs.GrammarStatement.{SetE, set}
 use Rattle.mq_parse_expr.proofs.Steps.{exit, here, there}
@@ -16,12 +17,12 @@ returns-in_err-name c =
 pub returns-in_err-value : goal.returns-in_err-value
 returns-in_err-value c =
     let p = err_from_is_err_and c.from_residual-in_err-value.result c.from_residual-in_err-value.ensures.1 in
-    rw (p.1, p.2) (exit c.in_err-value.field-0.0 c.in_err-value.ensures (λ h. here SetE (Stops 7) (named c.in_ok-name.ensures.2) (set_no_equal h)))
+    rw (p.1, p.2) (exit c.in_err-value.field-0.0 c.in_err-value.ensures (λ h. here SetE (Stops level.EXPRESSION) (named c.in_ok-name.ensures.2) (set_no_equal h)))
 
 pub returns-in_err-e : goal.returns-in_err-e
 returns-in_err-e c =
     let p = err_from_is_err_and c.from_residual-in_err-e.result c.from_residual-in_err-e.ensures.1 in
-    rw (p.1, p.2) (exit c.in_err-e.field-0.0 c.in_err-e.ensures (λ h. here SetE (Stops 7) (named c.in_ok-name.ensures.2 ∙ ap (λ r. Name c.in_ok-name.name ∷ r) c.in_ok-value.ensures.2) (set_no_value h)))
+    rw (p.1, p.2) (exit c.in_err-e.field-0.0 c.in_err-e.ensures (λ h. here SetE (Stops level.EXPRESSION) (named c.in_ok-name.ensures.2 ∙ ap (λ r. Name c.in_ok-name.name ∷ r) c.in_ok-value.ensures.2) (set_no_value h)))
 
 pub returns : goal.returns
 returns c =

@@ -1,5 +1,6 @@
 use Rattle.std.proofs.Common.{arith}
 use Rattle.std.proofs.lemmas.Result.{err_from_is_err_and}
+use Rattle.mq_ast.specs.declared.levels.TheConstants as level
 use Rattle.mq_ast.specs.Continuing.{Stops}
 use Rattle.mq_ast.specs.GrammarStatement.{ColE, col}
 use Rattle.mq_parse_expr.proofs.Steps.{exit, here, there, as_value}
@@ -15,12 +16,12 @@ returns-in_err-name c =
 pub returns-in_err-kind : goal.returns-in_err-kind
 returns-in_err-kind c =
     let p = err_from_is_err_and c.from_residual-in_err-kind.result c.from_residual-in_err-kind.ensures.1 in
-    rw (p.1, p.2) (exit c.in_err-kind.field-0.0 c.in_err-kind.ensures (λ h. here ColE (Stops 7) (named c.in_ok-name.ensures.2) (col_no_kind h)))
+    rw (p.1, p.2) (exit c.in_err-kind.field-0.0 c.in_err-kind.ensures (λ h. here ColE (Stops level.EXPRESSION) (named c.in_ok-name.ensures.2) (col_no_kind h)))
 
 pub returns-in_err-not_null : goal.returns-in_err-not_null
 returns-in_err-not_null c =
     let p = err_from_is_err_and c.from_residual-in_err-not_null.result c.from_residual-in_err-not_null.ensures.1 in
-    rw (p.1, p.2) (exit c.in_err-not_null.field-0.0 c.in_err-not_null.ensures (λ h. here ColE (Stops 7) (named c.in_ok-name.ensures.2) (col_no_null c.in_ok-kind.ensures.2 h)))
+    rw (p.1, p.2) (exit c.in_err-not_null.field-0.0 c.in_err-not_null.ensures (λ h. here ColE (Stops level.EXPRESSION) (named c.in_ok-name.ensures.2) (col_no_null c.in_ok-kind.ensures.2 h)))
 
 pub returns : goal.returns
 returns c =

@@ -1,4 +1,5 @@
 use Rattle.std.proofs.Common.{◌-◌, length}
+use Rattle.mq_ast.specs.declared.levels.TheConstants as level
 use Rattle.mq_ast.specs.Continuing.{Stops, EndsCols}
 use Rattle.mq_ast.specs.GrammarLists.{MoreOf}
 use Rattle.mq_ast.specs.GrammarStatement.{ColE}
@@ -6,7 +7,7 @@ use Rattle.mq_parse_expr.proofs.Steps.{SoFar}
 use Rattle.mq_parse_stmt.proofs.create.read_more_cols.Given as goal
 
 abbrev pub invariant-loop-behind : goal.invariant-loop-behind
-invariant-loop-behind l = SoFar (MoreOf ColE) (Stops 7) EndsCols l.t l.fn.at l.to l.found
+invariant-loop-behind l = SoFar (MoreOf ColE) (Stops level.EXPRESSION) EndsCols l.t l.fn.at l.to l.found
 
 abbrev pub decreases-loop-behind : goal.decreases-loop-behind
 decreases-loop-behind l = length l.t - l.to

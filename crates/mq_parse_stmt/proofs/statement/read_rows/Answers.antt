@@ -1,5 +1,6 @@
 use Rattle.std.proofs.Common.{refl, sym}
 use Rattle.std.proofs.lemmas.Result.{err_from_is_err_and}
+use Rattle.mq_ast.specs.declared.levels.TheConstants as level
 use Rattle.mq_ast.specs.Continuing.{Stops}
 use Rattle.mq_ast.specs.GrammarModel.{QueryE}
 use Rattle.mq_ast.specs.GrammarStatement.{stmt_query}
@@ -10,7 +11,7 @@ use Rattle.mq_parse_stmt.proofs.statement.read_rows.Goals as goal
 pub returns-in_err-query : goal.returns-in_err-query
 returns-in_err-query c =
     let p = err_from_is_err_and c.from_residual.result c.from_residual.ensures.1 in
-    rw (p.1, p.2) (exit c.in_err-query.field-0.0 c.in_err-query.ensures (λ h. none_at c.requires (query_no_query (here QueryE (Stops 12) (sym c.requires) h))))
+    rw (p.1, p.2) (exit c.in_err-query.field-0.0 c.in_err-query.ensures (λ h. none_at c.requires (query_no_query (here QueryE (Stops level.QUERY) (sym c.requires) h))))
 
 pub returns-in_err-ended : goal.returns-in_err-ended
 returns-in_err-ended c =

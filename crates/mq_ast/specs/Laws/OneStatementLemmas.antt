@@ -6,26 +6,27 @@ use Rattle.mq_ast.specs.declared.statements.ColDef.{ColDef}
 use Rattle.mq_ast.specs.declared.statements.Stmt.{Stmt}
 use Rattle.mq_lexer.specs.declared.keywords.Keyword.TheVariants as word
 use Rattle.mq_ast.specs.Tokens.{Tok, Word, closer, comma}
+use Rattle.mq_ast.specs.declared.levels.TheConstants as level
 use Rattle.mq_ast.specs.Continuing.{Stops, EndsCols}
 use Rattle.mq_ast.specs.OneTree.{OneTree}
 use Rattle.mq_ast.specs.GrammarLists.{SomeOf}
 use Rattle.mq_ast.specs.GrammarExpression.{Tuple}
 use Rattle.mq_ast.specs.GrammarQuery.{WhereE, where_none, where_some}
 use Rattle.mq_ast.specs.GrammarStatement.{NotNullE, null_may, null_not, ColE, col, NamesE, names, PrimaryE, primary_none, primary_some, MaybeNames, names_none, names_some, SetE, set, StmtE, stmt_create_table, stmt_drop_table, stmt_create_view, stmt_drop_view, stmt_insert, stmt_update, stmt_delete, stmt_load, stmt_show, stmt_query}
-use Rattle.mq_ast.proofs.Common.{Same, begin, cut}
-use Rattle.mq_ast.proofs.OneExpression.{expr_same, kind_same}
-use Rattle.mq_ast.proofs.OneList.{some_same, names_same}
-use Rattle.mq_ast.proofs.OneQuery.{where_same}
-use Rattle.mq_ast.proofs.OneRule.{tuples_same, EndsExprs}
-use Rattle.mq_ast.proofs.OneModel.{query_same}
+use Rattle.mq_ast.specs.Laws.CommonLemmas.{Same, begin, cut}
+use Rattle.mq_ast.specs.Laws.OneExpressionLemmas.{expr_same, kind_same}
+use Rattle.mq_ast.specs.Laws.OneListLemmas.{some_same, names_same}
+use Rattle.mq_ast.specs.Laws.OneQueryLemmas.{where_same}
+use Rattle.mq_ast.specs.Laws.OneRuleLemmas.{tuples_same, EndsExprs}
+use Rattle.mq_ast.specs.Laws.OneModelLemmas.{query_same}
 
-pub null_same : {b b' : Bool} {from to to' : List Tok} → NotNullE b from to → NotNullE b' from to' → Stops 7 to → Stops 7 to' → Same b b' to to'
+pub null_same : {b b' : Bool} {from to to' : List Tok} → NotNullE b from to → NotNullE b' from to' → Stops level.EXPRESSION to → Stops level.EXPRESSION to' → Same b b' to to'
 null_same null_may null_may s s' = (refl, refl)
 null_same null_may null_not s s' = absurd (omega arith)
 null_same null_not null_may s s' = absurd (omega arith)
 null_same null_not null_not s s' = (refl, refl)
 
-pub col_same : OneTree ColE (Stops 7)
+pub col_same : OneTree ColE (Stops level.EXPRESSION)
 col_same _ _ _ _ _ (col k n) (col k' n') s s' =
     let p = kind_same k k' in
     let q = null_same n (begin NotNullE p.1 n') s s' in
@@ -35,7 +36,7 @@ pub col_no_primary : (c : ColDef) (from to : List Tok) → EndsCols (comma ∷ f
 col_no_primary _ _ _ s (col k n) = let e = s.1 refl in cc
 
 pub cols_of_same : {cs cs' : List ColDef} {from to to' : List Tok} → SomeOf ColE cs from to → SomeOf ColE cs' from to' → EndsCols to → EndsCols to' → Same cs cs' to to'
-cols_of_same = some_same ColDef ColE (Stops 7) EndsCols col_same (λ ts s. s.0) (λ ts. omega arith) col_no_primary
+cols_of_same = some_same ColDef ColE (Stops level.EXPRESSION) EndsCols col_same (λ ts s. s.0) (λ ts. omega arith) col_no_primary
 
 pub names_of_same : {ns ns' : List (List ℕ)} {from to to' : List Tok} → NamesE ns from to → NamesE ns' from to' → Same ns ns' to to'
 names_of_same (names d) (names d') = let p = names_same d d' (λ e. cc) (λ e. cc) in (p.0, cut p.1)
@@ -54,11 +55,11 @@ maybe_names_same names_none (names_some d') = elim d' [ ]
 maybe_names_same (names_some d) names_none = elim d [ ]
 maybe_names_same (names_some d) (names_some d') = let p = names_of_same d d' in (cc, cut p.1)
 
-pub set_same : OneTree SetE (Stops 7)
+pub set_same : OneTree SetE (Stops level.EXPRESSION)
 set_same _ _ _ _ _ (set d) (set d') s s' = let p = expr_same d d' s s' in (cc, p.1)
 
 pub sets_same : {xs xs' : List (List ℕ × E)} {from to to' : List Tok} → SomeOf SetE xs from to → SomeOf SetE xs' from to' → EndsExprs to → EndsExprs to' → Same xs xs' to to'
-sets_same = some_same (List ℕ × E) SetE (Stops 7) EndsExprs set_same (λ ts s. s.0) (λ ts. omega arith) (λ a ts mid s d. s.1 refl)
+sets_same = some_same (List ℕ × E) SetE (Stops level.EXPRESSION) EndsExprs set_same (λ ts s. s.0) (λ ts. omega arith) (λ a ts mid s d. s.1 refl)
 
 pub where_ends : {o : Option E} {from : List Tok} → WhereE o from [] → EndsExprs from
 where_ends where_none = (omega arith, λ e. cc)

@@ -7,7 +7,7 @@ use Rattle.mq_ast.specs.Tokens.{Tok, comma}
 use Rattle.mq_ast.specs.Continuing.{loose, Stops, Not}
 use Rattle.mq_ast.specs.OneTree.{OneTree}
 use Rattle.mq_ast.specs.GrammarLists.{MoreOf, more_end, more_comma, SomeOf, some_of, ManyOf, many_end, many_more, NameE, name}
-use Rattle.mq_ast.proofs.Common.{Same, begin}
+use Rattle.mq_ast.specs.Laws.CommonLemmas.{Same, begin}
 
 -- Members end at a `Stop`, as before a comma. The list ends at an `End`, where no member stands behind a comma.
 module _ (A : Type 0) (R : A → List Tok → List Tok → Type 0) (Stop End : List Tok → Type 0) (same : OneTree R Stop) (weaker : (ts : List Tok) → End ts → Stop ts) (go_on : (ts : List Tok) → Stop (comma ∷ ts)) (no_more : (a : A) (ts mid : List Tok) → End (comma ∷ ts) → R a ts mid → ⊥) where
