@@ -14,9 +14,10 @@ use Rattle.mq_lexer.specs.Fronts.{Text}
 use Rattle.mq_lexer.specs.Pieces.{front, line_comment, comment_end, comment_of, block_comment, is_blank, is_word_byte}
 use Rattle.mq_lexer.specs.Tokens.{line_after, Piece, piece, pieces_from, pieces, token_at, token_of, tokens, is_readable}
 use Rattle.mq_lexer.specs.Spelling.{signs, Spells, IsSpelled, begins_gap, IsTokenOf}
+use Rattle.mq_lexer.specs.SignLemmas.{listed}
 use Rattle.mq_lexer.specs.Statements.{is_semicolon, put_first, parts, statement_of, statements}
 use Rattle.mq_lexer.proofs.CutLemmas.{front-cut}
-use Rattle.mq_lexer.proofs.SpellingLemmas.{front-reads, listed}
+use Rattle.mq_lexer.proofs.SpellingLemmas.{front-reads}
 
 abbrev text_of : Piece → Text
 text_of p = p.text
