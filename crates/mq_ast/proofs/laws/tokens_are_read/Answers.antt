@@ -1,7 +1,7 @@
-use Rattle.std.proofs.Common.{◌≡◌, ℕ, zero, suc, ◌+◌, ◌<◌, Bool, true, false, ◌&&◌, cond, eqb, List, [], ◌∷◌, ◌++◌, length, get_or, refl, ap, sym, subst, ◌∙◌, inl, inr, arith, true≢false}
+use Rattle.std.proofs.Common.{◌≡◌, ℕ, ◌<◌, Bool, true, false, ◌&&◌, cond, eqb, List, [], ◌∷◌, ◌++◌, length, get_or, refl, ap, sym, ◌∙◌, inl, inr, arith}
 use Rattle.std.proofs.lemmas.Bool.Decides.{nat_tests, Decides-eqb}
 use Rattle.std.proofs.lemmas.List.{append-nil}
-use Rattle.std.specs.Prelude.{All, Option, Some, None, nat_le, is_some, pos}
+use Rattle.std.specs.Prelude.{Option, Some, None, nat_le, is_some, pos}
 use Rattle.std.specs.Char.{is_ascii_digit}
 use Rattle.std.specs.List.{fold, list_all, list_any}
 use Rattle.std.specs.Option.{option_map}
@@ -14,10 +14,10 @@ use Rattle.mq_lexer.specs.declared.sorts.Sort.TheVariants as sort
 use Rattle.mq_lexer.specs.Lexemes.{Lexeme}
 use Rattle.mq_lexer.specs.Numbers.{number_of, places, with_digit, is_small}
 use Rattle.mq_lexer.specs.SignLemmas.{listed}
-use Rattle.mq_lexer.specs.Spelling.{IsSpelled, SpellsFraction, SpellsText, SpellsWhole, doubled, signs}
+use Rattle.mq_lexer.specs.Spelling.{IsSpelled, SpellsText, SpellsWhole, doubled, signs}
 use Rattle.mq_lexer.specs.Tokens.{tokens}
 use Rattle.mq_ast.specs.Spelling.{Reads, ReadsNumber, ReadsSign, ReadsText, content_tok, number_tok, sign_tok, symbol_of, symbols, text_tok, tok, unquoted, word_tok}
-use Rattle.mq_ast.specs.Tokens.{Tok, Word, Aggregate, Sign, Name, Num, Text, Bad}
+use Rattle.mq_ast.specs.Tokens.{Tok, Num, Text, Bad}
 use Rattle.mq_ast.proofs.laws.tokens_are_read.Goals as goal
 
 -- ---- numbers
