@@ -1,5 +1,7 @@
 -- How a token of the lexer becomes a token of the grammar.
-use Rattle.std.specs.Prelude.{ℕ, Bool, true, false, if◌then◌else◌, ◌==◌, List, [], ◌∷◌, map, codes, Option, Some, None}
+use Rattle.std.specs.Prelude.{◌≡◌, ℕ, Bool, true, false, if◌then◌else◌, ◌==◌, List, [], ◌∷◌, ◌++◌, length, map, codes, Option, Some, None, pos}
+use Rattle.std.specs.Char.{is_ascii_digit}
+use Rattle.std.specs.List.{fold, list_all}
 use Rattle.std.specs.Option.{option_map}
 use Rattle.mq_values.specs.declared.operators.CmpOp.TheVariants as cmp
 use Rattle.mq_values.specs.declared.operators.SumOp.TheVariants as sum
@@ -12,7 +14,8 @@ use Rattle.mq_lexer.specs.declared.sorts.Token.{Token}
 use Rattle.mq_lexer.specs.declared.keywords.Reserved.{Reserved}
 use Rattle.mq_lexer.specs.declared.keywords.Reserved.TheVariants as reserved
 use Rattle.mq_lexer.specs.Words.{spelled, reserved_of}
-use Rattle.mq_lexer.specs.Numbers.{number_of}
+use Rattle.mq_lexer.specs.Numbers.{number_of, with_digit}
+use Rattle.mq_lexer.specs.Spelling.{doubled}
 use Rattle.mq_ast.specs.declared.terminals.Symbol.{Symbol}
 use Rattle.mq_ast.specs.declared.terminals.Symbol.TheVariants as sign
 use Rattle.mq_ast.specs.Tokens.{Tok, Word, Aggregate, Sign, Name, Num, Text, Bad}
@@ -77,3 +80,37 @@ tok_of t = tok t.sort t.text.now
 -- a list of tokens without where they lie
 abbrev pub toks : List Token → List Tok
 toks ts = map tok_of ts
+
+-- ---- what the tokens of a text are
+
+abbrev pub with_point : List ℕ → List ℕ
+with_point [] = []
+with_point (b ∷ fraction) = codes "." ++ b ∷ fraction
+
+-- digits, or digits, a point and digits: all digits together are the mantissa, and the scale counts those behind the point
+pub record ReadsNumber (z : List ℕ) (t : Tok) : Type 0 where
+  pub whole : List ℕ
+  pub fraction : List ℕ
+  pub spelled : z ≡ whole ++ with_point fraction
+  pub digits : list_all is_ascii_digit (whole ++ fraction) ≡ true
+  pub is : t ≡ Num (record { mant = pos (fold with_digit 0 (whole ++ fraction)); scale = length fraction })
+
+-- the content, from between the quotes
+pub record ReadsText (z : List ℕ) (t : Tok) : Type 0 where
+  pub content : List ℕ
+  pub spelled : z ≡ codes "'" ++ (doubled content ++ codes "'")
+  pub is : t ≡ Text content
+
+-- a sign of the table
+pub record ReadsSign (z : List ℕ) (t : Tok) : Type 0 where
+  pub symbol : Symbol
+  pub spelled : symbol_of z ≡ Some symbol
+  pub is : t ≡ Sign symbol
+
+-- what a token of this sort and spelling is for the grammar
+abbrev pub Reads : Sort → List ℕ → Tok → Type 0
+Reads sort.Word z t = t ≡ word_tok z (reserved_of z)
+Reads sort.Number z t = ReadsNumber z t
+Reads sort.Text z t = ReadsText z t
+Reads sort.Sign z t = ReadsSign z t
+Reads sort.Bad z t = t ≡ Bad

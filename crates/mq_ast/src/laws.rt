@@ -1,10 +1,14 @@
 //! The grammar reads tokens in one way only: laws on functions that do nothing. Two trees of one level that read the
 //! tokens from one place, each up to a place where no token stands that goes on at that level, are equal and end at
-//! the same place (docs/MEANING.md, "The grammar of the whole language").
+//! the same place (docs/MEANING.md, "The grammar of the whole language"). And each token of a text is read as what it spells.
 
-ghost use Rattle.std.specs.Prelude.{◌≡◌, List};
+ghost use Rattle.std.specs.Prelude.{◌≡◌, List, All};
+ghost use Rattle.mq_lexer.specs.declared.sorts.Sort.TheVariants as sort;
+ghost use Rattle.mq_lexer.specs.Lexemes.{Lexeme};
+ghost use Rattle.mq_lexer.specs.Tokens as lexer;
+ghost use Rattle.mq_ast.specs.Spelling.{Reads, tok};
 ghost use Rattle.mq_ast.specs.declared.statements.Stmt.{Stmt};
-ghost use Rattle.mq_ast.specs.Tokens.{Tok};
+ghost use Rattle.mq_ast.specs.Tokens.{Tok, Bad};
 ghost use Rattle.mq_ast.specs.declared.levels.TheConstants as level;
 ghost use Rattle.mq_ast.specs.Continuing.{Stops};
 ghost use Rattle.mq_ast.specs.OneTree.{OneTree};
@@ -12,6 +16,8 @@ ghost use Rattle.mq_ast.specs.GrammarExpression.{Expr, AndE, NotE, TestE, SumE, 
 ghost use Rattle.mq_ast.specs.GrammarQuery.{PlainE};
 ghost use Rattle.mq_ast.specs.GrammarModel.{QueryE};
 ghost use Rattle.mq_ast.specs.GrammarStatement.{StmtE};
+
+use mq_lexer::tokens_are_spelled;
 
 /// An expression without an operator, alone or with a sign.
 pub fn one_primary()
@@ -59,3 +65,13 @@ pub fn one_query()
 pub fn one_statement()
     ensures { (a b : Stmt) (tokens : List Tok) → StmtE a tokens → StmtE b tokens → a ≡ b }
 {}
+
+/// Each token of a text is for the grammar what it spells: a word is reserved or a name, a number has the digits as
+/// its mantissa, a text has what stands between its quotes, and a sign is in the table of signs. So a token is Bad for
+/// the grammar only where it is a Bad token of the text (docs/MEANING.md, "The grammar of the whole language").
+pub fn tokens_are_read()
+    ensures read { (z : lexer.Text) → All (λ (t : Lexeme). Reads t.sort t.text (tok t.sort t.text)) (lexer.tokens z) }
+    ensures bad { (z : lexer.Text) → All (λ (t : Lexeme). tok t.sort t.text ≡ Bad → t.sort ≡ sort.Bad) (lexer.tokens z) }
+{
+    tokens_are_spelled()
+}

@@ -16,7 +16,7 @@ mod terminals;
 pub use expressions::{Arm, E, Path, Place, ProdTerm, SumTerm};
 pub use laws::{
     one_conjunction, one_expression, one_plain, one_primary, one_product, one_query, one_statement,
-    one_sum, one_test,
+    one_sum, one_test, tokens_are_read,
 };
 pub use mq_lexer::Keyword;
 pub use queries::{

@@ -13,10 +13,11 @@ use Rattle.mq_lexer.specs.Lexemes.{Lexeme}
 use Rattle.mq_lexer.specs.Fronts.{Text}
 use Rattle.mq_lexer.specs.Pieces.{front, line_comment, comment_end, comment_of, block_comment, is_blank, is_word_byte}
 use Rattle.mq_lexer.specs.Tokens.{line_after, Piece, piece, pieces_from, pieces, token_at, token_of, tokens, is_readable}
-use Rattle.mq_lexer.specs.Spelling.{signs, Spells, begins_gap, IsTokenOf}
+use Rattle.mq_lexer.specs.Spelling.{signs, Spells, IsSpelled, begins_gap, IsTokenOf}
+use Rattle.mq_lexer.specs.SignLemmas.{listed}
 use Rattle.mq_lexer.specs.Statements.{is_semicolon, put_first, parts, statement_of, statements}
 use Rattle.mq_lexer.proofs.CutLemmas.{front-cut}
-use Rattle.mq_lexer.proofs.SpellingLemmas.{front-reads, listed}
+use Rattle.mq_lexer.proofs.SpellingLemmas.{front-reads}
 
 abbrev text_of : Piece → Text
 text_of p = p.text
@@ -110,14 +111,10 @@ spells-blank sort.Text t fits s readable = absurd (cc)
 spells-blank sort.Sign t fits s readable = sign-blank t (listed no_blank_sign t signs s.0 signs-blank)
 spells-blank sort.Bad t fits s readable = absurd s
 
-readable_sort : (fits : Bool) (k : Sort) → is_readable (cond fits k sort.Bad) ≡ true → is_readable k ≡ true
-readable_sort true k e = e
-readable_sort false k e = absurd (cc)
-
--- a blank or a comment is no token that can be read
+-- a blank or a comment is no token, or a Bad one
 Dull : Option Sort → Type 0
 Dull None = Unit {0}
-Dull (Some s) = is_readable s ≡ false
+Dull (Some s) = s ≡ sort.Bad
 
 dull-if : (q : Bool) (x y : Front) → (q ≡ true → Dull x.sort) → (q ≡ false → Dull y.sort) → Dull (cond q x y).sort
 dull-if true x y h k = h refl
@@ -153,51 +150,60 @@ gap-dull z gap =
     (λ line. dull-if (eqb b 47 && eqb next 42) _ _ (λ _. dull-comment z (comment_end (drop 2 z)))
     (λ block. absurd (gap-other b next blank line block gap)))))))
 
--- what can be read holds no blank
-Clear : Option Sort → Text → Type 0
-Clear None t = Unit {0}
-Clear (Some s) t = is_readable s ≡ true → list_any is_blank t ≡ false
+-- ---- spelling
 
-dull-clear : (o : Option Sort) (t : Text) → Dull o → Clear o t
-unfolding Dull Clear
-dull-clear None t dull = tt
-dull-clear (Some s) t dull = λ readable. absurd (cc)
+-- a token has the spelling of its sort
+Spelled : Option Sort → Text → Type 0
+Spelled None t = Unit {0}
+Spelled (Some s) t = IsSpelled s t
 
-reads-clear : (z : Text) → IsTokenOf z (front z) → Clear (front z).sort (take (front z).len z)
-unfolding Clear
-reads-clear z (s, is, inl l) =
-    subst (λ f. Clear f.sort (take (front z).len z)) (sym is)
-    (λ readable. spells-blank l.spelled (take (front z).len z) l.fits l.spells (readable_sort l.fits l.spelled (ap is_readable (sym l.sort) ∙ readable)))
-reads-clear z (s, is, inr u) = subst (λ f. Clear f.sort (take (front z).len z)) (sym is) (λ readable. absurd (unreadable s u.sort readable))
-  where
-    unreadable : (s : Sort) → s ≡ sort.Bad → is_readable s ≡ true → ⊥
-    unreadable s e readable = true≢false (sym readable ∙ ap is_readable e)
+dull-spelled : (o : Option Sort) (t : Text) → Dull o → Spelled o t
+unfolding Dull Spelled
+dull-spelled None t dull = tt
+dull-spelled (Some s) t dull = inl dull
 
-front-clear : (z : Text) → 0 < length z → Clear (front z).sort (take (front z).len z)
-front-clear z some =
-    elim (begins_gap z) as (λ q. (begins_gap z ≡ q) → Clear (front z).sort (take (front z).len z)) [
-      | true ↦ λ e. dull-clear (front z).sort (take (front z).len z) (gap-dull z e)
-      | false ↦ λ e. reads-clear z (front-reads z some e)
+fitting : (s k : Sort) (fits : Bool) (t : Text) → s ≡ cond fits k sort.Bad → Spells k t fits → IsSpelled s t
+fitting s k true t is spells = inr (subst (λ s. Spells s t true) (sym is) spells)
+fitting s k false t is spells = inl is
+
+reads-spelled : (z : Text) → IsTokenOf z (front z) → Spelled (front z).sort (take (front z).len z)
+unfolding Spelled
+reads-spelled z (s, is, inl l) = subst (λ f. Spelled f.sort (take (front z).len z)) (sym is) (fitting s l.spelled l.fits (take (front z).len z) l.sort l.spells)
+reads-spelled z (s, is, inr u) = subst (λ f. Spelled f.sort (take (front z).len z)) (sym is) (inl u.sort)
+
+front-spelled : (z : Text) → 0 < length z → Spelled (front z).sort (take (front z).len z)
+front-spelled z some =
+    elim (begins_gap z) as (λ q. (begins_gap z ≡ q) → Spelled (front z).sort (take (front z).len z)) [
+      | true ↦ λ e. dull-spelled (front z).sort (take (front z).len z) (gap-dull z e)
+      | false ↦ λ e. reads-spelled z (front-reads z some e)
     ] refl
 
-abbrev IsClear : Lexeme → Type 0
-IsClear t = is_readable t.sort ≡ true → list_any is_blank t.text ≡ false
+abbrev HasSpelling : Lexeme → Type 0
+HasSpelling t = IsSpelled t.sort t.text
 
-with_token : (o : Option Sort) (t : Text) (line : ℕ) (ts : List Lexeme) → Clear o t → All IsClear ts → All IsClear (cons_option (token_at o t line) ts)
-unfolding Clear
-with_token None t line ts clear all = all
-with_token (Some s) t line ts clear all = All-cons IsClear (record { sort = s; text = t; line = line }) ts clear all
+with_token : (o : Option Sort) (t : Text) (line : ℕ) (ts : List Lexeme) → Spelled o t → All HasSpelling ts → All HasSpelling (cons_option (token_at o t line) ts)
+unfolding Spelled
+with_token None t line ts spelled all = all
+with_token (Some s) t line ts spelled all = All-cons HasSpelling (record { sort = s; text = t; line = line }) ts spelled all
 
-clear : (skip line : ℕ) (z : Text) → All IsClear (filter_map token_of (pieces_from skip line z))
-clear skip line [] = λ k d below. absurd (omega arith)
-clear (suc skip) line (b ∷ z) = clear skip (line_after line b) z
-clear zero line (b ∷ z) =
+spelled : (skip line : ℕ) (z : Text) → All HasSpelling (filter_map token_of (pieces_from skip line z))
+spelled skip line [] = λ k d below. absurd (omega arith)
+spelled (suc skip) line (b ∷ z) = spelled skip (line_after line b) z
+spelled zero line (b ∷ z) =
     let f = front (b ∷ z) in
-    with_token f.sort (take f.len (b ∷ z)) line (filter_map token_of (pieces_from (f.len - 1) (line_after line b) z)) (front-clear (b ∷ z) (omega arith)) (clear (f.len - 1) (line_after line b) z)
+    with_token f.sort (take f.len (b ∷ z)) line (filter_map token_of (pieces_from (f.len - 1) (line_after line b) z)) (front-spelled (b ∷ z) (omega arith)) (spelled (f.len - 1) (line_after line b) z)
+
+pub tokens-spelled : (z : Text) → All (λ (t : Lexeme). IsSpelled t.sort t.text) (tokens z)
+unfolding tokens pieces
+tokens-spelled z = spelled 0 1 z
+
+-- what can be read holds no blank
+spelled-clear : (s : Sort) (t : Text) → IsSpelled s t → is_readable s ≡ true → list_any is_blank t ≡ false
+spelled-clear s t (inl bad) readable = absurd (true≢false (sym readable ∙ ap is_readable bad))
+spelled-clear s t (inr spells) readable = spells-blank s t true spells readable
 
 pub tokens-clear : (z : Text) → All (λ (t : Lexeme). is_readable t.sort ≡ true → list_any is_blank t.text ≡ false) (tokens z)
-unfolding tokens pieces
-tokens-clear z = clear 0 1 z
+tokens-clear z = λ k d below. spelled-clear (get_or (tokens z) k d).sort (get_or (tokens z) k d).text (tokens-spelled z k d below)
 
 -- ---- statements
 

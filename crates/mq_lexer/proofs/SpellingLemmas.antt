@@ -15,6 +15,7 @@ use Rattle.mq_lexer.specs.Fronts.{Text}
 use Rattle.mq_lexer.specs.Numbers.{digits_len, fraction_len, is_small, number}
 use Rattle.mq_lexer.specs.Pieces.{is_word_byte, word_len, word, sign_len, sign_of, sign_or_bad, front, is_blank}
 use Rattle.mq_lexer.specs.Quotes.{closing, content, is_content, is_plain, text_of, quoted}
+use Rattle.mq_lexer.specs.SignLemmas.{listed}
 use Rattle.mq_lexer.specs.Spelling.{SpellsWord, SpellsFraction, doubled, SpellsText, signs, Spells, NoneLonger, IsTokenOf, begins_gap}
 use Rattle.mq_lexer.proofs.QuoteLemmas.{closing_bounds}
 use Rattle.mq_lexer.proofs.CutLemmas.{word-cut, number-cut, sign-within}
@@ -83,22 +84,6 @@ good t = (eqb (length t) 1 && sign_byte (get_or t 0 0)) || (eqb (length t) 2 && 
 all_good : list_all good signs ≡ true
 unfolding good sign_len sign_byte
 all_good = refl
-
-pub listed : (p : Text → Bool) (t : Text) (xs : List Text) → list_any (bytes_eq t) xs ≡ true → list_all p xs ≡ true → p t ≡ true
-listed p t [] any all = absurd (cc)
-listed p t (x ∷ xs) any all =
-    elim (bytes_eq t x) as (λ q. (bytes_eq t x ≡ q) → (q || list_any (bytes_eq t) xs) ≡ true → (p x && list_all p xs) ≡ true → p t ≡ true) [
-      | true ↦ λ e _ all. ap p ((bytes_eq-Decides t x).0 e) ∙ first (p x) (list_all p xs) all
-      | false ↦ λ e any all. listed p t xs any (second (p x) (list_all p xs) all)
-    ] refl any all
-  where
-    first : (q r : Bool) → (q && r) ≡ true → q ≡ true
-    first true r e = refl
-    first false r e = absurd (cc)
-
-    second : (q r : Bool) → (q && r) ≡ true → r ≡ true
-    second true r e = e
-    second false r e = absurd (cc)
 
 sign_byte-len : (b next : ℕ) → sign_byte b ≡ true → 1 ≤ sign_len b next
 unfolding sign_byte sign_len

@@ -5,6 +5,7 @@ pub mod NumberLemmas
 pub mod Numbers
 pub mod Pieces
 pub mod Quotes
+pub mod SignLemmas
 pub mod Spelling
 pub mod Statements
 pub mod Tokens

@@ -57,6 +57,10 @@ Spells sort.Text t fits = SpellsText t fits
 Spells sort.Sign t fits = (list_any (bytes_eq t) signs ≡ true) × (fits ≡ true)
 Spells sort.Bad t fits = ⊥
 
+-- a token of this sort: Bad, or spelled as its sort says, with the limits kept
+abbrev pub IsSpelled : Sort → Text → Type 0
+IsSpelled s t = (s ≡ sort.Bad) ⊎ Spells s t true
+
 -- no front of the text that is longer than n spells a token
 abbrev pub NoneLonger : Text → ℕ → Type 0
 NoneLonger z n = (k : Sort) (m : ℕ) (fits : Bool) → n < m → m ≤ length z → Spells k (take m z) fits → ⊥

@@ -7,7 +7,7 @@ ghost use Rattle.mq_lexer.specs.Fronts.{Text, a_gap};
 ghost use Rattle.mq_lexer.specs.Pieces.{front, is_blank};
 ghost use Rattle.mq_lexer.specs.Tokens.{Piece, pieces, tokens, is_readable};
 ghost use Rattle.mq_lexer.specs.Comments.{IsLineComment, IsBlockComment};
-ghost use Rattle.mq_lexer.specs.Spelling.{IsTokenOf, begins_gap};
+ghost use Rattle.mq_lexer.specs.Spelling.{IsSpelled, IsTokenOf, begins_gap};
 ghost use Rattle.mq_lexer.specs.Statements.{statements, is_semicolon};
 
 /// The tokens of a text, and what separates them, give it back.
@@ -33,6 +33,11 @@ pub fn gaps_are_blanks_and_comments()
     ensures blank { (z : Text) → is_blank (slice_index z 0) ≡ true → front z ≡ a_gap 1 }
     ensures line { (z : Text) → slice_index z 0 ≡ 45 → slice_index z 1 ≡ 45 → IsLineComment z (front z) }
     ensures block { (z : Text) → slice_index z 0 ≡ 47 → slice_index z 1 ≡ 42 → IsBlockComment z (front z) }
+{}
+
+/// Each token that is not Bad has the spelling of its sort, with the limits kept: a word, a number, a text or a sign.
+pub fn tokens_are_spelled()
+    ensures { (z : Text) → All (λ (t : Lexeme). IsSpelled t.sort t.text) (tokens z) }
 {}
 
 /// No word, number or sign holds a blank.

@@ -15,7 +15,8 @@ mod words;
 pub use keywords::{Keyword, RESERVED, Reserved, reserved_word};
 pub use laws::{
     gaps_are_blanks_and_comments, lines_are_counted_by_lf, pieces_give_the_text_back,
-    readable_tokens_hold_no_blank, statements_hold_the_tokens, tokens_are_the_longest,
+    readable_tokens_hold_no_blank, statements_hold_the_tokens, tokens_are_spelled,
+    tokens_are_the_longest,
 };
 pub use numbers::{is_number, read_number};
 pub use scanner::tokens;

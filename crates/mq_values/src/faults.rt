@@ -2,7 +2,7 @@ use crate::value::Key;
 use crate::words::Words;
 use thiserror::Error;
 
-/// Why a value cannot be worked out (docs/LANGUAGE.md, "Values").
+/// Why a value cannot be worked out (docs/LANGUAGE.md, "Faults").
 #[derive(Clone, Copy, Debug, PartialEq, Eq, Error)]
 pub enum ValueFault {
     #[error("a number is out of range")]
@@ -13,7 +13,7 @@ pub enum ValueFault {
     TextTooLong,
 }
 
-/// Why a query has no rows (docs/LANGUAGE.md, "Output").
+/// Why a query has no rows (docs/LANGUAGE.md, "Faults").
 #[derive(Clone, Copy, Debug, PartialEq, Eq)]
 pub enum FaultKind {
     NotUnique,
@@ -37,7 +37,7 @@ pub struct QueryFault {
     pub cell: Key,
 }
 
-/// Why a statement was refused, with the detail that is printed (docs/LANGUAGE.md, "Output").
+/// Why a statement was refused, with the detail that is printed (docs/LANGUAGE.md, "Refusals").
 #[derive(Debug, Drop, PartialEq, Eq)]
 pub enum Refused {
     TooDeep,

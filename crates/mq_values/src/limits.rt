@@ -1,4 +1,4 @@
-//! The limits of the language (docs/LANGUAGE.md, "The whole language"). Code and definitions cite them from here.
+//! The limits of the language (docs/LANGUAGE.md, "Limits"). Code and definitions cite them from here.
 
 /// How many tables there may be.
 pub const MAX_TABLES: usize = 64;
