@@ -1,2 +1,2 @@
 pub mod StatementLemmas
-pub mod Probe
+pub mod WorkedLemmas

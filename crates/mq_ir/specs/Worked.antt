@@ -51,7 +51,7 @@ abbrev pub sales : PartInput
 sales = record {
     key = value.Text (codes "A") ∷ []; cells = (whole 2000 ∷ [], amount 1000 ∷ []) ∷ (whole 2001 ∷ [], amount 1250 ∷ []) ∷ []; repeated = None }
 
--- a model over one year and one amount, and one over a whole number and a whole number with at most 100 turns
+-- a model over one year and one amount, and one over a whole number and a whole number with at most three turns
 abbrev pub over_years : Bool → List Rule → Model
 over_years auto rules = record {
     part = record {
@@ -63,7 +63,7 @@ abbrev pub in_turns : Expr → List Rule → Model
 in_turns until rules = record {
     part = record {
         parts = 0; dims = kind.Int ∷ []; measures = kind.Int ∷ []; ignore_nav = false; updated_only = false; auto = false;
-        iterate = Some (record { turns = 100; until = Some until }); rules = rules; refs = []; lists = [] };
+        iterate = Some (record { turns = 3; until = Some until }); rules = rules; refs = []; lists = [] };
     lists = []; refs = [] }
 
 -- a rule of the first measure under UPSERT
@@ -107,10 +107,10 @@ SumOfRange =
     (automatic (over_years true (rule_of (item.At (number 0)) [] (e.Leaf (leaf.Range agg.Sum 0 (test.Cmp cmp.Gt (number 2000) ∷ []))) ∷ [])) sales).1
     ≡ Rows (year_cell 0 (amount 1250) true ∷ year_cell 2000 (amount 1000) false ∷ year_cell 2001 (amount 1250) false ∷ [])
 
--- ITERATE (100) UNTIL (PREVIOUS(X[0]) - X[0] <= 1) (X[0] = X[0] / 2) from 1024: ten turns
+-- ITERATE (3) UNTIL (PREVIOUS(X[0]) - X[0] <= 1) (X[0] = X[0] / 2) from 4: two turns
 abbrev pub HalvedInTurns : Type 0
 HalvedInTurns =
     sequential (in_turns (e.Cmp (less (e.Leaf (leaf.Previous 0 (number 0 ∷ []))) (cell (number 0))) cmp.Le (number 1))
         (rule_of (item.At (number 0)) [] (e.Prod (cell (number 0)) (record { op = Div; e = number 2 } ∷ [])) ∷ []))
-        (record { key = []; cells = (whole 0 ∷ [], whole 1024 ∷ []) ∷ []; repeated = None })
+        (record { key = []; cells = (whole 0 ∷ [], whole 4 ∷ []) ∷ []; repeated = None })
     ≡ Rows (year_cell 0 (whole 1) true ∷ [])

@@ -7,6 +7,7 @@ mod catalog;
 mod expression;
 mod laws_of_order;
 mod laws_of_reads;
+mod laws_of_results;
 mod laws_of_statements;
 mod limit_numbers;
 mod query;
@@ -30,4 +31,5 @@ pub use query::{
     Look, Model, ModelPart, OutCell, PartInput, PartResult, PartShape, PlainPart, RefArray, RefPart,
     RowList, Rule, SingleLeft, SinglePlace, Slot,
 };
+pub use laws_of_results::worked_results;
 pub use statement::{Bound, Change, Column, Row, Schema, TableDef};
