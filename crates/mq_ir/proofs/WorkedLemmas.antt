@@ -1,7 +1,6 @@
 -- The worked results are what the definitions compute to.
 use Rattle.std.proofs.Common.{refl}
 use Rattle.mq_ir.specs.declared.expression.Leaf.TheVariants as leaf
-use Rattle.mq_ir.specs.declared.expression.Test.TheVariants as test
 use Rattle.mq_ir.specs.ExpressionLaws.{worth_lit, worth_leaf, worth_sum, worth_prod}
 use Rattle.mq_ir.specs.ConditionLaws.{worth_cmp}
 use Rattle.mq_ir.specs.TestLaws.{test_laws}

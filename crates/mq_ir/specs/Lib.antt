@@ -20,6 +20,7 @@ pub mod LeavesLaws
 pub mod Lines
 pub mod Looks
 pub mod Names
+pub mod Nav
 pub mod Operators
 pub mod PartLaws
 pub mod Partitions

@@ -1,5 +1,5 @@
 -- Models in their bound forms over small inputs, with the results that were worked out by hand.
-use Rattle.std.specs.Prelude.{◌≡◌, ℕ, pos, List, [], ◌∷◌, ◌++◌, Bool, true, false, Option, Some, None, codes}
+use Rattle.std.specs.Prelude.{◌≡◌, ℕ, pos, List, [], ◌∷◌, Bool, true, false, Some, None, codes}
 use Rattle.mq_values.specs.declared.faults.FaultKind.{FaultKind}
 use Rattle.mq_values.specs.declared.faults.FaultKind.TheVariants as fault
 use Rattle.mq_values.specs.declared.operators.Agg.TheVariants as agg
@@ -12,7 +12,6 @@ use Rattle.mq_values.specs.declared.value.Value.{Value}
 use Rattle.mq_values.specs.declared.value.Value.TheVariants as value
 use Rattle.mq_ir.specs.declared.expression.Expr.{Expr}
 use Rattle.mq_ir.specs.declared.expression.Expr.TheVariants as e
-use Rattle.mq_ir.specs.declared.expression.Leaf.{Leaf}
 use Rattle.mq_ir.specs.declared.expression.Leaf.TheVariants as leaf
 use Rattle.mq_ir.specs.declared.expression.Test.TheVariants as test
 use Rattle.mq_ir.specs.declared.query.Left.TheVariants as left
@@ -49,22 +48,47 @@ before n = less (e.Leaf (leaf.Cv 0)) (number n)
 -- the amounts of product A in the years 2000 and 2001
 abbrev pub sales : PartInput
 sales = record {
-    key = value.Text (codes "A") ∷ []; cells = (whole 2000 ∷ [], amount 1000 ∷ []) ∷ (whole 2001 ∷ [], amount 1250 ∷ []) ∷ []; repeated = None }
+  key = value.Text (codes "A") ∷ [];
+  cells = (whole 2000 ∷ [], amount 1000 ∷ []) ∷ (whole 2001 ∷ [], amount 1250 ∷ []) ∷ [];
+  repeated = None;
+}
 
 -- a model over one year and one amount, and one over a whole number and a whole number with at most three turns
 abbrev pub over_years : Bool → List Rule → Model
 over_years auto rules = record {
-    part = record {
-        parts = 1; dims = kind.Int ∷ []; measures = kind.Decimal 2 ∷ []; ignore_nav = false; updated_only = false; auto = auto;
-        iterate = None; rules = rules; refs = []; lists = [] };
-    lists = []; refs = [] }
+  part = record {
+    parts = 1;
+    dims = kind.Int ∷ [];
+    measures = kind.Decimal 2 ∷ [];
+    ignore_nav = false;
+    updated_only = false;
+    auto = auto;
+    iterate = None;
+    rules = rules;
+    refs = [];
+    lists = [];
+  };
+  lists = [];
+  refs = [];
+}
 
 abbrev pub in_turns : Expr → List Rule → Model
 in_turns until rules = record {
-    part = record {
-        parts = 0; dims = kind.Int ∷ []; measures = kind.Int ∷ []; ignore_nav = false; updated_only = false; auto = false;
-        iterate = Some (record { turns = 3; until = Some until }); rules = rules; refs = []; lists = [] };
-    lists = []; refs = [] }
+  part = record {
+    parts = 0;
+    dims = kind.Int ∷ [];
+    measures = kind.Int ∷ [];
+    ignore_nav = false;
+    updated_only = false;
+    auto = false;
+    iterate = Some (record { turns = 3; until = Some until });
+    rules = rules;
+    refs = [];
+    lists = [];
+  };
+  lists = [];
+  refs = [];
+}
 
 -- a rule of the first measure under UPSERT
 abbrev pub rule_of : LeftItem → List (ℕ × Bool) → Expr → Rule
@@ -81,9 +105,9 @@ fault_at kind year = Fault (record { kind = kind; rule = 1; partition = value.Te
 abbrev pub UpsertedCells : Type 0
 UpsertedCells =
     sequential (over_years false (rule_of (item.Steps (number 2002) (number 2004) (number 1) false) []
-        (e.Prod (cell (before 1)) (record { op = Mul; e = number 2 } ∷ [])) ∷ [])) sales
+    (e.Prod (cell (before 1)) (record { op = Mul; e = number 2 } ∷ [])) ∷ [])) sales
     ≡ Rows (year_cell 2000 (amount 1000) false ∷ year_cell 2001 (amount 1250) false ∷ year_cell 2002 (amount 2500) true
-            ∷ year_cell 2003 (amount 5000) true ∷ year_cell 2004 (amount 10000) true ∷ [])
+    ∷ year_cell 2003 (amount 5000) true ∷ year_cell 2004 (amount 10000) true ∷ [])
 
 -- S[ANY] = S[CV()-1]: it matters in which order the targets come, and no order is given
 abbrev pub OrderMissing : Type 0
@@ -111,6 +135,6 @@ SumOfRange =
 abbrev pub HalvedInTurns : Type 0
 HalvedInTurns =
     sequential (in_turns (e.Cmp (less (e.Leaf (leaf.Previous 0 (number 0 ∷ []))) (cell (number 0))) cmp.Le (number 1))
-        (rule_of (item.At (number 0)) [] (e.Prod (cell (number 0)) (record { op = Div; e = number 2 } ∷ [])) ∷ []))
-        (record { key = []; cells = (whole 0 ∷ [], whole 4 ∷ []) ∷ []; repeated = None })
+    (rule_of (item.At (number 0)) [] (e.Prod (cell (number 0)) (record { op = Div; e = number 2 } ∷ [])) ∷ []))
+    (record { key = []; cells = (whole 0 ∷ [], whole 4 ∷ []) ∷ []; repeated = None })
     ≡ Rows (year_cell 0 (whole 1) true ∷ [])
