@@ -1,1 +1,2 @@
 pub mod StatementLemmas
+pub mod WorkedLemmas

@@ -61,7 +61,7 @@ taken_quiet files state (bound.Query query) = answer_quiet (answer_of state.tabl
 -- where a refusal is printed, it is what the statement came to
 refused_at : (state : State) (line : ℕ) (r : Result Printed Refused) → Quiet r
     → let out : Printed = elim r [ Ok printed ↦ printed | Err refusal ↦ (state, RefusalLine line refusal ∷ []) ] in
-      list_any is_refusal out.1 ≡ true → (out.0 ≡ state) × ((e : Refused) × (out.1 ≡ RefusalLine line e ∷ []))
+    list_any is_refusal out.1 ≡ true → (out.0 ≡ state) × ((e : Refused) × (out.1 ≡ RefusalLine line e ∷ []))
 refused_at state line (Ok printed) quiet h = absurd (let e : false ≡ true = rw quiet at h in cc)
 refused_at state line (Err e) quiet h = (refl, (e, refl))
 

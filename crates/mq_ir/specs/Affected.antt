@@ -57,7 +57,7 @@ is_seed model old new (Presence key) = is_in_one old.shape.base new.shape.base k
 is_seed model old new (Measure c) =
     is_in_one old.shape.cells new.shape.cells c.key
     || (is_in_both old.shape.cells new.shape.cells c.key
-        && assignment_differs model old new c (rule_at old.shape (Measure c)) (rule_at new.shape (Measure c)))
+    && assignment_differs model old new c (rule_at old.shape (Measure c)) (rule_at new.shape (Measure c)))
 
 -- what it reaches: the seeds, and each assigned measure of the new shape that looks at what it reaches
 abbrev pub is_affected : Model → Side → Side → Look → Bool

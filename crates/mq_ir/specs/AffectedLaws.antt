@@ -89,7 +89,8 @@ enough_rounds model shape n t l = rw (sym (length-nodes shape.assigned)) (enough
 
 pub least_closed : (model : Model) (old new : Side) → IsLeastClosed model old new
 least_closed model old new = record {
-    seeds = seeds_affected (node_looks model new.shape) (is_seed model old new) (round_count new.shape);
-    closed = λ node h. rw (sym (length-nodes new.shape.assigned))
-        (affected_closed (node_looks model new.shape) (map node_of new.shape.assigned) (covers_nodes model new.shape) (is_seed model old new) node (rw (length-nodes new.shape.assigned) h));
-    least = λ held begins closed. affected_least (node_looks model new.shape) (is_seed model old new) held begins closed (round_count new.shape) }
+  seeds = seeds_affected (node_looks model new.shape) (is_seed model old new) (round_count new.shape);
+  closed = λ node h. rw (sym (length-nodes new.shape.assigned))
+      (affected_closed (node_looks model new.shape) (map node_of new.shape.assigned) (covers_nodes model new.shape) (is_seed model old new) node (rw (length-nodes new.shape.assigned) h));
+  least = λ held begins closed. affected_least (node_looks model new.shape) (is_seed model old new) held begins closed (round_count new.shape);
+}

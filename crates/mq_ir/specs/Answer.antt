@@ -86,7 +86,8 @@ with_cells model key (count, rows) cells =
     else Ok (count + length cells, rows ++ map (columns_of key) (returned model.part cells))
 
 abbrev pub partition_step : Model → PartInput → Gathered → Result Gathered QueryFault
-partition_step model p gathered = elim (result_in model p) [ result.Rows cells ↦ with_cells model p.key gathered cells | result.Fault fault ↦ Err fault ]
+partition_step model p gathered =
+    elim (result_in model p) [ result.Rows cells ↦ with_cells model p.key gathered cells | result.Fault fault ↦ Err fault ]
 
 -- the partitions one after another, ascending
 abbrev pub model_rows : Tables → List Tuple → ModelPart → Result (List Tuple) QueryFault

@@ -46,7 +46,8 @@ assigning_rule model shape node = option_and_then (λ number. slice_get model.pa
 
 -- the looks of a node that is assigned
 abbrev pub node_looks : Model → PartShape → Look → Option (List Look)
-node_looks model shape node = option_map (λ rule. looks_of (site_in model shape 0 (cell_of node)) rule.right) (assigning_rule model shape node)
+node_looks model shape node =
+    option_map (λ rule. looks_of (site_in model shape 0 (cell_of node)) rule.right) (assigning_rule model shape node)
 
 -- the slot that the rule of a node makes of the slots of other nodes
 abbrev pub node_step : Model → PartShape → Look → (Look → Slot) → Slot
@@ -95,7 +96,8 @@ slot_cell model shape slots key =
     record {
       key = key;
       measures = map (λ m. done_value (slots (record { key = key; measure = m }))) (range_with_len 0 (length model.part.measures));
-      updated = list_any (λ a. is_same key a.0) shape.assigned }
+      updated = list_any (λ a. is_same key a.0) shape.assigned;
+    }
 
 abbrev pub slot_cells : Model → PartShape → Slots → Result (List OutCell) Placed
 slot_cells model shape slots = option_map_or Err (first_fault shape slots) (Ok (map (slot_cell model shape slots) shape.cells))
@@ -106,5 +108,7 @@ shape_found model p = option_map_or Err (input_fault p) (levelled_shape model (k
 
 abbrev pub automatic : Model → PartInput → PartShape × PartResult
 automatic model p =
-    let found = shape_found model p in
-    (result_unwrap_or found (bare_shape (keys_of p.cells)), part_result p.key (found >>= (λ shape. slot_cells model shape (slots_in model shape p.cells))))
+    let found = shape_found model p in (
+      result_unwrap_or found (bare_shape (keys_of p.cells)),
+      part_result p.key (found >>= (λ shape. slot_cells model shape (slots_in model shape p.cells))),
+    )

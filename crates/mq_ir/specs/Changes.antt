@@ -48,7 +48,8 @@ is_chosen (Some e) (number, row) = marked (refused.ChangeValue number) (holds (r
 -- the columns that are set, in text order, over the old row
 abbrev pub set_values : Schema → List (ℕ × Expr) → ℕ × Tuple → Result (List (ℕ × Value)) Refused
 set_values schema sets (number, row) =
-    each (λ (c, e). option_map_or (λ col. column_value (row ∷ []) number col e) (slice_get schema.cols c) (Ok Null) >>= (λ v. Ok (c, v))) sets
+    each (λ (c, e).
+    option_map_or (λ col. column_value (row ∷ []) number col e) (slice_get schema.cols c) (Ok Null) >>= (λ v. Ok (c, v))) sets
 
 abbrev pub with_values : Tuple → List (ℕ × Value) → Tuple
 with_values = fold (λ row set. slice_set row set.0 set.1)
@@ -73,7 +74,8 @@ abbrev pub Changed : Type 0
 Changed = List Tuple × ℕ
 
 abbrev pub rows_changed : Table → Change → Result Changed Refused
-rows_changed table (Insert name rows) = each (inserted_row table.schema) (enumerate_from 1 rows) >>= (λ new. Ok (table.rows ++ new, length new))
+rows_changed table (Insert name rows) =
+    each (inserted_row table.schema) (enumerate_from 1 rows) >>= (λ new. Ok (table.rows ++ new, length new))
 rows_changed table (Append name rows) = Ok (table.rows ++ rows, length rows)
 rows_changed table (Update name sets filter) =
     each (updated_row table.schema sets filter) (enumerate_from 1 table.rows) >>= (λ rows.
@@ -92,7 +94,8 @@ first_repeated earlier [] = None
 first_repeated earlier (key ∷ keys) = if is_among earlier key then Some key else first_repeated (key ∷ earlier) keys
 
 abbrev pub key_fault : Schema → List Tuple → Option Refused
-key_fault schema rows = elim schema.key [ [] ↦ None | _ ∷ _ ↦ option_map refused.DuplicateKey (first_repeated [] (map (row_key schema) rows)) ]
+key_fault schema rows =
+    elim schema.key [ [] ↦ None | _ ∷ _ ↦ option_map refused.DuplicateKey (first_repeated [] (map (row_key schema) rows)) ]
 
 -- how many rows a change adds before any of them is looked at
 abbrev pub rows_added : Change → ℕ

@@ -22,7 +22,7 @@ unfolding worth_of
 worth_or leaves xs =
     ap (worth_of leaves) (sym (expr.rolls-Or xs))
     ∙ para-roll-Expr Found (Unit {0}) (Unit {0}) (Found × Found) (ProdOp × Found) (SumOp × Found)
-            (layer_found leaves) (λ _. tt) (λ _. tt) layer_arm layer_factor layer_term (layer.«Expr::Or» xs)
+    (layer_found leaves) (λ _. tt) (λ _. tt) layer_arm layer_factor layer_term (layer.«Expr::Or» xs)
     ∙ ap (λ found. a_truth (disjunction found)) (seconds (worth_of leaves) xs)
 
 -- AND
@@ -32,7 +32,7 @@ unfolding worth_of
 worth_and leaves xs =
     ap (worth_of leaves) (sym (expr.rolls-And xs))
     ∙ para-roll-Expr Found (Unit {0}) (Unit {0}) (Found × Found) (ProdOp × Found) (SumOp × Found)
-            (layer_found leaves) (λ _. tt) (λ _. tt) layer_arm layer_factor layer_term (layer.«Expr::And» xs)
+    (layer_found leaves) (λ _. tt) (λ _. tt) layer_arm layer_factor layer_term (layer.«Expr::And» xs)
     ∙ ap (λ found. a_truth (conjunction found)) (seconds (worth_of leaves) xs)
 
 -- NOT
@@ -41,7 +41,7 @@ unfolding worth_of
 worth_not leaves x =
     ap (worth_of leaves) (sym (expr.rolls-Not x))
     ∙ para-roll-Expr Found (Unit {0}) (Unit {0}) (Found × Found) (ProdOp × Found) (SumOp × Found)
-            (layer_found leaves) (λ _. tt) (λ _. tt) layer_arm layer_factor layer_term (layer.«Expr::Not» x)
+    (layer_found leaves) (λ _. tt) (λ _. tt) layer_arm layer_factor layer_term (layer.«Expr::Not» x)
 
 -- a comparison: both sides are evaluated
 pub worth_cmp : (leaves : Leaf → Outcome) (a : Expr) (op : CmpOp) (b : Expr) →
@@ -50,7 +50,7 @@ unfolding worth_of
 worth_cmp leaves a op b =
     ap (worth_of leaves) (sym (expr.rolls-Cmp a op b))
     ∙ para-roll-Expr Found (Unit {0}) (Unit {0}) (Found × Found) (ProdOp × Found) (SumOp × Found)
-            (layer_found leaves) (λ _. tt) (λ _. tt) layer_arm layer_factor layer_term (layer.«Expr::Cmp» a op b)
+    (layer_found leaves) (λ _. tt) (λ _. tt) layer_arm layer_factor layer_term (layer.«Expr::Cmp» a op b)
 
 -- BETWEEN
 pub worth_between : (leaves : Leaf → Outcome) (x : Expr) (neg : Bool) (low : Expr) (high : Expr) →
@@ -60,7 +60,7 @@ unfolding worth_of
 worth_between leaves x neg low high =
     ap (worth_of leaves) (sym (expr.rolls-Between x neg low high))
     ∙ para-roll-Expr Found (Unit {0}) (Unit {0}) (Found × Found) (ProdOp × Found) (SumOp × Found)
-            (layer_found leaves) (λ _. tt) (λ _. tt) layer_arm layer_factor layer_term (layer.«Expr::Between» x neg low high)
+    (layer_found leaves) (λ _. tt) (λ _. tt) layer_arm layer_factor layer_term (layer.«Expr::Between» x neg low high)
 
 -- IN
 pub worth_in : (leaves : Leaf → Outcome) (x : Expr) (neg : Bool) (xs : List Expr) →
@@ -70,7 +70,7 @@ unfolding worth_of
 worth_in leaves x neg xs =
     ap (worth_of leaves) (sym (expr.rolls-InList x neg xs))
     ∙ para-roll-Expr Found (Unit {0}) (Unit {0}) (Found × Found) (ProdOp × Found) (SumOp × Found)
-            (layer_found leaves) (λ _. tt) (λ _. tt) layer_arm layer_factor layer_term (layer.InList x neg xs)
+    (layer_found leaves) (λ _. tt) (λ _. tt) layer_arm layer_factor layer_term (layer.InList x neg xs)
     ∙ ap (λ found. a_truth (ev leaves x >>= (λ v. member v found) >>= (λ t. Ok (negated_if neg t)))) (seconds (worth_of leaves) xs)
 
 -- IS NULL
@@ -80,7 +80,7 @@ unfolding worth_of
 worth_is_null leaves x neg =
     ap (worth_of leaves) (sym (expr.rolls-IsNull x neg))
     ∙ para-roll-Expr Found (Unit {0}) (Unit {0}) (Found × Found) (ProdOp × Found) (SumOp × Found)
-            (layer_found leaves) (λ _. tt) (λ _. tt) layer_arm layer_factor layer_term (layer.IsNull x neg)
+    (layer_found leaves) (λ _. tt) (λ _. tt) layer_arm layer_factor layer_term (layer.IsNull x neg)
 
 -- IS PRESENT
 pub worth_is_present : (leaves : Leaf → Outcome) (l : Leaf) (neg : Bool) →
@@ -89,4 +89,4 @@ unfolding worth_of
 worth_is_present leaves l neg =
     ap (worth_of leaves) (sym (expr.rolls-IsPresent l neg))
     ∙ para-roll-Expr Found (Unit {0}) (Unit {0}) (Found × Found) (ProdOp × Found) (SumOp × Found)
-            (layer_found leaves) (λ _. tt) (λ _. tt) layer_arm layer_factor layer_term (layer.IsPresent l neg)
+    (layer_found leaves) (λ _. tt) (λ _. tt) layer_arm layer_factor layer_term (layer.IsPresent l neg)

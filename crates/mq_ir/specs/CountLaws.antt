@@ -42,7 +42,8 @@ agree_or_more p q w [] = inl tt
 agree_or_more p q w (x ∷ xs) =
     elim (one_within (p x) (q x) (w x)) [
       | inl e ↦ elim (agree_or_more p q w xs) [ inl a ↦ inl (e.0, a) | inr m ↦ inr (omega (arith, e.1, m)) ]
-      | inr l ↦ inr (omega (arith, l, count_within p q w xs)) ]
+      | inr l ↦ inr (omega (arith, l, count_within p q w xs))
+    ]
 
 -- where all of them pass, a larger test agrees
 full_at : {N : Type 0} (p q : N → Bool) → Within p q → (x : N) (xs : List N) → (length xs ≤ count p xs → AgreeOn p q xs) → (b : Bool) → p x ≡ b → length (x ∷ xs) ≤ one b + count p xs → AgreeOn p q (x ∷ xs)
@@ -65,7 +66,8 @@ module _ {N : Type 0} (p : ℕ → N → Bool) (xs : List N) (r : Rising p xs) w
   at_rest (suc n) =
       elim (at_rest n) [
         | inl a ↦ inl (r.rests n a)
-        | inr l ↦ elim (agree_or_more (p n) (p (suc n)) (r.grows n) xs) [ inl a ↦ inl (r.rests n a) | inr m ↦ inr (omega (arith, l, m)) ] ]
+        | inr l ↦ elim (agree_or_more (p n) (p (suc n)) (r.grows n) xs) [ inl a ↦ inl (r.rests n a) | inr m ↦ inr (omega (arith, l, m)) ]
+      ]
 
   pub rests_at_count : AgreeOn (p (length xs)) (p (suc (length xs))) xs
   rests_at_count =
@@ -89,9 +91,10 @@ module _ {N : Type 0} (looks_of : N → Option (List N)) (xs : List N) (all : Co
 
   levelled_rises : Rising (levelled looks_of) xs
   levelled_rises = record {
-      grows = λ n. levelled_stays looks_of n (suc n) (omega arith);
-      rests = λ n a. agree_everywhere (levelled looks_of (suc n)) (levelled looks_of (suc (suc n)))
-          (λ t. ap (λ p. every_look p (looks_of t)) (λ i u. levelled_alike n a u i)) xs }
+    grows = λ n. levelled_stays looks_of n (suc n) (omega arith);
+    rests = λ n a. agree_everywhere (levelled looks_of (suc n)) (levelled looks_of (suc (suc n)))
+        (λ t. ap (λ p. every_look p (looks_of t)) (λ i u. levelled_alike n a u i)) xs;
+  }
 
   -- what is levelled at all is levelled in as many rounds as there are assigned nodes
   pub levelled_enough : (t : N) → levelled looks_of (length xs) t ≡ levelled looks_of (suc (length xs)) t
@@ -107,9 +110,10 @@ module _ {N : Type 0} (looks_of : N → Option (List N)) (xs : List N) (all : Co
 
     affected_rises : Rising (affected looks_of seeds) xs
     affected_rises = record {
-        grows = λ n. affected_stays looks_of seeds n (suc n) (omega arith);
-        rests = λ n a. agree_everywhere (affected looks_of seeds (suc n)) (affected looks_of seeds (suc (suc n)))
-            (λ t. ap (λ p. seeds t || some_look p (looks_of t)) (λ i u. affected_alike n a u i)) xs }
+      grows = λ n. affected_stays looks_of seeds n (suc n) (omega arith);
+      rests = λ n a. agree_everywhere (affected looks_of seeds (suc n)) (affected looks_of seeds (suc (suc n)))
+          (λ t. ap (λ p. seeds t || some_look p (looks_of t)) (λ i u. affected_alike n a u i)) xs;
+    }
 
     affected_enough : (t : N) → affected looks_of seeds (length xs) t ≡ affected looks_of seeds (suc (length xs)) t
     affected_enough = affected_alike (length xs) (rests_at_count (affected looks_of seeds) xs affected_rises)

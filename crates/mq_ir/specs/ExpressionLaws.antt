@@ -32,7 +32,7 @@ unfolding worth_of
 worth_sum leaves first terms =
     ap (worth_of leaves) (sym (expr.rolls-Sum first terms))
     ∙ para-roll-Expr Found (Unit {0}) (Unit {0}) (Found × Found) (ProdOp × Found) (SumOp × Found)
-            (layer_found leaves) (λ _. tt) (λ _. tt) layer_arm layer_factor layer_term (layer.Sum first terms)
+    (layer_found leaves) (λ _. tt) (λ _. tt) layer_arm layer_factor layer_term (layer.Sum first terms)
     ∙ ap (λ found. a_value (chained added (ev leaves first) found)) (terms_are leaves terms)
 
 -- a product likewise
@@ -42,7 +42,7 @@ unfolding worth_of
 worth_prod leaves first terms =
     ap (worth_of leaves) (sym (expr.rolls-Prod first terms))
     ∙ para-roll-Expr Found (Unit {0}) (Unit {0}) (Found × Found) (ProdOp × Found) (SumOp × Found)
-            (layer_found leaves) (λ _. tt) (λ _. tt) layer_arm layer_factor layer_term (layer.Prod first terms)
+    (layer_found leaves) (λ _. tt) (λ _. tt) layer_arm layer_factor layer_term (layer.Prod first terms)
     ∙ ap (λ found. a_value (chained multiplied (ev leaves first) found)) (factors_are leaves terms)
 
 -- the sign
@@ -51,7 +51,7 @@ unfolding worth_of
 worth_neg leaves x =
     ap (worth_of leaves) (sym (expr.rolls-Neg x))
     ∙ para-roll-Expr Found (Unit {0}) (Unit {0}) (Found × Found) (ProdOp × Found) (SumOp × Found)
-            (layer_found leaves) (λ _. tt) (λ _. tt) layer_arm layer_factor layer_term (layer.Neg x)
+    (layer_found leaves) (λ _. tt) (λ _. tt) layer_arm layer_factor layer_term (layer.Neg x)
 
 -- a literal is its value
 pub worth_lit : (leaves : Leaf → Outcome) (v : Value) → worth_of leaves (expr.Lit v) ≡ Ok (worth.Value v)
@@ -59,7 +59,7 @@ unfolding worth_of
 worth_lit leaves v =
     ap (worth_of leaves) (sym (expr.rolls-Lit v))
     ∙ para-roll-Expr Found (Unit {0}) (Unit {0}) (Found × Found) (ProdOp × Found) (SumOp × Found)
-            (layer_found leaves) (λ _. tt) (λ _. tt) layer_arm layer_factor layer_term (layer.Lit v)
+    (layer_found leaves) (λ _. tt) (λ _. tt) layer_arm layer_factor layer_term (layer.Lit v)
 
 -- a leaf is what the leaves give
 pub worth_leaf : (leaves : Leaf → Outcome) (l : Leaf) → worth_of leaves (expr.Leaf l) ≡ a_value (leaves l)
@@ -67,7 +67,7 @@ unfolding worth_of
 worth_leaf leaves l =
     ap (worth_of leaves) (sym (expr.rolls-Leaf l))
     ∙ para-roll-Expr Found (Unit {0}) (Unit {0}) (Found × Found) (ProdOp × Found) (SumOp × Found)
-            (layer_found leaves) (λ _. tt) (λ _. tt) layer_arm layer_factor layer_term (layer.Leaf l)
+    (layer_found leaves) (λ _. tt) (λ _. tt) layer_arm layer_factor layer_term (layer.Leaf l)
 
 -- CASE
 pub worth_case : (leaves : Leaf → Outcome) (subject : Option Expr) (arms : List BoundArm) (otherwise : Option Expr) →
@@ -77,22 +77,22 @@ unfolding worth_of
 worth_case leaves None arms None =
     ap (worth_of leaves) (sym (expr.rolls-Case None arms None))
     ∙ para-roll-Expr Found (Unit {0}) (Unit {0}) (Found × Found) (ProdOp × Found) (SumOp × Found)
-            (layer_found leaves) (λ _. tt) (λ _. tt) layer_arm layer_factor layer_term (layer.Case None arms None)
+    (layer_found leaves) (λ _. tt) (λ _. tt) layer_arm layer_factor layer_term (layer.Case None arms None)
     ∙ ap (λ found. a_value (case_of None found None)) (arms_are leaves arms)
 worth_case leaves None arms (Some y) =
     ap (worth_of leaves) (sym (expr.rolls-Case None arms (Some y)))
     ∙ para-roll-Expr Found (Unit {0}) (Unit {0}) (Found × Found) (ProdOp × Found) (SumOp × Found)
-            (layer_found leaves) (λ _. tt) (λ _. tt) layer_arm layer_factor layer_term (layer.Case None arms (Some y))
+    (layer_found leaves) (λ _. tt) (λ _. tt) layer_arm layer_factor layer_term (layer.Case None arms (Some y))
     ∙ ap (λ found. a_value (case_of None found (Some (worth_of leaves y)))) (arms_are leaves arms)
 worth_case leaves (Some x) arms None =
     ap (worth_of leaves) (sym (expr.rolls-Case (Some x) arms None))
     ∙ para-roll-Expr Found (Unit {0}) (Unit {0}) (Found × Found) (ProdOp × Found) (SumOp × Found)
-            (layer_found leaves) (λ _. tt) (λ _. tt) layer_arm layer_factor layer_term (layer.Case (Some x) arms None)
+    (layer_found leaves) (λ _. tt) (λ _. tt) layer_arm layer_factor layer_term (layer.Case (Some x) arms None)
     ∙ ap (λ found. a_value (case_of (Some (worth_of leaves x)) found None)) (arms_are leaves arms)
 worth_case leaves (Some x) arms (Some y) =
     ap (worth_of leaves) (sym (expr.rolls-Case (Some x) arms (Some y)))
     ∙ para-roll-Expr Found (Unit {0}) (Unit {0}) (Found × Found) (ProdOp × Found) (SumOp × Found)
-            (layer_found leaves) (λ _. tt) (λ _. tt) layer_arm layer_factor layer_term (layer.Case (Some x) arms (Some y))
+    (layer_found leaves) (λ _. tt) (λ _. tt) layer_arm layer_factor layer_term (layer.Case (Some x) arms (Some y))
     ∙ ap (λ found. a_value (case_of (Some (worth_of leaves x)) found (Some (worth_of leaves y)))) (arms_are leaves arms)
 
 -- CAST
@@ -102,7 +102,7 @@ unfolding worth_of
 worth_cast leaves x kind =
     ap (worth_of leaves) (sym (expr.rolls-Cast x kind))
     ∙ para-roll-Expr Found (Unit {0}) (Unit {0}) (Found × Found) (ProdOp × Found) (SumOp × Found)
-            (layer_found leaves) (λ _. tt) (λ _. tt) layer_arm layer_factor layer_term (layer.Cast x kind)
+    (layer_found leaves) (λ _. tt) (λ _. tt) layer_arm layer_factor layer_term (layer.Cast x kind)
 
 -- a result that is brought to the kind of the whole
 pub worth_convert : (leaves : Leaf → Outcome) (x : Expr) (kind : Kind) →
@@ -111,7 +111,7 @@ unfolding worth_of
 worth_convert leaves x kind =
     ap (worth_of leaves) (sym (expr.rolls-Convert x kind))
     ∙ para-roll-Expr Found (Unit {0}) (Unit {0}) (Found × Found) (ProdOp × Found) (SumOp × Found)
-            (layer_found leaves) (λ _. tt) (λ _. tt) layer_arm layer_factor layer_term (layer.Convert x kind)
+    (layer_found leaves) (λ _. tt) (λ _. tt) layer_arm layer_factor layer_term (layer.Convert x kind)
 
 -- a function
 pub worth_call : (leaves : Leaf → Outcome) (f : Func) (xs : List Expr) →
@@ -120,7 +120,7 @@ unfolding worth_of
 worth_call leaves f xs =
     ap (worth_of leaves) (sym (expr.rolls-Call f xs))
     ∙ para-roll-Expr Found (Unit {0}) (Unit {0}) (Found × Found) (ProdOp × Found) (SumOp × Found)
-            (layer_found leaves) (λ _. tt) (λ _. tt) layer_arm layer_factor layer_term (layer.Call f xs)
+    (layer_found leaves) (λ _. tt) (λ _. tt) layer_arm layer_factor layer_term (layer.Call f xs)
     ∙ ap (λ found. a_value (called f found)) (seconds (worth_of leaves) xs)
 
 -- PRESENTV evaluates one of its two results
@@ -130,7 +130,7 @@ unfolding worth_of
 worth_presentv leaves present a b =
     ap (worth_of leaves) (sym (expr.rolls-PresentV present a b))
     ∙ para-roll-Expr Found (Unit {0}) (Unit {0}) (Found × Found) (ProdOp × Found) (SumOp × Found)
-            (layer_found leaves) (λ _. tt) (λ _. tt) layer_arm layer_factor layer_term (layer.PresentV present a b)
+    (layer_found leaves) (λ _. tt) (λ _. tt) layer_arm layer_factor layer_term (layer.PresentV present a b)
 
 -- PRESENTNNV asks for null only where the cell is present
 pub worth_presentnnv : (leaves : Leaf → Outcome) (present : Leaf) (not_null : Leaf) (a : Expr) (b : Expr) →
@@ -140,7 +140,7 @@ unfolding worth_of
 worth_presentnnv leaves present not_null a b =
     ap (worth_of leaves) (sym (expr.rolls-PresentNnv present not_null a b))
     ∙ para-roll-Expr Found (Unit {0}) (Unit {0}) (Found × Found) (ProdOp × Found) (SumOp × Found)
-            (layer_found leaves) (λ _. tt) (λ _. tt) layer_arm layer_factor layer_term (layer.PresentNnv present not_null a b)
+    (layer_found leaves) (λ _. tt) (λ _. tt) layer_arm layer_factor layer_term (layer.PresentNnv present not_null a b)
 
 -- all cases together
 pub ruleset worth_laws = (worth_or, worth_and, worth_not, worth_cmp, worth_between, worth_in, worth_is_null, worth_is_present, worth_sum, worth_prod, worth_neg, worth_lit, worth_leaf, worth_case, worth_cast, worth_convert, worth_call, worth_presentv, worth_presentnnv)

@@ -1,13 +1,14 @@
 -- What is bound under a catalog: its names are there or not there, its numbers are below the counts of what they
 -- number, its lists have their widths, and no limit is passed.
-use Rattle.std.specs.Prelude.{ℕ, ◌+◌, List, [], ◌∷◌, ◌++◌, length, map, take, drop, Bool, true, ◌&&◌, ◌==◌, nat_lt, nat_le, Option, Some, None, slice_index_or}
-use Rattle.std.specs.List.{enumerate_from, filter, find, list_all, list_any, range_with_len}
+use Rattle.std.specs.Prelude.{ℕ, ◌+◌, List, [], ◌∷◌, ◌++◌, length, map, take, drop, Bool, true, ◌&&◌, ◌==◌, nat_lt, nat_le, Option, slice_index_or}
+use Rattle.std.specs.List.{enumerate_from, filter, list_all, range_with_len}
 use Rattle.std.specs.Option.{option_map_or}
 use Rattle.mq_ir.specs.declared.expression.Expr.{Expr}
 use Rattle.mq_ir.specs.declared.query.BoundQuery.{BoundQuery}
 use Rattle.mq_ir.specs.declared.query.ColRef.{ColRef}
 use Rattle.mq_ir.specs.declared.query.FromPart.{FromPart}
 use Rattle.mq_ir.specs.declared.query.ItemPart.{ItemPart}
+use Rattle.mq_ir.specs.declared.query.Iterate.{Iterate}
 use Rattle.mq_ir.specs.declared.query.Left.{Left}
 use Rattle.mq_ir.specs.declared.query.Left.TheVariants.{Places, Tuples}
 use Rattle.mq_ir.specs.declared.query.LeftItem.{LeftItem}
@@ -18,7 +19,6 @@ use Rattle.mq_ir.specs.declared.query.ModelPart.{ModelPart}
 use Rattle.mq_ir.specs.declared.query.PlainPart.{PlainPart}
 use Rattle.mq_ir.specs.declared.query.RefPart.{RefPart}
 use Rattle.mq_ir.specs.declared.query.Rule.{Rule}
-use Rattle.mq_ir.specs.declared.statement.Schema.{Schema}
 use Rattle.mq_ir.specs.declared.catalog.Catalog.{Catalog}
 use Rattle.mq_ir.specs.Names.{is_table, width_of}
 use Rattle.mq_ir.specs.FitsExpression.{Scope, expression_fits, kind_fits, test_fits}
@@ -64,7 +64,12 @@ reference_fits catalog r =
 -- what rules and UNTIL may name
 abbrev pub model_scope : ModelPart → Scope
 model_scope part =
-    record { columns = []; dims = length part.dims; measures = length part.measures; refs = map (λ r. (length r.dims, length r.measures)) part.refs }
+    record {
+      columns = [];
+      dims = length part.dims;
+      measures = length part.measures;
+      refs = map (λ r. (length r.dims, length r.measures)) part.refs;
+    }
 
 -- the values of a FOR list, each of this width
 abbrev pub source_fits : ModelPart → ℕ → ListSource → Bool
@@ -90,9 +95,11 @@ rule_fits part rule =
     nat_lt rule.measure (length part.measures) && left_fits part rule.left
     && list_all (λ key. nat_lt key.0 (length part.dims)) rule.order && expression_fits (model_scope part) rule.right
 
+abbrev pub turns_fit : ModelPart → Iterate → Bool
+turns_fit part iterate = nat_lt 0 iterate.turns && nat_le iterate.turns MAX_TURNS && fits_if_there (model_scope part) iterate.until
+
 abbrev pub iterate_fits : ModelPart → Bool
-iterate_fits part =
-    option_map_or (λ iterate. nat_lt 0 iterate.turns && nat_le iterate.turns MAX_TURNS && fits_if_there (model_scope part) iterate.until) part.iterate true
+iterate_fits part = option_map_or (turns_fit part) part.iterate true
 
 abbrev pub model_fits : Catalog → ModelPart → Bool
 model_fits catalog part =

@@ -87,7 +87,8 @@ abbrev pub leaf_fits : Scope → LeafLayer → Bool
 leaf_fits s (layer.Column item column) = nat_lt column (slice_index_or s.columns item 0)
 leaf_fits s (layer.Cell m indices) = nat_lt m s.measures && fit_inside s.dims indices
 leaf_fits s (layer.Range agg m places) = nat_lt m s.measures && (length places == s.dims) && all_fit places
-leaf_fits s (layer.RefCell r m indices) = nat_lt m (slice_index_or s.refs r (0, 0)).1 && fit_inside (slice_index_or s.refs r (0, 0)).0 indices
+leaf_fits s (layer.RefCell r m indices) =
+    let widths = slice_index_or s.refs r (0, 0) in nat_lt m widths.1 && fit_inside widths.0 indices
 leaf_fits s (layer.Cv d) = nat_lt d s.dims
 leaf_fits s layer.Turn = true
 leaf_fits s (layer.Present indices) = nat_lt 0 s.measures && fit_inside s.dims indices

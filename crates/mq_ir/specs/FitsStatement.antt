@@ -22,7 +22,8 @@ use Rattle.mq_ir.specs.Partitions.{Tuple}
 
 abbrev pub schema_fits : Schema → Bool
 schema_fits schema =
-    nat_le (length schema.cols) MAX_COLUMNS && list_all (λ col. kind_fits col.kind) schema.cols && list_all (λ c. nat_lt c (length schema.cols)) schema.key
+    nat_le (length schema.cols) MAX_COLUMNS && list_all (λ col. kind_fits col.kind) schema.cols
+    && list_all (λ c. nat_lt c (length schema.cols)) schema.key
 
 -- each value is null or of the column's kind, and it is not null where the column is NOT NULL
 abbrev pub value_fits : Column × Value → Bool
@@ -42,14 +43,16 @@ set_fits schema (c, e) = nat_lt c (length schema.cols) && expression_fits (row_s
 abbrev pub change_fits_schema : Schema → Change → Bool
 change_fits_schema schema (Insert name rows) = list_all (inserts_fit schema) rows
 change_fits_schema schema (Append name rows) = list_all (is_row_of schema) rows
-change_fits_schema schema (Update name sets filter) = list_all (set_fits schema) sets && fits_if_there (row_scope (length schema.cols ∷ [])) filter
+change_fits_schema schema (Update name sets filter) =
+    list_all (set_fits schema) sets && fits_if_there (row_scope (length schema.cols ∷ [])) filter
 change_fits_schema schema (Delete name filter) = fits_if_there (row_scope (length schema.cols ∷ [])) filter
 
 abbrev pub change_fits : Catalog → Change → Bool
 change_fits catalog change = option_map_or (λ schema. change_fits_schema schema change) (schema_of catalog (table_of change)) false
 
 abbrev pub fits : Catalog → Bound → Bool
-fits catalog (bound.CreateTable def) = not (is_taken catalog def.name) && nat_lt (length catalog.tables) MAX_TABLES && schema_fits def.schema
+fits catalog (bound.CreateTable def) =
+    not (is_taken catalog def.name) && nat_lt (length catalog.tables) MAX_TABLES && schema_fits def.schema
 fits catalog (bound.DropTable name) = is_table catalog name
 fits catalog (bound.CreateView name q) = not (is_taken catalog name) && nat_lt (length catalog.views) MAX_VIEWS && query_fits catalog q
 fits catalog (bound.DropView name) = is_view catalog name

@@ -55,7 +55,8 @@ abbrev pub group_leaves : List ColRef → List BaseRow → Leaf → Outcome
 group_leaves cols members l = elim (out-Leaf l) [
   | layer.Column item column ↦ if is_grouped cols item column then column_at (slice_index_or members 0 []) item column else Ok Null
   | layer.GroupAgg agg e ↦ group_value members agg e
-  | _ ↦ Ok Null ]
+  | _ ↦ Ok Null
+]
 
 -- the items over these leaves, from left to right
 abbrev pub items_at : List Expr → (Leaf → Outcome) → Result Tuple FaultKind

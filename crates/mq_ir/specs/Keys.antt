@@ -1,5 +1,5 @@
 -- Sets of dimension tuples.
-use Rattle.std.specs.Prelude.{List, [], ◌∷◌, Bool, not, if◌then◌else◌}
+use Rattle.std.specs.Prelude.{List, [], ◌∷◌, Bool, not}
 use Rattle.std.specs.List.{filter, list_any}
 use Rattle.std.specs.Ordering.{is_eq}
 use Rattle.mq_values.specs.Order.{cmp_key}

@@ -16,9 +16,11 @@ pub mod FitsStatement
 pub mod Items
 pub mod Iteration
 pub mod Keys
+pub mod LeavesLaws
 pub mod Lines
 pub mod Looks
 pub mod Names
+pub mod Nav
 pub mod Operators
 pub mod PartLaws
 pub mod Partitions
@@ -38,8 +40,10 @@ pub mod Statement
 pub mod StatementLaws
 pub mod Tables
 pub mod Targets
+pub mod TestLaws
 pub mod Tests
 pub mod Unfolding
+pub mod Worked
 pub mod Worth
 pub mod WorthLaws
 pub mod WorthRolls

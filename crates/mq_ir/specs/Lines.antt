@@ -41,7 +41,9 @@ abbrev pub key_text : Tuple → List ℕ
 key_text values = codes "(" ++ (join_by printed (codes ",") values ++ codes ")")
 
 abbrev pub fault_text : QueryFault → List ℕ
-fault_text f = fault_name f.kind ++ (codes " rule " ++ (decimal f.rule ++ (codes " partition " ++ (key_text f.partition ++ (codes " cell " ++ key_text f.cell)))))
+fault_text f =
+    fault_name f.kind ++ (codes " rule " ++ (decimal f.rule
+    ++ (codes " partition " ++ (key_text f.partition ++ (codes " cell " ++ key_text f.cell)))))
 
 -- a refusal's name, with its detail behind it; names in it are in capitals already
 abbrev pub refusal_text : Refused → List ℕ

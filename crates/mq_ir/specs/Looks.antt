@@ -27,7 +27,8 @@ abbrev pub leaves_if_any : {A : Type 0} → Option (A × Leaves) → Leaves
 leaves_if_any part = option_map_or (λ p. p.1) part []
 
 -- one layer of an expression: its leaves from left to right, those of untaken branches included
-abbrev pub layer_leaves : layer.Expr-F (Expr × Leaves) (Leaf × Unit {0}) (Test × Unit {0}) (BoundArm × Leaves) (BoundProd × Leaves) (BoundSum × Leaves) → Leaves
+abbrev pub layer_leaves :
+    layer.Expr-F (Expr × Leaves) (Leaf × Unit {0}) (Test × Unit {0}) (BoundArm × Leaves) (BoundProd × Leaves) (BoundSum × Leaves) → Leaves
 layer_leaves (layer.«Expr::Or» es) = all_leaves es
 layer_leaves (layer.«Expr::And» es) = all_leaves es
 layer_leaves (layer.«Expr::Not» e) = e.1

@@ -1,5 +1,5 @@
 -- The names of a catalog.
-use Rattle.std.specs.Prelude.{ℕ, List, Bool, Option, Some, None, ◌||◌, length, find}
+use Rattle.std.specs.Prelude.{ℕ, List, Bool, Option, ◌||◌, length, find}
 use Rattle.std.specs.List.{list_any}
 use Rattle.std.specs.Option.{option_map, option_map_or}
 use Rattle.mq_ir.specs.declared.catalog.Catalog.{Catalog}

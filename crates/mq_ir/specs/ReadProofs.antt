@@ -1,5 +1,5 @@
 -- Reads and the looks behind them.
-use Rattle.std.proofs.Common.{◌≡◌, ℕ, List, [], ◌∷◌, ◌++◌, map, Bool, true, false, ◌&&◌, Result, Ok, Err, Option, Some, None, refl, ap, sym, ◌∙◌, subst}
+use Rattle.std.proofs.Common.{◌≡◌, ℕ, List, [], ◌∷◌, ◌++◌, map, ◌&&◌, Result, Ok, Err, refl, ap, sym, ◌∙◌}
 use Rattle.std.specs.Prelude.{if◌then◌else◌}
 use Rattle.std.specs.List.{filter, flat_map, list_all, zip}
 use Rattle.mq_values.specs.Aggregate.{aggregate, is_value}
@@ -17,14 +17,15 @@ use Rattle.mq_ir.specs.declared.query.PartShape.{PartShape}
 use Rattle.mq_ir.specs.declared.query.Rule.{Rule}
 use Rattle.mq_values.specs.Convert.{cast_of}
 use Rattle.mq_ir.specs.declared.query.Slot.TheVariants.{Poisoned}
-use Rattle.mq_ir.specs.Expression.{Outcome, flag, worth_of}
+use Rattle.mq_ir.specs.Expression.{Outcome, flag}
 use Rattle.mq_ir.specs.Automatic.{cell_of}
 use Rattle.mq_ir.specs.Keys.{Tuple, is_among}
 use Rattle.mq_ir.specs.Looks.{layer_looks, leaf_looks, leaves_of, look_at, looks_at, looks_named, looks_of}
 use Rattle.mq_ir.specs.ReadLaws.{AgreeAt, ReadsItsLooks, SameLooks, SamePresence, SameStep, StepReadsItsLooks}
-use Rattle.mq_ir.specs.Reads.{LeafLayer, Measures, Site, cell_named, inner_leaves, measure_kind, range_named, read, read_layer, with_nav}
+use Rattle.mq_ir.specs.Reads.{LeafLayer, Measures, Site, cell_named, inner_leaves, measure_kind, range_named, read, read_layer}
+use Rattle.mq_ir.specs.Nav.{with_nav}
 use Rattle.mq_ir.specs.Results.{◌>>=◌, each}
-use Rattle.mq_ir.specs.Slots.{Slots, cell_slot, done_value, is_done, is_known, site_in, slot_of}
+use Rattle.mq_ir.specs.Slots.{Slots, done_value, is_done, is_known, site_in, slot_of}
 use Rattle.mq_ir.specs.Targets.{meets_every}
 use Rattle.mq_ir.specs.Unfolding.{Model, test_of}
 use Rattle.mq_ir.specs.Worth.{as_value}
@@ -72,9 +73,10 @@ module _ (site : Site) (input : List Tuple) (now later : Measures) where
 
   same_on_looks : (ls : List Leaf) → AgreeAt now later (flat_map (leaf_looks site) ls) → SameOn (read site input now) (read site input later) ls
   same_on_looks [] h = tt
-  same_on_looks (l ∷ ls) h =
-      (layer_alike (out-Leaf l) (agree_left now later (leaf_looks site l) (flat_map (leaf_looks site) ls) h),
-       same_on_looks ls (agree_right now later (leaf_looks site l) (flat_map (leaf_looks site) ls) h))
+  same_on_looks (l ∷ ls) h = (
+    layer_alike (out-Leaf l) (agree_left now later (leaf_looks site l) (flat_map (leaf_looks site) ls) h),
+    same_on_looks ls (agree_right now later (leaf_looks site l) (flat_map (leaf_looks site) ls) h),
+  )
 
 -- what an expression is worth depends on the measures that it looks at alone
 pub reads_its_looks : (site : Site) (input : List Tuple) (e : Expr) → ReadsItsLooks site input e
@@ -163,14 +165,15 @@ module _ (model : Model) (shape other : PartShape) (turn : ℕ) (target : Tuple)
     same_over : (ls : List Leaf) → SameLooks here other.cells ls → SamePresence shape.base other.base (flat_map (leaf_looks here) ls)
         → SameOn (read here shape.base now) (read there other.base now) ls
     same_over [] h p = tt
-    same_over (l ∷ ls) h p =
-        (layer_over (out-Leaf l) h.0 (presence_left shape.base other.base (leaf_looks here l) (flat_map (leaf_looks here) ls) p),
-         same_over ls h.1 (presence_right shape.base other.base (leaf_looks here l) (flat_map (leaf_looks here) ls) p))
+    same_over (l ∷ ls) h p = (
+      layer_over (out-Leaf l) h.0 (presence_left shape.base other.base (leaf_looks here l) (flat_map (leaf_looks here) ls) p),
+      same_over ls h.1 (presence_right shape.base other.base (leaf_looks here l) (flat_map (leaf_looks here) ls) p),
+    )
 
 pub same_step : (model : Model) (shape other : PartShape) (turn : ℕ) (rule : Rule) (target : Tuple) → SameStep model shape other turn rule target
 same_step model shape other turn rule target h p slots =
     let now : Measures = λ c. done_value (slots c) in
     let looks = looks_over model shape other turn target (leaves_of rule.right) h in
     let w = worth_alike (read (site_in model shape turn target) shape.base now) (read (site_in model other turn target) other.base now) rule.right
-        (same_over model shape other turn target now (leaves_of rule.right) h p) in
+    (same_over model shape other turn target now (leaves_of rule.right) h p) in
     λ i. if list_all (is_known slots) (looks i) then slot_of (as_value (w i) >>= (λ v. cast_of v (measure_kind model rule.measure))) else Poisoned

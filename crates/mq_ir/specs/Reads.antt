@@ -22,6 +22,7 @@ use Rattle.mq_ir.specs.declared.query.RefPart.{RefPart}
 use Rattle.mq_ir.specs.declared.query.Rule.{Rule}
 use Rattle.mq_ir.specs.Expression.{Outcome, ev, flag, whole}
 use Rattle.mq_ir.specs.Keys.{is_among}
+use Rattle.mq_ir.specs.Nav.{with_nav}
 use Rattle.mq_ir.specs.Partitions.{Tuple, Cells, cell_at}
 use Rattle.mq_ir.specs.Results.{◌>>=◌, each}
 use Rattle.mq_ir.specs.Targets.{meets_every}
@@ -61,15 +62,6 @@ range_named site places =
     each (λ (kind, place). test_of (inner_leaves site) kind place) (zip site.model.part.dims places) >>= (λ tests.
     Ok (filter (meets_every tests) site.set))
 
-abbrev pub default_of : Kind → Value
-default_of kind.Int = whole 0
-default_of (kind.Decimal s) = value.Num (record { mant = pos 0; scale = s })
-default_of kind.Text = value.Text []
-
--- under IGNORE NAV a null reads as the default of its measure's kind
-abbrev pub with_nav : Bool → Kind → Value → Value
-with_nav ignore kind v = if ignore && not (is_value v) then default_of kind else v
-
 abbrev pub measure_kind : Model → ℕ → Kind
 measure_kind model m = slice_index_or model.part.measures m kind.Int
 
@@ -97,7 +89,8 @@ reference_value site part cells m indices =
 
 abbrev pub reference_cell : Site → ℕ → ℕ → List Expr → Outcome
 reference_cell site r m indices =
-    option_map_or (λ part. reference_value site part (slice_index_or site.model.refs r []) m indices) (slice_get site.model.part.refs r) (Ok value.Null)
+    option_map_or (λ part. reference_value site part (slice_index_or site.model.refs r []) m indices)
+    (slice_get site.model.part.refs r) (Ok value.Null)
 
 -- whether the cell is in the partition's input
 abbrev pub presence : Site → List Tuple → List Expr → Outcome
@@ -105,7 +98,8 @@ presence site input indices = cell_named site site.model.part.dims indices >>= (
 
 -- whether the cell's measure, read without NAV, is not null at this moment
 abbrev pub not_null : Site → Measures → ℕ → List Expr → Outcome
-not_null site now m indices = cell_named site site.model.part.dims indices >>= (λ key. Ok (flag (is_value (now (record { key = key; measure = m })))))
+not_null site now m indices =
+    cell_named site site.model.part.dims indices >>= (λ key. Ok (flag (is_value (now (record { key = key; measure = m })))))
 
 -- The leaves of a right side, over the keys of the input and the measures as they are at this moment.
 -- What has no meaning there is null.

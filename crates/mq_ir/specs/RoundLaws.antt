@@ -26,7 +26,8 @@ list_any_within p q w [] h = cc
 list_any_within p q w (x ∷ xs) h =
     elim (or_cases (p x) (list_any p xs) h) [
       | inl a ↦ or_left (q x) (list_any q xs) (w x a)
-      | inr b ↦ or_right (q x) (list_any q xs) (list_any_within p q w xs b) ]
+      | inr b ↦ or_right (q x) (list_any q xs) (list_any_within p q w xs b)
+    ]
 
 pub list_all_within : {N : Type 0} (p q : N → Bool) → Within p q → (xs : List N) → list_all p xs ≡ true → list_all q xs ≡ true
 list_all_within p q w [] h = refl
@@ -77,4 +78,5 @@ module _ {N : Type 0} (looks_of : N → Option (List N)) (seeds : N → Bool) wh
   affected_least held begins closed (suc n) t a =
       elim (or_cases (seeds t) (some_look (affected looks_of seeds n) (looks_of t)) a) [
         | inl s ↦ begins t s
-        | inr l ↦ closed t (some_look_within (affected looks_of seeds n) held (affected_least held begins closed n) (looks_of t) l) ]
+        | inr l ↦ closed t (some_look_within (affected looks_of seeds n) held (affected_least held begins closed n) (looks_of t) l)
+      ]

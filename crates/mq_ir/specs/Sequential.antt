@@ -52,7 +52,8 @@ is_of_other found m target (Presence key) = false
 -- with a symbolic item and no ORDER BY: the first target that looks at the assigned measure of another target
 abbrev pub order_missing : Act → SingleLeft → List Tuple → List Tuple → Option Tuple
 order_missing act left set found =
-    let looks_past : Tuple → Bool = λ target. list_any (is_of_other found act.rule.measure target) (looks_of (site_of act set target) act.rule.right) in
+    let looks_past : Tuple → Bool = λ target.
+    list_any (is_of_other found act.rule.measure target) (looks_of (site_of act set target) act.rule.right) in
     if is_symbolic left && (length left.order == 0) then find looks_past found else None
 
 -- why a single left side may not act on these targets, over the cells with those that it creates

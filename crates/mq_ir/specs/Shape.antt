@@ -43,7 +43,8 @@ assigns m key a = is_same key a.0 && (m == a.1)
 -- why a single left side may not assign these targets: one is assigned already, or the set is too large
 abbrev pub shape_fault : ℕ → ℕ → List Assignment → List Tuple → List Tuple → Option Placed
 shape_fault number m assigned found set =
-    option_or (option_map (λ key. placed_fault number key kind.AssignedTwice) (least_of cmp_key (filter (λ key. list_any (assigns m key) assigned) found)))
+    let again : List Tuple = filter (λ key. list_any (assigns m key) assigned) found in
+    option_or (option_map (λ key. placed_fault number key kind.AssignedTwice) (least_of cmp_key again))
     (if nat_lt MAX_CELLS_OF_PARTITION (length set) then Some (placed_fault number [] kind.TooManyCells) else None)
 
 -- one single left side

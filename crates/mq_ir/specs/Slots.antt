@@ -47,4 +47,5 @@ site_in model shape turn target = record { model = model; target = target; turn 
 abbrev pub cell_slot : Model → PartShape → ℕ → Rule → Tuple → Slots → Slot
 cell_slot model shape turn rule target slots =
     let site = site_in model shape turn target in
-    if list_all (is_known slots) (looks_of site rule.right) then slot_of (right_value site shape.base (λ c. done_value (slots c)) rule) else Poisoned
+    if list_all (is_known slots) (looks_of site rule.right)
+    then slot_of (right_value site shape.base (λ c. done_value (slots c)) rule) else Poisoned

@@ -83,7 +83,8 @@ drop_table state name =
 -- the bytes of a file that is not too long
 abbrev pub file_bytes : Files → List ℕ → Result (List ℕ) Refused
 file_bytes files name =
-    ok_or (files.bytes_of name) refused.NoFile >>= (λ bytes. if nat_lt MAX_FILE_BYTES (length bytes) then Err refused.FileTooLong else Ok bytes)
+    ok_or (files.bytes_of name) refused.NoFile >>= (λ bytes.
+    if nat_lt MAX_FILE_BYTES (length bytes) then Err refused.FileTooLong else Ok bytes)
 
 abbrev pub load_step : Files → State → List ℕ → List ℕ → Result Printed Refused
 load_step files state name file =
@@ -102,7 +103,8 @@ abbrev pub taken : Files → State → Bound → Result Printed Refused
 taken files state (bound.CreateTable def) =
     Ok (record state { tables = state.tables ++ record { name = def.name; schema = def.schema; rows = [] } ∷ [] }, Done ∷ [])
 taken files state (bound.DropTable name) = drop_table state name
-taken files state (bound.CreateView name query) = Ok (record state { views = state.views ++ record { name = name; query = query } ∷ [] }, Done ∷ [])
+taken files state (bound.CreateView name query) =
+    Ok (record state { views = state.views ++ record { name = name; query = query } ∷ [] }, Done ∷ [])
 taken files state (bound.DropView name) = Ok (record state { views = filter (λ view. not (is_name name view.name)) state.views }, Done ∷ [])
 taken files state (bound.Change change) = change_step state change
 taken files state (bound.Load table file) = load_step files state table file

@@ -1,20 +1,18 @@
 -- What an expression is worth depends on its leaves alone.
-use Rattle.std.proofs.Common.{◌≡◌, ℕ, List, [], ◌∷◌, ◌++◌, map, Result, Ok, Err, Option, Some, None, refl, ap, sym, subst, ◌∙◌}
-use Rattle.mq_values.specs.declared.operators.ProdOp.{ProdOp}
-use Rattle.mq_values.specs.declared.operators.SumOp.{SumOp}
-use Rattle.mq_ir.specs.declared.expression.Expr.{Expr, ind-Expr, map-Expr, para-Expr, para-roll-Expr, roll-Expr}
+use Rattle.std.proofs.Common.{◌≡◌, List, [], ◌∷◌, ◌++◌, map, Ok, Some, None, refl, ap, sym, subst, ◌∙◌}
+use Rattle.mq_ir.specs.declared.expression.Expr.{Expr, ind-Expr, map-Expr, roll-Expr}
 use Rattle.mq_ir.specs.declared.expression.Expr.TheOpen as layer
 use Rattle.mq_ir.specs.declared.expression.Leaf.{Leaf}
 use Rattle.mq_ir.specs.declared.expression.Test.{Test}
-use Rattle.mq_ir.specs.declared.expression.BoundArm.{BoundArm, para-BoundArm, para-roll-BoundArm, roll-BoundArm}
-use Rattle.mq_ir.specs.declared.expression.BoundProd.{BoundProd, para-BoundProd, para-roll-BoundProd, roll-BoundProd}
-use Rattle.mq_ir.specs.declared.expression.BoundSum.{BoundSum, para-BoundSum, para-roll-BoundSum, roll-BoundSum}
+use Rattle.mq_ir.specs.declared.expression.BoundArm.{BoundArm, roll-BoundArm}
+use Rattle.mq_ir.specs.declared.expression.BoundProd.{BoundProd, roll-BoundProd}
+use Rattle.mq_ir.specs.declared.expression.BoundSum.{BoundSum, roll-BoundSum}
 use Rattle.mq_ir.specs.Expression.{Outcome, layer_found, taken_if, worth_of}
 use Rattle.mq_ir.specs.Conditions.{conjunction, disjunction, compared_to, between, member, case_of}
 use Rattle.mq_ir.specs.Looks.{Leaves, all_leaves, layer_leaves, leaves_of}
 use Rattle.mq_ir.specs.Operators.{added, multiplied, chained, of_number, called}
 use Rattle.mq_ir.specs.Results.{◌>>=◌}
-use Rattle.mq_ir.specs.Worth.{Found, a_value, a_truth, as_value, as_truth, is_flagged}
+use Rattle.mq_ir.specs.Worth.{a_value, a_truth, as_value, as_truth, is_flagged}
 use Rattle.mq_values.specs.Truth.{opposite, negated_if}
 use Rattle.mq_values.specs.Convert.{cast_of}
 use Rattle.mq_values.specs.Arithmetic.{negation_of}
@@ -50,7 +48,7 @@ module _ (f g : Leaf → Outcome) where
   parts_alike leaves wf wg [] h = refl
   parts_alike leaves wf wg (e ∷ es) h =
       λ i. e.1 (same_left (leaves e.0) (all_leaves (beside leaves wf wg leaves es)) h) i
-          ∷ parts_alike leaves wf wg es (same_right (leaves e.0) (all_leaves (beside leaves wf wg leaves es)) h) i
+      ∷ parts_alike leaves wf wg es (same_right (leaves e.0) (all_leaves (beside leaves wf wg leaves es)) h) i
 
   abbrev Alike : Expr → Type 0
   Alike e = SameOn f g (leaves_of e) → worth_of f e ≡ worth_of g e

@@ -1,24 +1,17 @@
 -- The leaves and the worth of an expression at one layer, and of its arms and terms.
-use Rattle.std.proofs.Common.{◌≡◌, ℕ, List, [], ◌∷◌, ◌++◌, map, Result, Ok, Err, Option, Some, None, refl, ap, sym, subst, ◌∙◌}
+use Rattle.std.proofs.Common.{◌≡◌, ◌++◌}
 use Rattle.mq_values.specs.declared.operators.ProdOp.{ProdOp}
 use Rattle.mq_values.specs.declared.operators.SumOp.{SumOp}
-use Rattle.mq_ir.specs.declared.expression.Expr.{Expr, ind-Expr, map-Expr, para-Expr, para-roll-Expr, roll-Expr}
+use Rattle.mq_ir.specs.declared.expression.Expr.{Expr, map-Expr, para-roll-Expr, roll-Expr}
 use Rattle.mq_ir.specs.declared.expression.Expr.TheOpen as layer
 use Rattle.mq_ir.specs.declared.expression.Leaf.{Leaf}
 use Rattle.mq_ir.specs.declared.expression.Test.{Test}
 use Rattle.mq_ir.specs.declared.expression.BoundArm.{BoundArm, para-BoundArm, para-roll-BoundArm, roll-BoundArm}
 use Rattle.mq_ir.specs.declared.expression.BoundProd.{BoundProd, para-BoundProd, para-roll-BoundProd, roll-BoundProd}
 use Rattle.mq_ir.specs.declared.expression.BoundSum.{BoundSum, para-BoundSum, para-roll-BoundSum, roll-BoundSum}
-use Rattle.mq_ir.specs.Expression.{Outcome, layer_found, taken_if, worth_of}
-use Rattle.mq_ir.specs.Conditions.{conjunction, disjunction, compared_to, between, member, case_of}
-use Rattle.mq_ir.specs.Looks.{Leaves, all_leaves, layer_leaves, leaves_of}
-use Rattle.mq_ir.specs.Operators.{added, multiplied, chained, of_number, called}
-use Rattle.mq_ir.specs.Results.{◌>>=◌}
-use Rattle.mq_ir.specs.Worth.{Found, a_value, a_truth, as_value, as_truth, is_flagged}
-use Rattle.mq_values.specs.Truth.{opposite, negated_if}
-use Rattle.mq_values.specs.Convert.{cast_of}
-use Rattle.mq_values.specs.Arithmetic.{negation_of}
-use Rattle.mq_values.specs.DimTests.{is_null}
+use Rattle.mq_ir.specs.Expression.{Outcome, layer_found, worth_of}
+use Rattle.mq_ir.specs.Looks.{Leaves, layer_leaves, leaves_of}
+use Rattle.mq_ir.specs.Worth.{Found}
 
 abbrev pub arm_leaves : BoundArm → Leaves
 arm_leaves =

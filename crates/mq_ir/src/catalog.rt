@@ -31,7 +31,11 @@ impl Catalog {
     pub fn table(&self, name: &str) -> Option<&Schema>
         ensures { option_copied result ≡ spec.schema_of self.now name.now }
     {
-        let entry = self.tables.as_slice().iter().find(|entry| entry.name.as_str() == name)?;
+        let entry = self
+            .tables
+            .as_slice()
+            .iter()
+            .find(|entry| entry.name.as_str() == name)?;
         Some(&entry.schema)
     }
 
@@ -39,6 +43,9 @@ impl Catalog {
     pub fn is_view(&self, name: &str) -> bool
         ensures { result ≡ spec.is_view self.now name.now }
     {
-        self.views.as_slice().iter().any(|entry| entry.name.as_str() == name)
+        self.views
+            .as_slice()
+            .iter()
+            .any(|entry| entry.name.as_str() == name)
     }
 }

@@ -28,8 +28,6 @@ pub fn steps_read_their_looks()
 /// One rule makes the same of a target over two cell sets and two inputs that agree at its looks. The call does
 /// nothing: its contract is the law (docs/MEANING.md, "Automatic order").
 pub fn same_looks_make_the_same_step()
-    ensures {
-        (model : Model) (shape : PartShape) (other : PartShape) (turn : ℕ) (rule : Rule) (target : Tuple)
-        → SameStep model shape other turn rule target
-    }
+    ensures { (model : Model) (shape : PartShape) (other : PartShape) (turn : ℕ) (rule : Rule) (target : Tuple)
+        → SameStep model shape other turn rule target }
 {}

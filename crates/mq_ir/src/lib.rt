@@ -7,6 +7,7 @@ mod catalog;
 mod expression;
 mod laws_of_order;
 mod laws_of_reads;
+mod laws_of_results;
 mod laws_of_statements;
 mod limit_numbers;
 mod query;
@@ -19,15 +20,17 @@ pub use laws_of_reads::{
     presence_is_of_the_input, reads_are_among_looks, same_looks_make_the_same_step,
     steps_read_their_looks,
 };
+pub use laws_of_results::worked_results;
 pub use laws_of_statements::refusals_alter_nothing;
 pub use limit_numbers::{
     LIMIT_OF_COLUMNS, LIMIT_OF_DIMENSIONS, LIMIT_OF_FROM_ITEMS, LIMIT_OF_MEASURES,
     LIMIT_OF_PARTITION_COLUMNS, LIMIT_OF_PRINTED_COLUMNS, LIMIT_OF_REFERENCES, LIMIT_OF_ROWS,
-    LIMIT_OF_RULES, LIMIT_OF_SCALE, LIMIT_OF_TABLES, LIMIT_OF_TURNS, LIMIT_OF_VALUES, LIMIT_OF_VIEWS,
+    LIMIT_OF_RULES, LIMIT_OF_SCALE, LIMIT_OF_TABLES, LIMIT_OF_TURNS, LIMIT_OF_VALUES,
+    LIMIT_OF_VIEWS,
 };
 pub use query::{
     Answer, BoundQuery, CellName, ColRef, FromPart, ItemPart, Iterate, Left, LeftItem, ListSource,
-    Look, Model, ModelPart, OutCell, PartInput, PartResult, PartShape, PlainPart, RefArray, RefPart,
-    RowList, Rule, SingleLeft, SinglePlace, Slot,
+    Look, Model, ModelPart, OutCell, PartInput, PartResult, PartShape, PlainPart, RefArray,
+    RefPart, RowList, Rule, SingleLeft, SinglePlace, Slot,
 };
 pub use statement::{Bound, Change, Column, Row, Schema, TableDef};
