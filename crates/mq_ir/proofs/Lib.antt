@@ -1,2 +1,7 @@
+pub mod ConvertLemmas
+pub mod GroupLemmas
+pub mod KeyLemmas
+pub mod LeftLemmas
+pub mod RowLemmas
 pub mod StatementLemmas
 pub mod WorkedLemmas

@@ -17,6 +17,7 @@ pub mod Items
 pub mod Iteration
 pub mod Keys
 pub mod LeavesLaws
+pub mod LeftLaws
 pub mod Lines
 pub mod Looks
 pub mod Names
@@ -33,6 +34,7 @@ pub mod References
 pub mod Results
 pub mod RoundLaws
 pub mod Rounds
+pub mod RowLaws
 pub mod Sequential
 pub mod Shape
 pub mod Slots
