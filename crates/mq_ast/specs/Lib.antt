@@ -1,5 +1,3 @@
--- Each name of the files below, but for the laws, is also a name of this module.
-pub mod Trees
 pub mod Tokens
 pub mod Spelling
 pub mod Continuing
@@ -14,19 +12,5 @@ pub mod GrammarRule
 pub mod GrammarHead
 pub mod GrammarModel
 pub mod GrammarStatement
+pub mod Prelude
 pub mod Laws
-pub use Trees.*
-pub use Tokens.*
-pub use Spelling.*
-pub use Continuing.*
-pub use Chains.*
-pub use Calls.*
-pub use OneTree.*
-pub use GrammarNames.*
-pub use GrammarLists.*
-pub use GrammarExpression.*
-pub use GrammarQuery.*
-pub use GrammarRule.*
-pub use GrammarHead.*
-pub use GrammarModel.*
-pub use GrammarStatement.*

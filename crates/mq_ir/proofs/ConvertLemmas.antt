@@ -1,5 +1,5 @@
 -- A value that is converted twice is as converted once.
-use Rattle.std.proofs.Common.{◌≡◌, ℕ, ◌-◌, ◌^◌, Bool, true, false, ℤ, pos, ◌*ℤ◌, Result, Ok, Err, refl, ap, ◌∙◌, subst, arith, if◌then◌else◌}
+use Rattle.std.proofs.Common.{◌≡◌, ℕ, ◌-◌, ◌^◌, Bool, true, false, ℤ, pos, ◌*ℤ◌, Ok, Err, refl, ap, ◌∙◌, subst, arith, if◌then◌else◌}
 use Rattle.std.proofs.Math.IntN.{*ℤ-one}
 use Rattle.std.proofs.Math.Nat.{sub_self}
 use Rattle.std.proofs.lemmas.Bool.Decides.{nat_tests}
@@ -9,7 +9,6 @@ use Rattle.mq_values.specs.Answers.{result_map}
 use Rattle.mq_values.specs.Arithmetic.{in_range, rescaled, rounded}
 use Rattle.mq_values.specs.Convert.{cast_of, number_at}
 use Rattle.mq_values.specs.Number.{Number, is_mantissa, mant_at, text_of_number}
-use Rattle.mq_values.specs.declared.faults.ValueFault.{ValueFault}
 use Rattle.mq_values.specs.declared.faults.ValueFault.TheVariants.{Overflow}
 use Rattle.mq_values.specs.declared.limits.TheConstants.{MAX_SCALE}
 use Rattle.mq_values.specs.declared.value.Kind.{Kind}

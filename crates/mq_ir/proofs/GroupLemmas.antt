@@ -1,10 +1,10 @@
 -- Each base row is in one group.
-use Rattle.std.proofs.Common.{◌≡◌, ◌≢◌, ℕ, zero, suc, ◌+◌, ◌<◌, ◌≤◌, ◌==◌, List, [], ◌∷◌, Bool, true, false, ◌||◌, cond, length, map, refl, sym, ap, ◌∙◌, arith}
+use Rattle.std.proofs.Common.{◌≡◌, ◌≢◌, ℕ, zero, suc, ◌+◌, ◌<◌, ◌≤◌, ◌==◌, List, [], ◌∷◌, Bool, true, false, ◌||◌, cond, length, map, refl, ap, ◌∙◌, arith}
 use Rattle.std.specs.Cmp.{unsigned_Decides}
 use Rattle.std.specs.List.{enumerate_from, filter, list_any, range_with_len}
 use Rattle.std.proofs.lemmas.Bool.Decides.{nat_tests}
 use Rattle.mq_ir.specs.declared.query.ColRef.{ColRef}
-use Rattle.mq_ir.specs.Items.{BaseRow, group_key, groups_of, rows_with}
+use Rattle.mq_ir.specs.Items.{BaseRow, group_key, rows_with}
 use Rattle.mq_ir.specs.Keys.{Tuple, each_first, is_among, is_same}
 use Rattle.mq_ir.specs.RowLaws.{RowsHaveOneGroup, groups_with, times}
 use Rattle.mq_ir.proofs.KeyLemmas.{once_if, same_is, same_itself, times_first}
@@ -69,7 +69,7 @@ module _ (key : BaseRow → Tuple) where
           record {
             row = x;
             among = ap (λ b. b || is_among (map key xs) (key x)) (same_itself (key x));
-            stands = λ k. here k (is_same k (key x))
+            stands = λ k. here k (is_same k (key x));
           }
         where
           here : (k : Tuple) (b : Bool) → stands_with k b 0 ≡ b
@@ -80,7 +80,7 @@ module _ (key : BaseRow → Tuple) where
           record {
             row = r.row;
             among = later (is_same (key r.row) (key x)) r.among;
-            stands = λ k. there k (is_same k (key x)) ∙ r.stands k
+            stands = λ k. there k (is_same k (key x)) ∙ r.stands k;
           }
         where
           later : (b : Bool) {c : Bool} → c ≡ true → b || c ≡ true

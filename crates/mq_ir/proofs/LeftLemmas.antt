@@ -1,5 +1,5 @@
 -- Targets and combinations.
-use Rattle.std.proofs.Common.{◌≡◌, ℕ, suc, ◌+◌, ◌*◌, ◌≤◌, List, [], ◌∷◌, ◌++◌, Bool, true, false, not, ◌&&◌, cond, length, map, refl, sym, ap, ◌∙◌, arith}
+use Rattle.std.proofs.Common.{◌≡◌, suc, ◌*◌, ◌≤◌, List, [], ◌∷◌, ◌++◌, Bool, true, false, not, ◌&&◌, cond, length, map, refl, sym, ap, ◌∙◌, arith}
 use Rattle.std.specs.Prelude.{if◌then◌else◌}
 use Rattle.std.specs.List.{filter, flat_map}
 use Rattle.std.proofs.Math.Nat.{suc-mul}
@@ -10,11 +10,10 @@ use Rattle.mq_values.specs.declared.operators.Mode.TheVariants.{Update, Upsert, 
 use Rattle.mq_ir.specs.declared.query.SingleLeft.{SingleLeft}
 use Rattle.mq_ir.specs.Combinations.{combinations}
 use Rattle.mq_ir.specs.Keys.{Tuple, each_first, is_among, is_same}
-use Rattle.mq_ir.specs.LeftLaws.{CountsByProduct, CreatesWhatIsMissing, LastTurnsFastest, SymbolCreatesNone, UpdateCreatesNone, product_of}
-use Rattle.mq_ir.specs.Partitions.{ascending}
+use Rattle.mq_ir.specs.LeftLaws.{CountsByProduct, CreatesWhatIsMissing, LastTurnsFastest, SymbolCreatesNone, UpdateCreatesNone}
 use Rattle.mq_ir.specs.RowLaws.{times}
 use Rattle.mq_ir.specs.Targets.{cmp_targets, is_symbolic, meets_left, meets_symbols, named, projected, targets, targets_in}
-use Rattle.mq_ir.proofs.KeyLemmas.{among_alike, among_none, among_some, once_if, same_itself, times_ascending, times_first, times_kept, times_lost, times_more}
+use Rattle.mq_ir.proofs.KeyLemmas.{among_none, among_some, once_if, same_itself, times_ascending, times_first, times_kept, times_lost, times_more}
 
 abbrev missing : List Tuple → Tuple → Bool
 missing set key = not (is_among set key)

@@ -1,8 +1,8 @@
 -- Partitions, and conversions.
-use Rattle.std.proofs.Common.{◌≡◌, ℕ, zero, suc, ◌+◌, ◌-◌, ◌≤◌, ◌==◌, List, [], ◌∷◌, Bool, true, false, not, ◌||◌, cond, length, map, take, Result, Ok, Err, Ordering, Less, Equal, Greater, refl, sym, ap, ◌∙◌, arith}
+use Rattle.std.proofs.Common.{◌≡◌, ℕ, ◌≤◌, ◌==◌, List, [], ◌∷◌, Bool, true, false, ◌||◌, map, take, Ordering, Less, Equal, Greater, refl, sym, ap, ◌∙◌, arith}
 use Rattle.std.specs.Prelude.{if◌then◌else◌}
 use Rattle.std.specs.Cmp.{unsigned_Decides}
-use Rattle.std.specs.List.{AllByRecursion, filter}
+use Rattle.std.specs.List.{AllByRecursion}
 use Rattle.std.specs.List.Sorted.{IsStrictlySortedBy}
 use Rattle.std.specs.Ordering.{is_eq, is_gt, ordering_reverse}
 use Rattle.mq_values.specs.Order.{cmp_key}
@@ -10,7 +10,7 @@ use Rattle.mq_values.specs.OrderLaws.{key_total}
 use Rattle.mq_ir.specs.Keys.{Tuple, each_first, is_among, is_same}
 use Rattle.mq_ir.specs.Partitions.{ascending, partition_keys, placed}
 use Rattle.mq_ir.specs.RowLaws.{PartitionsAscend, RowsHaveOnePartition, times}
-use Rattle.mq_ir.proofs.KeyLemmas.{among_alike, among_none, among_some, once_if, same_itself, times_ascending, times_first, times_kept, times_lost, times_more}
+use Rattle.mq_ir.proofs.KeyLemmas.{among_alike, among_some, once_if, same_itself, times_ascending, times_first, times_more}
 
 -- x comes before each of these
 abbrev Below : Tuple → List Tuple → Type 0

@@ -28,7 +28,6 @@ pub mod Partitions
 pub mod Placed
 pub mod Printing
 pub mod ReadLaws
-pub mod ReadProofs
 pub mod Reads
 pub mod References
 pub mod Results

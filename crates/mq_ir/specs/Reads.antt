@@ -1,5 +1,5 @@
 -- What the leaves of a right side are worth.
-use Rattle.std.specs.Prelude.{ℕ, pos, List, [], Bool, ◌&&◌, if◌then◌else◌, not, Result, Ok, map, slice_get, slice_index_or, length, take, drop}
+use Rattle.std.specs.Prelude.{ℕ, List, [], Result, Ok, map, slice_get, slice_index_or, length, take, drop}
 use Rattle.std.specs.Option.{option_map_or}
 use Rattle.std.specs.List.{filter, zip}
 use Rattle.mq_values.specs.Aggregate.{aggregate, is_value}

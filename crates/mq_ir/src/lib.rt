@@ -5,9 +5,11 @@
 
 mod catalog;
 mod expression;
+mod laws_of_left_sides;
 mod laws_of_order;
 mod laws_of_reads;
 mod laws_of_results;
+mod laws_of_rows;
 mod laws_of_statements;
 mod limit_numbers;
 mod query;
@@ -15,12 +17,19 @@ mod statement;
 
 pub use catalog::{Catalog, TableEntry, ViewEntry};
 pub use expression::{BoundArm, BoundProd, BoundSum, Expr, Leaf, RangePlace, Test, Worth};
+pub use laws_of_left_sides::{
+    combinations_are_counted, last_list_turns_fastest, missing_targets_are_created,
+    symbolic_upsert_creates_none, update_creates_none,
+};
 pub use laws_of_order::{affected_is_least_closed, levelled_stays, rounds_are_enough};
 pub use laws_of_reads::{
     presence_is_of_the_input, reads_are_among_looks, same_looks_make_the_same_step,
     steps_read_their_looks,
 };
 pub use laws_of_results::worked_results;
+pub use laws_of_rows::{
+    partitions_ascend, rows_have_one_group, rows_have_one_partition, values_convert_once,
+};
 pub use laws_of_statements::refusals_alter_nothing;
 pub use limit_numbers::{
     LIMIT_OF_COLUMNS, LIMIT_OF_DIMENSIONS, LIMIT_OF_FROM_ITEMS, LIMIT_OF_MEASURES,

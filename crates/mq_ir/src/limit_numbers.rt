@@ -1,4 +1,4 @@
-//! The numbers under which a refusal names the limits of the language (docs/LANGUAGE.md, "Refusals").
+//! The numbers under which a refusal names the limits of the language (docs/LANGUAGE.md, "The whole language").
 
 pub const LIMIT_OF_TABLES: u32 = 1;
 

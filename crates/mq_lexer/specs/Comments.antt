@@ -1,6 +1,7 @@
 -- What comments are, apart from any way to find their end.
 use Rattle.std.specs.Prelude.{◌≡◌, ℕ, ◌+◌, ◌<◌, ◌≤◌, true, length, take, slice_index, ◌⊎◌}
 use Rattle.std.specs.List.{list_all}
+use Rattle.mq_values.specs.Bytes.{LINE_FEED, SLASH, STAR}
 use Rattle.mq_lexer.specs.declared.sorts.Sort.TheVariants as sort
 use Rattle.mq_lexer.specs.declared.sorts.Front.{Front}
 use Rattle.mq_lexer.specs.Fronts.{Text, a_token, a_gap}
@@ -11,11 +12,11 @@ pub record IsLineComment (z : Text) (f : Front) : Type 0 where
   pub gap : f ≡ a_gap f.len
   pub within : f.len ≤ length z
   pub no_lf : list_all is_not_lf (take f.len z) ≡ true
-  pub lf : f.len < length z → slice_index z f.len ≡ 10
+  pub lf : f.len < length z → slice_index z f.len ≡ LINE_FEED
 
 -- `*/` stands here
 abbrev pub ClosesAt : Text → ℕ → Type 0
-ClosesAt z k = (slice_index z k ≡ 42) × (slice_index z (k + 1) ≡ 47)
+ClosesAt z k = (slice_index z k ≡ STAR) × (slice_index z (k + 1) ≡ SLASH)
 
 -- up to behind the first `*/` that stands behind the opening
 pub record IsClosed (z : Text) (f : Front) : Type 0 where

@@ -3,6 +3,7 @@ use Rattle.std.proofs.Common.{◌≡◌, ℕ, ◌+◌, ◌-◌, ◌*◌, ◌<◌
 use Rattle.std.specs.Char.{is_ascii_digit}
 use Rattle.std.specs.Prelude.{nat_le}
 use Rattle.std.specs.List.{fold}
+use Rattle.mq_values.specs.Bytes.{DIGIT_ZERO}
 use Rattle.mq_lexer.specs.Fronts.{Text}
 use Rattle.mq_lexer.specs.Numbers.{with_digit}
 
@@ -18,9 +19,9 @@ pub too_great : (n limit : ℕ) (z : Text) → limit < n → nat_le (fold with_d
 too_great n limit z above = let grows : n ≤ fold with_digit n z = fold_grows n z in grind arith
 
 -- a digit more makes the number too great
-pub digit_above : (v limit : ℕ) (z : Text) → 1 ≤ length z → is_ascii_digit (get_or z 0 0) ≡ true → limit < v * 10 + (get_or z 0 0 - 48) → limit < fold with_digit v z
+pub digit_above : (v limit : ℕ) (z : Text) → 1 ≤ length z → is_ascii_digit (get_or z 0 0) ≡ true → limit < v * 10 + (get_or z 0 0 - DIGIT_ZERO) → limit < fold with_digit v z
 digit_above v limit [] l d h = absurd (omega arith)
 digit_above v limit (b ∷ z) l d h =
-    let e : with_digit v b ≡ v * 10 + (b - 48) = rw d refl in
+    let e : with_digit v b ≡ v * 10 + (b - DIGIT_ZERO) = rw d refl in
     let g = fold_grows (with_digit v b) z in
     omega arith

@@ -2,6 +2,7 @@
 use Rattle.std.specs.Prelude.{ℕ, ◌+◌, ◌-◌, ◌*◌, Bool, not, ◌&&◌, if◌then◌else◌, ◌==◌, nat_le, [], ◌∷◌, length, take, drop, slice_index, Option, Some, None, pos}
 use Rattle.std.specs.Char.{is_ascii_digit}
 use Rattle.std.specs.List.{prefix_len, fold}
+use Rattle.mq_values.specs.Bytes.{DIGIT_ZERO, POINT}
 use Rattle.mq_values.specs.declared.limits.TheConstants.{MAX_MANTISSA, MAX_SCALE}
 use Rattle.mq_values.specs.Number.{Number}
 use Rattle.mq_lexer.specs.declared.sorts.Sort.TheVariants as sort
@@ -13,11 +14,11 @@ digits_len z at = prefix_len is_ascii_digit (drop at z)
 
 -- a point with the digits behind it
 unfoldable pub fraction_len : Text → ℕ → ℕ
-fraction_len z at = let n = digits_len z (at + 1) in if slice_index z at == 46 && not (n == 0) then n + 1 else 0
+fraction_len z at = let n = digits_len z (at + 1) in if slice_index z at == POINT && not (n == 0) then n + 1 else 0
 
 -- the number that digits make, where a point counts nothing
 abbrev pub with_digit : ℕ → ℕ → ℕ
-with_digit n b = if is_ascii_digit b then n * 10 + (b - 48) else n
+with_digit n b = if is_ascii_digit b then n * 10 + (b - DIGIT_ZERO) else n
 
 abbrev pub is_small : Text → Bool
 is_small z = nat_le (fold with_digit 0 z) MAX_MANTISSA
@@ -36,7 +37,7 @@ is_number z = let whole = digits_len z 0 in not (length z == 0) && whole + fract
 -- how many digits stand behind the point
 abbrev pub places : Text → ℕ
 places [] = 0
-places (b ∷ z) = if b == 46 then length z else places z
+places (b ∷ z) = if b == POINT then length z else places z
 
 -- a number's digits are its mantissa, those behind the point its scale
 abbrev pub number_of : Text → Option Number

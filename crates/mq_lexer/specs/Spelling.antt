@@ -3,6 +3,7 @@ use Rattle.std.specs.Prelude.{◌≡◌, ◌≢◌, ℕ, ◌<◌, ◌≤◌, Boo
 use Rattle.std.specs.Char.{is_ascii_digit, is_ascii_alphabetic}
 use Rattle.std.specs.List.{list_all, list_any}
 use Rattle.std.specs.Str.{bytes_eq}
+use Rattle.mq_values.specs.Bytes.{MINUS, POINT, QUOTE, SLASH, STAR}
 use Rattle.mq_values.specs.declared.limits.TheConstants.{MAX_SCALE, MAX_TEXT_BYTES, MAX_WORD_BYTES}
 use Rattle.mq_lexer.specs.declared.sorts.Sort.{Sort}
 use Rattle.mq_lexer.specs.declared.sorts.Sort.TheVariants as sort
@@ -28,7 +29,7 @@ pub record SpellsWhole (t : Text) (fits : Bool) : Type 0 where
 pub record SpellsFraction (t : Text) (fits : Bool) : Type 0 where
   pub whole : Text
   pub fraction : Text
-  pub is : t ≡ whole ++ 46 ∷ fraction
+  pub is : t ≡ whole ++ POINT ∷ fraction
   pub some : 0 < length fraction
   pub whole_digits : list_all is_ascii_digit whole ≡ true
   pub fraction_digits : list_all is_ascii_digit fraction ≡ true
@@ -37,12 +38,12 @@ pub record SpellsFraction (t : Text) (fits : Bool) : Type 0 where
 -- with each quote as two
 abbrev pub doubled : Text → Text
 doubled [] = []
-doubled (b ∷ c) = if b == 39 then 39 ∷ 39 ∷ doubled c else b ∷ doubled c
+doubled (b ∷ c) = if b == QUOTE then QUOTE ∷ QUOTE ∷ doubled c else b ∷ doubled c
 
 -- a quote, the content with each quote doubled, a quote; few enough bytes of content, and no control character
 pub record SpellsText (t : Text) (fits : Bool) : Type 0 where
   pub content : Text
-  pub is : t ≡ 39 ∷ doubled content ++ 39 ∷ []
+  pub is : t ≡ QUOTE ∷ doubled content ++ QUOTE ∷ []
   pub limit : fits ≡ (nat_le (length content) MAX_TEXT_BYTES && list_all is_plain content)
 
 abbrev pub signs : List Text
@@ -78,8 +79,8 @@ pub record IsLongest (z : Text) (s : Sort) (n : ℕ) : Type 0 where
 pub record IsUnreadable (z : Text) (s : Sort) (n : ℕ) : Type 0 where
   pub sort : s ≡ sort.Bad
   pub none : NoneLonger z 0
-  pub quote : slice_index z 0 ≡ 39 → n ≡ length z
-  pub other : slice_index z 0 ≢ 39 → n ≡ char_len z
+  pub quote : slice_index z 0 ≡ QUOTE → n ≡ length z
+  pub other : slice_index z 0 ≢ QUOTE → n ≡ char_len z
 
 -- what stands at the front is the longest token there, or cannot be read
 abbrev pub IsTokenOf : Text → Front → Type 0
@@ -87,4 +88,4 @@ IsTokenOf z f = (s : Sort) × (f ≡ a_token s f.len) × (IsLongest z s f.len �
 
 -- a blank or a comment
 abbrev pub begins_gap : Text → Bool
-begins_gap z = is_blank (slice_index z 0) || (slice_index z 0 == 45 && slice_index z 1 == 45) || (slice_index z 0 == 47 && slice_index z 1 == 42)
+begins_gap z = is_blank (slice_index z 0) || (slice_index z 0 == MINUS && slice_index z 1 == MINUS) || (slice_index z 0 == SLASH && slice_index z 1 == STAR)

@@ -2,6 +2,7 @@
 use Rattle.std.specs.Prelude.{ℕ, zero, suc, ◌+◌, ◌-◌, ◌^◌, min, Bool, true, false, if◌then◌else◌, ◌==◌, List, [], ◌∷◌, take, Option}
 use Rattle.std.specs.List.{filter_map}
 use Rattle.std.specs.Option.{option_map}
+use Rattle.mq_values.specs.Bytes.{LINE_FEED}
 use Rattle.mq_lexer.specs.declared.sorts.Sort.{Sort}
 use Rattle.mq_lexer.specs.declared.sorts.Sort.TheVariants as sort
 use Rattle.mq_lexer.specs.declared.sorts.Front.{Front}
@@ -11,9 +12,13 @@ use Rattle.mq_lexer.specs.Pieces.{front}
 pub use Rattle.mq_lexer.specs.Fronts.{Text}
 pub use Rattle.mq_lexer.specs.Numbers.{with_digit, is_small, places, number_of, is_number}
 
--- the line behind a byte: LF begins the next one, and past 2^32 - 1 the count stands still
+-- there the count of lines stands still
+abbrev pub LAST_LINE : ℕ
+LAST_LINE = 2 ^ 32 - 1
+
+-- the line behind a byte: LF begins the next one
 abbrev pub line_after : ℕ → ℕ → ℕ
-line_after line b = if b == 10 then min (line + 1) (2 ^ 32 - 1) else line
+line_after line b = if b == LINE_FEED then min (line + 1) LAST_LINE else line
 
 -- a piece of the text: a token, or what separates tokens where there is no sort
 pub record Piece : Type 0 where

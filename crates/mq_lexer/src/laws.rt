@@ -2,10 +2,11 @@
 
 ghost use Rattle.std.specs.Prelude.{◌≡◌, ◌+◌, ◌-◌, ◌^◌, ◌<◌, ◌==◌, ◌++◌, ◌∷◌, false, true, not, min, List, length, slice_index, filter, All};
 ghost use Rattle.std.specs.List.{flat_map, list_any, count_by};
+ghost use Rattle.mq_values.specs.Bytes.{LINE_FEED, MINUS, SLASH, STAR};
 ghost use Rattle.mq_lexer.specs.Lexemes.{Lexeme};
 ghost use Rattle.mq_lexer.specs.Fronts.{Text, a_gap};
 ghost use Rattle.mq_lexer.specs.Pieces.{front, is_blank};
-ghost use Rattle.mq_lexer.specs.Tokens.{Piece, pieces, tokens, is_readable};
+ghost use Rattle.mq_lexer.specs.Tokens.{LAST_LINE, Piece, pieces, tokens, is_readable};
 ghost use Rattle.mq_lexer.specs.Comments.{IsLineComment, IsBlockComment};
 ghost use Rattle.mq_lexer.specs.Spelling.{IsSpelled, IsTokenOf, begins_gap};
 ghost use Rattle.mq_lexer.specs.Statements.{statements, is_semicolon};
@@ -18,7 +19,7 @@ pub fn pieces_give_the_text_back()
 /// The line of a piece is one more than the count of LF before it, or 2^32 - 1 where it is more.
 pub fn lines_are_counted_by_lf()
     ensures { (z : Text) (before : List Piece) (p : Piece) (behind : List Piece) → pieces z ≡ before ++ p ∷ behind →
-        p.line ≡ min (1 + count_by (λ b. b == 10) (flat_map (λ (p : Piece). p.text) before)) (2 ^ 32 - 1) }
+        p.line ≡ min (1 + count_by (λ b. b == LINE_FEED) (flat_map (λ (p : Piece). p.text) before)) LAST_LINE }
 {}
 
 /// At each place of a text that is no blank and begins no comment the token is the longest that is spelled there.
@@ -31,8 +32,8 @@ pub fn tokens_are_the_longest()
 /// the first `*/` behind it; where there is none it begins a Bad token up to the end. A blank is a gap of one byte.
 pub fn gaps_are_blanks_and_comments()
     ensures blank { (z : Text) → is_blank (slice_index z 0) ≡ true → front z ≡ a_gap 1 }
-    ensures line { (z : Text) → slice_index z 0 ≡ 45 → slice_index z 1 ≡ 45 → IsLineComment z (front z) }
-    ensures block { (z : Text) → slice_index z 0 ≡ 47 → slice_index z 1 ≡ 42 → IsBlockComment z (front z) }
+    ensures line { (z : Text) → slice_index z 0 ≡ MINUS → slice_index z 1 ≡ MINUS → IsLineComment z (front z) }
+    ensures block { (z : Text) → slice_index z 0 ≡ SLASH → slice_index z 1 ≡ STAR → IsBlockComment z (front z) }
 {}
 
 /// Each token that is not Bad has the spelling of its sort, with the limits kept: a word, a number, a text or a sign.

@@ -10,8 +10,8 @@ use Rattle.mq_ast.specs.declared.levels.TheConstants as level
 use Rattle.mq_ast.specs.Continuing.{Stops, Not, Ends}
 use Rattle.mq_ast.specs.Chains.{arm}
 use Rattle.mq_ast.specs.GrammarExpression.{Expr, Whens, whens_end, whens_more}
-use Rattle.mq_ast.proofs.Common.{begin, cut}
-use Rattle.mq_ast.proofs.OneExpression.{whens_stop, expr_same}
+use Rattle.mq_ast.specs.Laws.{begin, cut}
+use Rattle.mq_ast.specs.Laws.{whens_stop, expr_same}
 use Rattle.mq_parse_expr.specs.Reading.{from, Then, No}
 use Rattle.mq_parse_expr.specs.Fronts.{IsSome, SomeWhens}
 use Rattle.mq_parse_expr.proofs.Steps.{here, there, till, as_value, push, none}

@@ -7,18 +7,21 @@ use Rattle.mq_values.specs.declared.operators.Agg.{Agg}
 use Rattle.mq_values.specs.declared.operators.Agg.TheVariants as agg
 use Rattle.mq_lexer.specs.declared.sorts.Token.{Token}
 use Rattle.mq_ast.specs.declared.expressions.E.{E}
+use Rattle.mq_lexer.specs.declared.keywords.Keyword.{Keyword}
 use Rattle.mq_lexer.specs.declared.keywords.Keyword.TheVariants as word
+use Rattle.mq_values.specs.declared.operators.Func.{Func}
 use Rattle.mq_ast.specs.declared.terminals.Symbol.TheVariants as sign
 use Rattle.mq_ast.specs.declared.terminals.Terminal.{Terminal}
 use Rattle.mq_ast.specs.declared.terminals.Terminal.TheVariants as terminal
 use Rattle.mq_ast.specs.Tokens.{Tok, Word, Aggregate, Sign, Name, Num, Text, Bad, terminal_at, rest_of, opener, closer, comma, star}
 use Rattle.mq_ast.specs.declared.levels.TheConstants as level
+use Rattle.mq_ast.specs.Calls.{call_of}
 use Rattle.mq_ast.specs.Continuing.{loose, Stops, Not}
 use Rattle.mq_ast.specs.GrammarLists.{NameE, name}
 use Rattle.mq_ast.specs.GrammarNames.{KindE}
 use Rattle.mq_ast.specs.GrammarExpression.{TestTail, tail_none, tail_null, tail_not_null, tail_present, tail_not_present, tail_any, PrimE, prim_num, prim_text, prim_null, prim_cv, prim_cv_name, prim_turn}
-use Rattle.mq_ast.proofs.Common.{cut}
-use Rattle.mq_ast.proofs.OneExpression.{kind_same}
+use Rattle.mq_ast.specs.Laws.{cut}
+use Rattle.mq_ast.specs.Laws.{kind_same}
 use Rattle.mq_parse_expr.specs.declared.forms.Form.{Form}
 use Rattle.mq_parse_expr.specs.declared.forms.Form.TheVariants as form
 use Rattle.mq_parse_expr.specs.declared.forms.Tail.{Tail}
@@ -27,7 +30,7 @@ use Rattle.mq_parse_expr.specs.declared.forms.IsTest.{IsTest}
 use Rattle.mq_parse_expr.specs.declared.forms.IsTest.TheVariants as is
 use Rattle.mq_parse_expr.specs.Reading.{from, Then, No, Anywhere}
 use Rattle.mq_parse_expr.specs.Names.{IntE, int}
-use Rattle.mq_parse_expr.specs.Forms.{FormInside, TailInside, form_of, tail_of, word_of, IsClosed, IsLeaf}
+use Rattle.mq_parse_expr.specs.Forms.{FormInside, TailInside, form_of_word, form_of, tail_of, IsClosed, IsLeaf}
 use Rattle.mq_parse_expr.specs.Fronts.{Behind, Since, is_front, HeadsAll, NoAll, NoCells, AsKind, as_kind, ToScale, to_scale, NullOrPresent, asks_null, asks_present, IsTestE, asks_any, asks, asks_not, judged}
 use Rattle.mq_parse_expr.proofs.TokenLemmas.{next}
 
@@ -38,7 +41,7 @@ FormFront form.Brackets ts = ts ≡ opener ∷ rest_of ts
 FormFront (form.Aggregate g) ts = ts ≡ Aggregate g ∷ rest_of ts
 FormFront form.Case ts = ts ≡ Word word.Case ∷ rest_of ts
 FormFront form.Cast ts = ts ≡ Word word.Cast ∷ rest_of ts
-FormFront (form.Call c) ts = ts ≡ Word (word_of c) ∷ rest_of ts
+FormFront (form.Call c) ts = ts ≡ Word c ∷ rest_of ts
 FormFront form.Round ts = ts ≡ Word word.Round ∷ rest_of ts
 FormFront form.Cv ts = ts ≡ Word word.Cv ∷ rest_of ts
 FormFront form.Turn ts = ts ≡ Word word.IterationNumber ∷ rest_of ts
@@ -46,6 +49,19 @@ FormFront form.Number ts = terminal_at ts ≡ terminal.Number
 FormFront form.Text ts = terminal_at ts ≡ terminal.Text
 FormFront form.Name ts = terminal_at ts ≡ terminal.Name
 FormFront form.Other ts = Unit {0}
+
+its_word : (o : Option (Func × ℕ)) (k : Keyword) (ts : List Tok) → FormFront (form_of_word o k) (Word k ∷ ts)
+its_word (Some _) k ts = refl
+its_word None word.Null ts = refl
+its_word None word.Case ts = refl
+its_word None word.Cast ts = refl
+its_word None word.Previous ts = refl
+its_word None word.Presentv ts = refl
+its_word None word.Presentnnv ts = refl
+its_word None word.Round ts = refl
+its_word None word.Cv ts = refl
+its_word None word.IterationNumber ts = refl
+its_word None _ ts = tt
 
 its_front : (ts : List Tok) → FormFront (form_of (terminal_at ts)) ts
 its_front [] = tt
@@ -58,21 +74,8 @@ its_front (Sign (sign.Cmp _) ∷ ts) = tt
 its_front (Sign (sign.Sum _) ∷ ts) = tt
 its_front (Sign (sign.Prod _) ∷ ts) = tt
 its_front (Sign _ ∷ ts) = tt
-its_front (Word word.Null ∷ ts) = refl
 its_front (Aggregate _ ∷ ts) = refl
-its_front (Word word.Case ∷ ts) = refl
-its_front (Word word.Cast ∷ ts) = refl
-its_front (Word word.Abs ∷ ts) = refl
-its_front (Word word.Floor ∷ ts) = refl
-its_front (Word word.Length ∷ ts) = refl
-its_front (Word word.Nvl ∷ ts) = refl
-its_front (Word word.Previous ∷ ts) = refl
-its_front (Word word.Presentv ∷ ts) = refl
-its_front (Word word.Presentnnv ∷ ts) = refl
-its_front (Word word.Round ∷ ts) = refl
-its_front (Word word.Cv ∷ ts) = refl
-its_front (Word word.IterationNumber ∷ ts) = refl
-its_front (Word _ ∷ ts) = tt
+its_front (Word k ∷ ts) = its_word (call_of k) k ts
 
 pub form_front : (f : Form) (ts : List Tok) → f ≡ form_of (terminal_at ts) → FormFront f ts
 form_front f ts e = let P : Form → Type 0 = λ x. FormFront x ts in subst P (sym e) (its_front ts)

@@ -1,5 +1,6 @@
 -- Primary expressions: where they read nothing, by their parts.
-use Rattle.std.proofs.Common.{◌≡◌, ◌≢◌, ℕ, ◌+◌, ◌<◌, ◌≤◌, List, [], ◌∷◌, length, refl, sym, ap, ◌∙◌, subst, arith}
+use Rattle.std.proofs.lemmas.Bool.Decides.{eqb_tells}
+use Rattle.std.proofs.Common.{◌≡◌, ◌≢◌, ◌==◌, if◌then◌else◌, Bool, true, false, ◌⊎◌, inl, inr, ℕ, ◌+◌, ◌<◌, ◌≤◌, List, [], ◌∷◌, length, refl, sym, ap, ◌∙◌, subst, arith}
 use Rattle.std.specs.Prelude.{Option, Some, None, Result}
 use Rattle.mq_values.specs.declared.memory.Fail.{Fail}
 use Rattle.mq_values.specs.declared.faults.Refused.{Refused}
@@ -8,12 +9,14 @@ use Rattle.mq_values.specs.Number.{Number}
 use Rattle.mq_values.specs.declared.value.Kind.{Kind}
 use Rattle.mq_values.specs.declared.operators.Agg.{Agg}
 use Rattle.mq_values.specs.declared.operators.Agg.TheVariants as agg
+use Rattle.mq_values.specs.declared.operators.Func.{Func}
 use Rattle.mq_values.specs.declared.operators.Func.TheVariants as func
 use Rattle.mq_ast.specs.declared.expressions.E.{E}
 use Rattle.mq_ast.specs.declared.expressions.E.TheVariants as e
 use Rattle.mq_ast.specs.declared.expressions.Path.{Path}
 use Rattle.mq_ast.specs.declared.expressions.Place.{Place}
 use Rattle.mq_ast.specs.declared.expressions.Arm.{Arm}
+use Rattle.mq_lexer.specs.declared.keywords.Keyword.{Keyword}
 use Rattle.mq_lexer.specs.declared.keywords.Keyword.TheVariants as word
 use Rattle.mq_ast.specs.declared.terminals.Symbol.TheVariants as sign
 use Rattle.mq_ast.specs.declared.terminals.Terminal.{Terminal}
@@ -21,17 +24,16 @@ use Rattle.mq_ast.specs.declared.terminals.Terminal.TheVariants as terminal
 use Rattle.mq_ast.specs.Tokens.{Tok, Word, Aggregate, Sign, Name, Num, terminal_at, rest_of, opener, closer, comma, star}
 use Rattle.mq_ast.specs.declared.levels.TheConstants as level
 use Rattle.mq_ast.specs.Continuing.{loose, Stops, Not, Ends}
+use Rattle.mq_ast.specs.Calls.{call_of}
 use Rattle.mq_ast.specs.Chains.{arm}
 use Rattle.mq_ast.specs.GrammarNames.{PathE, KindE, scale_of}
-use Rattle.mq_ast.specs.GrammarExpression.{Expr, Tuple, Exprs, Brackets, CaseE, Whens, ElseE, tuple, exprs, exprs_end, exprs_more, case_none, case_some, whens_end, whens_more, else_none, else_some, PrimE, prim_num, prim_text, prim_null, prim_path, prim_cell, prim_round, prim_agg, prim_count, prim_range, prim_case, prim_cast, prim_abs, prim_floor, prim_length, prim_to, prim_nvl, prim_cv, prim_cv_name, prim_turn, prim_previous, prim_presentv, prim_presentnnv}
-use Rattle.mq_ast.proofs.Common.{Same, begin, cut}
-use Rattle.mq_ast.proofs.OneExpression.{brackets_front, brackets_stop, whens_front, whens_stop, else_stop, expr_no_star, expr_no_when, name_ends, no_square, path_same, kind_same, stops_when, expr_same, tuple_same, brackets_same, case_same, whens_same, else_same, closed_same}
-use Rattle.mq_parse_expr.specs.declared.forms.Call.{Call}
-use Rattle.mq_parse_expr.specs.declared.forms.Call.TheVariants as call
+use Rattle.mq_ast.specs.GrammarExpression.{Expr, Tuple, Exprs, Brackets, CaseE, Whens, ElseE, tuple, exprs, exprs_end, exprs_more, case_none, case_some, whens_end, whens_more, else_none, else_some, PrimE, prim_num, prim_text, prim_null, prim_path, prim_cell, prim_round, prim_agg, prim_count, prim_range, prim_case, prim_cast, prim_call, prim_to, prim_cv, prim_cv_name, prim_turn, prim_previous, prim_presentv, prim_presentnnv}
+use Rattle.mq_ast.specs.Laws.{Same, begin, cut, none_some, one_call}
+use Rattle.mq_ast.specs.Laws.{brackets_front, brackets_stop, whens_front, whens_stop, else_stop, expr_no_star, expr_no_when, name_ends, no_square, path_same, kind_same, stops_when, expr_same, tuple_same, brackets_same, case_same, whens_same, else_same, closed_same}
 use Rattle.mq_parse_expr.specs.declared.forms.Form.{Form}
 use Rattle.mq_parse_expr.specs.declared.forms.Form.TheVariants as form
 use Rattle.mq_parse_expr.specs.Reading.{No, Anywhere, Gives}
-use Rattle.mq_parse_expr.specs.Forms.{form_of, word_of, called, IsClosed}
+use Rattle.mq_parse_expr.specs.Forms.{form_of_word, form_of, asked, called_by, called, IsClosed}
 use Rattle.mq_parse_expr.specs.Fronts.{Behind, RoundE, round, NoAll, NoCells, CellsOf, AsKind, as_kind, ToScale, to_scale, AtWhen, IsSome, SomeWhens, ElseEnd}
 
 -- a primary expression begins with a form
@@ -47,11 +49,9 @@ prim_form prim_count e = cc
 prim_form (prim_range b) e = cc
 prim_form (prim_case c ds o) e = cc
 prim_form (prim_cast d k) e = cc
-prim_form (prim_abs d) e = cc
-prim_form (prim_floor d) e = cc
-prim_form (prim_length d) e = cc
 prim_form (prim_to d i) e = cc
-prim_form (prim_nvl d f) e = cc
+prim_form (prim_call {k = k} c d l) e =
+    let P : Option (Func × ℕ) → Type 0 = λ o. form.Other ≡ form_of_word o k → ⊥ in subst P (sym c) (λ i. cc) e
 prim_form prim_cv e = cc
 prim_form prim_cv_name e = cc
 prim_form prim_turn e = cc
@@ -78,8 +78,30 @@ prim_rounded (round d) = prim_round d
 pub prim_no_round : {us : List Tok} → No RoundE Anywhere (opener ∷ us) → No PrimE Anywhere (opener ∷ us)
 prim_no_round h a to (prim_round d) s = h _ _ (round d) tt
 
+-- a word that calls a function begins nothing else
+prim_called : {k : Keyword} {f : Func} {n : ℕ} {a : E} {ts to : List Tok} → call_of k ≡ Some (f, n) → PrimE a (Word k ∷ ts) to → (xs : List E) × Tuple xs ts to × (a ≡ e.Call f xs)
+prim_called c (prim_call {xs = xs} c' d l) = let i = one_call c c' in (xs, d, cc)
+prim_called c prim_null = absurd (none_some c)
+prim_called c (prim_case _ _ _) = absurd (none_some c)
+prim_called c (prim_cast _ _) = absurd (none_some c)
+prim_called c (prim_to _ _) = absurd (none_some c)
+prim_called c prim_cv = absurd (none_some c)
+prim_called c prim_cv_name = absurd (none_some c)
+prim_called c prim_turn = absurd (none_some c)
+prim_called c (prim_previous _) = absurd (none_some c)
+prim_called c (prim_presentv _ _ _) = absurd (none_some c)
+prim_called c (prim_presentnnv _ _ _) = absurd (none_some c)
+
 -- primary expressions that end with a token of their own
 pub closed_prim_same : {a a' : E} {ts to to' : List Tok} → IsClosed (form_of (terminal_at ts)) → PrimE a ts to → PrimE a' ts to' → Same a a' to to'
+closed_prim_same i (prim_call c d l) d' =
+    let q = prim_called c d' in
+    let p = tuple_same d q.1 in
+    (cc, p.1)
+closed_prim_same i d (prim_call c' d' l') =
+    let q = prim_called c' d in
+    let p = tuple_same q.1 d' in
+    (cc, p.1)
 closed_prim_same i prim_num prim_num = (refl, refl)
 closed_prim_same i prim_text prim_text = (refl, refl)
 closed_prim_same i prim_null prim_null = (refl, refl)
@@ -98,17 +120,10 @@ closed_prim_same i (prim_cast d k) (prim_cast d' k') =
     let p = expr_same d d' (omega arith) (omega arith) in
     let q = kind_same k (begin KindE (cut p.1) k') in
     (cc, cut q.1)
-closed_prim_same i (prim_abs d) (prim_abs d') = let p = closed_same d d' in (cc, p.1)
-closed_prim_same i (prim_floor d) (prim_floor d') = let p = closed_same d d' in (cc, p.1)
-closed_prim_same i (prim_length d) (prim_length d') = let p = closed_same d d' in (cc, p.1)
 closed_prim_same i (prim_to {n = n} d k) (prim_to {n = n'} d' k') =
     let p = expr_same d d' (omega arith) (omega arith) in
     let m : n ≡ n' = cc in
     (cc, cc)
-closed_prim_same i (prim_nvl d f) (prim_nvl d' f') =
-    let p = expr_same d d' (omega arith) (omega arith) in
-    let q = closed_same f (begin Expr (cut p.1) f') in
-    (cc, q.1)
 closed_prim_same i prim_cv prim_cv = (refl, refl)
 closed_prim_same i prim_cv_name prim_cv_name = (refl, refl)
 closed_prim_same i prim_turn prim_turn = (refl, refl)
@@ -208,13 +223,16 @@ range_no_end mid f l a to (prim_range b) s =
 -- a CAST behind its word
 pub cast_no_open : {ts : List Tok} → Not (terminal.Sign sign.Open) ts → No (Behind (Word word.Cast)) Anywhere ts
 cast_no_open n a to (prim_cast d k) s = n refl
+cast_no_open n a to (prim_call c d l) s = absurd (none_some c)
 
 pub cast_no_expr : {ts : List Tok} → No Expr (Stops level.EXPRESSION) ts → No (Behind (Word word.Cast)) Anywhere (opener ∷ ts)
 cast_no_expr h a to (prim_cast d k) s = h _ _ d (omega arith)
+cast_no_expr h a to (prim_call c d l) s = absurd (none_some c)
 
 pub cast_no_kind : {x : E} {ts mid : List Tok} → Expr x ts mid → Stops level.EXPRESSION mid → No AsKind Anywhere mid → No (Behind (Word word.Cast)) Anywhere (opener ∷ ts)
 cast_no_kind e r h a to (prim_cast d k) s =
     let p = expr_same e d r (omega arith) in h _ _ (begin AsKind p.1 (as_kind k)) tt
+cast_no_kind e r h a to (prim_call c d l) s = absurd (none_some c)
 
 pub cast_prim : {x : E} {k : Kind} {ts mid to : List Tok} → Expr x ts mid → AsKind k mid to → PrimE (e.Cast x k) (Word word.Cast ∷ opener ∷ ts) to
 cast_prim e (as_kind k) = prim_cast e k
@@ -222,81 +240,106 @@ cast_prim e (as_kind k) = prim_cast e k
 -- a ROUND behind its word
 pub rounded_no_open : {ts : List Tok} → Not (terminal.Sign sign.Open) ts → No (Behind (Word word.Round)) Anywhere ts
 rounded_no_open n a to (prim_to d i) s = n refl
+rounded_no_open n a to (prim_call c d l) s = absurd (none_some c)
 
 pub rounded_no_expr : {ts : List Tok} → No Expr (Stops level.EXPRESSION) ts → No (Behind (Word word.Round)) Anywhere (opener ∷ ts)
 rounded_no_expr h a to (prim_to d i) s = h _ _ d (omega arith)
+rounded_no_expr h a to (prim_call c d l) s = absurd (none_some c)
 
 pub rounded_no_scale : {x : E} {ts mid : List Tok} → Expr x ts mid → Stops level.EXPRESSION mid → No ToScale Anywhere mid → No (Behind (Word word.Round)) Anywhere (opener ∷ ts)
 rounded_no_scale e r h a to (prim_to d i) s =
     let p = expr_same e d r (omega arith) in h _ _ (begin ToScale p.1 (to_scale i)) tt
+rounded_no_scale e r h a to (prim_call c d l) s = absurd (none_some c)
 
 pub rounded_prim : {x : E} {n : Number} {ts mid to : List Tok} → Expr x ts mid → ToScale n mid to → PrimE (e.Call (func.Round (scale_of n)) (x ∷ [])) (Word word.Round ∷ opener ∷ ts) to
 rounded_prim e (to_scale i) = prim_to e i
 
 -- a call behind its word
-no_some : {a : E} → None ≡ Some a → ⊥
-no_some e = cc
+told : {m n : ℕ} → ((m == n ≡ true) × (m ≡ n)) ⊎ ((m == n ≡ false) × (m ≢ n)) → m ≡ n → (m == n) ≡ true
+told (inl p) e = p.0
+told (inr p) e = absurd (p.1 e)
 
-call_args : (c : Call) {a : E} {ts to : List Tok} → PrimE a (Word (word_of c) ∷ ts) to → (xs : List E) × Tuple xs ts to × (called c xs ≡ Some a)
-call_args call.Abs (prim_abs {a = x} d) = (x ∷ [], tuple (exprs d exprs_end), refl)
-call_args call.Floor (prim_floor {a = x} d) = (x ∷ [], tuple (exprs d exprs_end), refl)
-call_args call.Length (prim_length {a = x} d) = (x ∷ [], tuple (exprs d exprs_end), refl)
-call_args call.Previous (prim_previous {a = x} d) = (x ∷ [], tuple (exprs d exprs_end), refl)
-call_args call.Nvl (prim_nvl {a = x} {b = y} d f) = (x ∷ y ∷ [], tuple (exprs d (exprs_more f exprs_end)), refl)
-call_args call.PresentV (prim_presentv {a = x} {b = y} {c = z} d f g) = (x ∷ y ∷ z ∷ [], tuple (exprs d (exprs_more f (exprs_more g exprs_end))), refl)
-call_args call.PresentNnv (prim_presentnnv {a = x} {b = y} {c = z} d f g) = (x ∷ y ∷ z ∷ [], tuple (exprs d (exprs_more f (exprs_more g exprs_end))), refl)
+length_is : {m n : ℕ} → m ≡ n → (m == n) ≡ true
+length_is {m} {n} e = told (eqb_tells m n) e
 
-pub call_no_tuple : (c : Call) {ts : List Tok} → No Tuple Anywhere ts → No (Behind (Word (word_of c))) Anywhere ts
-call_no_tuple c h a to d s = let p = call_args c d in h p.0 to p.1 tt
+told_back : {m n : ℕ} → ((m == n ≡ true) × (m ≡ n)) ⊎ ((m == n ≡ false) × (m ≢ n)) → (m == n) ≡ true → m ≡ n
+told_back (inl p) e = p.1
+told_back (inr p) e = absurd cc
 
-pub call_no_count : (c : Call) {xs : List E} {ts mid : List Tok} → Tuple xs ts mid → None ≡ called c xs → No (Behind (Word (word_of c))) Anywhere ts
-call_no_count c e n a to d s =
-    let p = call_args c d in
-    let q = tuple_same e p.1 in no_some (n ∙ (ap (called c) q.0 ∙ p.2))
+length_back : {m n : ℕ} → (m == n) ≡ true → m ≡ n
+length_back {m} {n} e = told_back (eqb_tells m n) e
+
+some_of_true : {b : Bool} {x : E} → b ≡ true → (if b then Some x else None) ≡ Some x
+some_of_true e = cc
+
+call_args : (k : Keyword) {a : E} {ts to : List Tok} → form_of (terminal.Word k) ≡ form.Call k → PrimE a (Word k ∷ ts) to → (xs : List E) × Tuple xs ts to × (called k xs ≡ Some a)
+call_args k i (prim_call {f = f} {n = n} {xs = xs} c d l) =
+    let P : Option (Func × ℕ) → Type 0 = λ o. called_by o k xs ≡ Some (e.Call f xs) in
+    (xs, d, subst P (sym c) (some_of_true (length_is l)))
+call_args _ i prim_null = absurd cc
+call_args _ i (prim_case _ _ _) = absurd cc
+call_args _ i (prim_cast _ _) = absurd cc
+call_args _ i (prim_to _ _) = absurd cc
+call_args _ i prim_cv = absurd cc
+call_args _ i prim_cv_name = absurd cc
+call_args _ i prim_turn = absurd cc
+call_args _ i (prim_previous {a = x} d) = (x ∷ [], tuple (exprs d exprs_end), refl)
+call_args _ i (prim_presentv {a = x} {b = y} {c = z} d f g) = (x ∷ y ∷ z ∷ [], tuple (exprs d (exprs_more f (exprs_more g exprs_end))), refl)
+call_args _ i (prim_presentnnv {a = x} {b = y} {c = z} d f g) = (x ∷ y ∷ z ∷ [], tuple (exprs d (exprs_more f (exprs_more g exprs_end))), refl)
+
+pub call_no_tuple : (k : Keyword) {ts : List Tok} → form_of (terminal.Word k) ≡ form.Call k → No Tuple Anywhere ts → No (Behind (Word k)) Anywhere ts
+call_no_tuple k i h a to d s = let p = call_args k i d in h p.0 to p.1 tt
+
+pub call_no_count : (k : Keyword) {xs : List E} {ts mid : List Tok} → form_of (terminal.Word k) ≡ form.Call k → Tuple xs ts mid → None ≡ called k xs → No (Behind (Word k)) Anywhere ts
+call_no_count k i e n a to d s =
+    let p = call_args k i d in
+    let q = tuple_same e p.1 in none_some (n ∙ (ap (called k) q.0 ∙ p.2))
 
 of_some : {a b : E} {ts to : List Tok} → Some b ≡ Some a → PrimE b ts to → PrimE a ts to
 of_some {a} {b} {ts} {to} e d = let P : E → Type 0 = λ x. PrimE x ts to in let q : b ≡ a = cc in subst P q d
 
-pub call_prim : (c : Call) (xs : List E) {a : E} {ts to : List Tok} → Tuple xs ts to → called c xs ≡ Some a → PrimE a (Word (word_of c) ∷ ts) to
-call_prim call.Abs [] t e = absurd (no_some e)
-call_prim call.Abs (x ∷ []) (tuple (exprs d exprs_end)) e = of_some e (prim_abs d)
-call_prim call.Abs (x ∷ w ∷ ws) t e = absurd (no_some e)
-call_prim call.Floor [] t e = absurd (no_some e)
-call_prim call.Floor (x ∷ []) (tuple (exprs d exprs_end)) e = of_some e (prim_floor d)
-call_prim call.Floor (x ∷ w ∷ ws) t e = absurd (no_some e)
-call_prim call.Length [] t e = absurd (no_some e)
-call_prim call.Length (x ∷ []) (tuple (exprs d exprs_end)) e = of_some e (prim_length d)
-call_prim call.Length (x ∷ w ∷ ws) t e = absurd (no_some e)
-call_prim call.Previous [] t e = absurd (no_some e)
-call_prim call.Previous (x ∷ []) (tuple (exprs d exprs_end)) e = of_some e (prim_previous d)
-call_prim call.Previous (x ∷ w ∷ ws) t e = absurd (no_some e)
-call_prim call.Nvl [] t e = absurd (no_some e)
-call_prim call.Nvl (x ∷ []) t e = absurd (no_some e)
-call_prim call.Nvl (x ∷ y ∷ []) (tuple (exprs d (exprs_more f exprs_end))) e = of_some e (prim_nvl d f)
-call_prim call.Nvl (x ∷ y ∷ w ∷ ws) t e = absurd (no_some e)
-call_prim call.PresentV [] t e = absurd (no_some e)
-call_prim call.PresentV (x ∷ []) t e = absurd (no_some e)
-call_prim call.PresentV (x ∷ y ∷ []) t e = absurd (no_some e)
-call_prim call.PresentV (x ∷ y ∷ z ∷ []) (tuple (exprs d (exprs_more f (exprs_more g exprs_end)))) e = of_some e (prim_presentv d f g)
-call_prim call.PresentV (x ∷ y ∷ z ∷ w ∷ ws) t e = absurd (no_some e)
-call_prim call.PresentNnv [] t e = absurd (no_some e)
-call_prim call.PresentNnv (x ∷ []) t e = absurd (no_some e)
-call_prim call.PresentNnv (x ∷ y ∷ []) t e = absurd (no_some e)
-call_prim call.PresentNnv (x ∷ y ∷ z ∷ []) (tuple (exprs d (exprs_more f (exprs_more g exprs_end)))) e = of_some e (prim_presentnnv d f g)
-call_prim call.PresentNnv (x ∷ y ∷ z ∷ w ∷ ws) t e = absurd (no_some e)
+counted : (b : Bool) {m n : ℕ} {a x : E} → b ≡ (m == n) → (if b then Some x else None) ≡ Some a → (m ≡ n) × (Some x ≡ Some a)
+counted true {m} {n} i e = (length_back (sym i), e)
+counted false i e = absurd (none_some e)
+
+asked_prim : (k : Keyword) (xs : List E) {a : E} {ts to : List Tok} → Tuple xs ts to → asked k xs ≡ Some a → PrimE a (Word k ∷ ts) to
+asked_prim word.Previous [] t e = absurd (none_some e)
+asked_prim word.Previous (x ∷ []) (tuple (exprs d exprs_end)) e = of_some e (prim_previous d)
+asked_prim word.Previous (x ∷ w ∷ ws) t e = absurd (none_some e)
+asked_prim word.Presentv [] t e = absurd (none_some e)
+asked_prim word.Presentv (x ∷ []) t e = absurd (none_some e)
+asked_prim word.Presentv (x ∷ y ∷ []) t e = absurd (none_some e)
+asked_prim word.Presentv (x ∷ y ∷ z ∷ []) (tuple (exprs d (exprs_more f (exprs_more g exprs_end)))) e = of_some e (prim_presentv d f g)
+asked_prim word.Presentv (x ∷ y ∷ z ∷ w ∷ ws) t e = absurd (none_some e)
+asked_prim word.Presentnnv [] t e = absurd (none_some e)
+asked_prim word.Presentnnv (x ∷ []) t e = absurd (none_some e)
+asked_prim word.Presentnnv (x ∷ y ∷ []) t e = absurd (none_some e)
+asked_prim word.Presentnnv (x ∷ y ∷ z ∷ []) (tuple (exprs d (exprs_more f (exprs_more g exprs_end)))) e = of_some e (prim_presentnnv d f g)
+asked_prim word.Presentnnv (x ∷ y ∷ z ∷ w ∷ ws) t e = absurd (none_some e)
+asked_prim _ xs t e = absurd (none_some e)
+
+called_prim : (o : Option (Func × ℕ)) (k : Keyword) (xs : List E) {a : E} {ts to : List Tok} → call_of k ≡ o → Tuple xs ts to → called_by o k xs ≡ Some a → PrimE a (Word k ∷ ts) to
+called_prim None k xs c t e = asked_prim k xs t e
+called_prim (Some (f, n)) k xs c t e = let p = counted (length xs == n) refl e in of_some p.1 (prim_call c t p.0)
+
+pub call_prim : (k : Keyword) (xs : List E) {a : E} {ts to : List Tok} → Tuple xs ts to → called k xs ≡ Some a → PrimE a (Word k ∷ ts) to
+call_prim k xs t e = called_prim (call_of k) k xs refl t e
 
 -- a CASE behind its word
 pub case_no_subject : {ts : List Tok} → No CaseE AtWhen ts → No (Behind (Word word.Case)) Anywhere ts
 case_no_subject h a to (prim_case c ds o) s = h _ _ c (whens_front ds)
+case_no_subject h a to (prim_call c d l) s = absurd (none_some c)
 
 pub case_no_whens : {x : Option E} {ts mid : List Tok} → CaseE x ts mid → AtWhen mid → No SomeWhens (Ends (terminal.Word word.When)) mid → No (Behind (Word word.Case)) Anywhere ts
 case_no_whens e r h a to (prim_case c ds o) s =
     let p = case_same e c r (whens_front ds) in h _ _ (tt, begin Whens p.1 ds) (else_stop o)
+case_no_whens e r h a to (prim_call c d l) s = absurd (none_some c)
 
 pub case_no_else : {x : Option E} {xs : List Arm} {ts mid next : List Tok} → CaseE x ts mid → AtWhen mid → SomeWhens xs mid next → Ends (terminal.Word word.When) next → No ElseEnd Anywhere next → No (Behind (Word word.Case)) Anywhere ts
 case_no_else e r w q h a to (prim_case c ds o) s =
     let p = case_same e c r (whens_front ds) in
     let u = whens_same w.1 (begin Whens p.1 ds) q (else_stop o) in h _ _ (begin ElseE u.1 o) tt
+case_no_else e r w q h a to (prim_call c d l) s = absurd (none_some c)
 
 pub case_prim : {x : Option E} (xs : List Arm) {o : Option E} {ts mid next to : List Tok} → CaseE x ts mid → SomeWhens xs mid next → ElseEnd o next to → PrimE (e.Case x xs o) (Word word.Case ∷ ts) to
 case_prim [] c w o = absurd w.0

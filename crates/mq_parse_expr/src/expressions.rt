@@ -6,10 +6,10 @@ ghost use Rattle.mq_ast.specs.declared.levels.TheConstants as level;
 ghost use Rattle.mq_ast.specs.Continuing.{Stops, Ends};
 ghost use Rattle.mq_ast.specs.GrammarExpression.{Expr, MoreOr, AndE, MoreAnd, NotE, TestE, TestTail, Tuple, Exprs, MoreExprs, SumE, MoreSum, ProdE, MoreProd, SignE, PrimE, Brackets, MorePlaces, PlaceE, CaseE};
 ghost use Rattle.mq_parse_expr.specs.Reading.{from, Anywhere, Gives};
-ghost use Rattle.mq_parse_expr.specs.Forms.{IsClosed, form_of as spec_form, word_of};
+ghost use Rattle.mq_parse_expr.specs.Forms.{IsClosed, form_of as spec_form};
 ghost use Rattle.mq_parse_expr.specs.Fronts.{AtWhen, Behind, CellsOf, ElseEnd, RoundE, Since, SomeWhens, between_front, cmp_front, in_front, not_front};
 
-use crate::forms::{AggHead, Call, Form, Tail};
+use crate::forms::{AggHead, Form, Tail};
 use crate::fronts::{
     agg_head, form_at, prod_op, read_as_kind, read_is, read_leaf, read_to_scale, sum_op, tail_at,
 };
@@ -349,7 +349,7 @@ fn read_closed(
         Form::Case => read_case(alloc, t, at + 1),
         Form::Cast => read_cast(alloc, t, at + 1),
         Form::Round => read_rounded(alloc, t, at + 1),
-        Form::Call(call) => read_call(alloc, t, at + 1, call),
+        Form::Call(word) => read_call(alloc, t, at + 1, word),
         _ => read_leaf(alloc, t, at, form),
     }
 }
@@ -459,13 +459,14 @@ fn read_call(
     alloc: Global,
     t: &[Token<'_>],
     at: usize,
-    call: Call,
+    word: Keyword,
 ) -> Result<(E, usize), Fail<Refused>>
-    requires { at ≤ length t.now }
-    ensures { Gives (Behind (Word (word_of call))) Anywhere t.now at result }
+    requires in_range { at ≤ length t.now }
+    requires calls { spec_form (Terminal.Word word) ≡ Form.Call word }
+    ensures { Gives (Behind (Word word)) Anywhere t.now at result }
 {
     let (args, to) = read_tuple(alloc, t, at)?;
-    match called(alloc, call, args)? {
+    match called(alloc, word, args)? {
         Some(e) => Ok((e, to)),
         None => Err(Fail::Cause(Refused::Syntax)),
     }

@@ -3,20 +3,9 @@
 ghost use Rattle.std.specs.Prelude.{◌≡◌};
 ghost use Rattle.mq_parse_expr.specs.Forms as spec;
 
+use crate::calls::call_of;
 use mq_ast::{Keyword, Symbol, Terminal};
 use mq_values::{Agg, CmpOp};
-
-/// A call with its arguments between brackets.
-#[derive(Clone, Copy)]
-pub(crate) enum Call {
-    Abs,
-    Floor,
-    Length,
-    Nvl,
-    Previous,
-    PresentV,
-    PresentNnv,
-}
 
 /// A primary expression by its first token.
 #[derive(Clone, Copy)]
@@ -29,7 +18,8 @@ pub(crate) enum Form {
     Aggregate(Agg),
     Case,
     Cast,
-    Call(Call),
+    /// A call with its arguments between brackets, by its word.
+    Call(Keyword),
     Round,
     Cv,
     Turn,
@@ -69,17 +59,14 @@ pub(crate) enum AggHead<'a> {
 fn form_of_word(word: Keyword) -> Form
     ensures { result ≡ spec.form_of (Terminal.Word word) }
 {
+    if call_of(word).is_some() {
+        return Form::Call(word);
+    }
     match word {
         Keyword::Null => Form::Null,
         Keyword::Case => Form::Case,
         Keyword::Cast => Form::Cast,
-        Keyword::Abs => Form::Call(Call::Abs),
-        Keyword::Floor => Form::Call(Call::Floor),
-        Keyword::Length => Form::Call(Call::Length),
-        Keyword::Nvl => Form::Call(Call::Nvl),
-        Keyword::Previous => Form::Call(Call::Previous),
-        Keyword::Presentv => Form::Call(Call::PresentV),
-        Keyword::Presentnnv => Form::Call(Call::PresentNnv),
+        Keyword::Previous | Keyword::Presentv | Keyword::Presentnnv => Form::Call(word),
         Keyword::Round => Form::Round,
         Keyword::Cv => Form::Cv,
         Keyword::IterationNumber => Form::Turn,

@@ -3,6 +3,7 @@
 //! Each reader gives what the grammar of mq_ast's `specs/` says, in the words of `specs/Reading.antt`.
 #![tactic(auto)]
 
+mod calls;
 mod expressions;
 mod forms;
 mod fronts;

@@ -6,8 +6,9 @@ ghost use Rattle.mq_ast.specs.Chains.{or_of, and_of, sum_of, prod_of};
 ghost use Rattle.mq_parse_expr.specs.Forms as spec;
 ghost use Rattle.mq_parse_expr.specs.Fronts.{judged as tested};
 
-use crate::forms::{Call, IsTest};
-use mq_ast::{E, Place, ProdTerm, SumTerm};
+use crate::calls::call_of;
+use crate::forms::IsTest;
+use mq_ast::{E, Keyword, Place, ProdTerm, SumTerm};
 use mq_values::{Agg, Boxed, CmpOp, Func, Items, Kind, Memory};
 use std::alloc::Global;
 
@@ -122,25 +123,32 @@ pub(crate) fn rounded(alloc: Global, e: E, scale: u8) -> Result<E, Memory>
 }
 
 /// A call of its arguments; none where it takes another number of them.
-pub(crate) fn called(alloc: Global, call: Call, args: Items<E>) -> Result<Option<E>, Memory>
-    ensures { IfOk result (λ o. o ≡ spec.called call args) }
+pub(crate) fn called(alloc: Global, word: Keyword, args: Items<E>) -> Result<Option<E>, Memory>
+    ensures { IfOk result (λ o. o ≡ spec.called word args) }
+{
+    match call_of(word) {
+        Some((func, count)) if args.len() == count => Ok(Some(E::Call(func, args))),
+        Some(_) => Ok(None),
+        None => asked(alloc, word, args),
+    }
+}
+
+// What PREVIOUS, PRESENTV and PRESENTNNV ask of their arguments.
+fn asked(alloc: Global, word: Keyword, args: Items<E>) -> Result<Option<E>, Memory>
+    ensures { IfOk result (λ o. o ≡ spec.asked word args) }
 {
     let count = args.len();
-    match call {
-        Call::Abs if count == 1 => Ok(Some(E::Call(Func::Abs, args))),
-        Call::Floor if count == 1 => Ok(Some(E::Call(Func::Floor, args))),
-        Call::Length if count == 1 => Ok(Some(E::Call(Func::Length, args))),
-        Call::Nvl if count == 2 => Ok(Some(E::Call(Func::Nvl, args))),
-        Call::Previous => previous(alloc, args),
-        Call::PresentV if count == 3 => Ok(Some(E::PresentV(args))),
-        Call::PresentNnv if count == 3 => Ok(Some(E::PresentNnv(args))),
+    match word {
+        Keyword::Previous => previous(alloc, args),
+        Keyword::Presentv if count == 3 => Ok(Some(E::PresentV(args))),
+        Keyword::Presentnnv if count == 3 => Ok(Some(E::PresentNnv(args))),
         _ => Ok(None),
     }
 }
 
 // PREVIOUS of its one argument.
 fn previous(alloc: Global, args: Items<E>) -> Result<Option<E>, Memory>
-    ensures { IfOk result (λ o. o ≡ spec.called Call.Previous args) }
+    ensures { IfOk result (λ o. o ≡ spec.asked Keyword.Previous args) }
 {
     let mut args = args.into_vec();
     match args.pop() {

@@ -4,22 +4,19 @@ use Rattle.std.specs.Prelude.{Option, Some}
 use Rattle.mq_values.specs.Number.{Number}
 use Rattle.mq_values.specs.declared.operators.Mode.{Mode}
 use Rattle.mq_ast.specs.declared.expressions.E.{E}
-use Rattle.mq_lexer.specs.declared.keywords.Keyword.TheVariants as word
+use Rattle.mq_ast.specs.declared.clauses.TheConstants as clause
 use Rattle.mq_ast.specs.declared.terminals.Symbol.TheVariants as sign
 use Rattle.mq_ast.specs.declared.terminals.Terminal.TheVariants as terminal
-use Rattle.mq_ast.specs.Tokens.{Tok, Word, Num, terminal_at, opener}
-use Rattle.mq_ast.specs.declared.clauses.TheConstants as clause
-use Rattle.mq_ast.specs.Continuing.{part, Not, Past}
-use Rattle.mq_ast.specs.GrammarRule.{MaybeMode}
-use Rattle.mq_ast.specs.GrammarModel.{AutoE, auto_none, auto_yes, auto_no, UntilE, until_none, until_some, iterate_none, iterate_some, head_none, head_some}
-use Rattle.mq_ast.proofs.Common.{begin, cut}
-use Rattle.mq_ast.proofs.OneRule.{maybe_mode_same}
-use Rattle.mq_ast.proofs.OneExpression.{expr_same}
-use Rattle.mq_ast.proofs.OneModel.{iterate_same, auto_same, auto_past, iterate_past, opens_past}
+use Rattle.mq_lexer.specs.declared.keywords.Keyword.TheVariants as word
+use Rattle.mq_ast.specs.Prelude.{AutoE, HeadE, IterateE, MaybeMode, Not, Num, Opens, Past, RoundInt, Tok, UntilE, Word, auto_no}
+use Rattle.mq_ast.specs.Prelude.{auto_none, auto_yes, head_none, head_some, iterate_none, iterate_some, opener, part, round_int}
+use Rattle.mq_ast.specs.Prelude.{terminal_at, until_none, until_some}
+use Rattle.mq_ast.specs.Laws.{auto_past, auto_same, begin, cut, expr_same, int_same, iterate_past, iterate_same, maybe_mode_same}
+use Rattle.mq_ast.specs.Laws.{opens_past}
+use Rattle.mq_parse_query.specs.Pieces.{AutoEnd, Iterates, Ruling, auto_end}
 use Rattle.mq_parse_expr.specs.Reading.{No, Anywhere}
 use Rattle.mq_parse_expr.specs.Names.{IntE, int}
 use Rattle.mq_parse_expr.specs.Fronts.{RoundE, round}
-use Rattle.mq_parse_query.specs.HeadPieces.{AutoEnd, auto_end, RoundInt, round_int, Turning, turning, Iterates, head_of, Heading, heading, Ruling, Opens}
 
 -- the order of the rules
 pub auto_no_order : {b : Bool} {ts : List Tok} → Not (terminal.Word word.Order) ts → No (AutoEnd b) (Past clause.ORDER) ts
@@ -76,55 +73,46 @@ pub int_no_close : {n : Number} {ts : List Tok} → Not (terminal.Sign sign.Clos
 int_no_close h a to (round_int i) s = h refl
 
 pub turns_no_int : {ts : List Tok} → No RoundInt Anywhere ts → No Iterates (Past clause.UNTIL) ts
-turns_no_int h a to (turning iterate_none) s = absurd (omega arith)
-turns_no_int h a to (turning (iterate_some i d)) s = h _ _ (round_int i) tt
+turns_no_int h a to iterate_none s = absurd (omega arith)
+turns_no_int h a to (iterate_some i d) s = h _ _ i tt
 
 pub turns_no_until : {n : Number} {ts mid : List Tok} → RoundInt n ts mid → No UntilE (Past clause.UNTIL) mid → No Iterates (Past clause.UNTIL) ts
-turns_no_until e h a to (turning iterate_none) s = absurd (omega arith)
-turns_no_until (round_int j) h a to (turning (iterate_some i d)) s = h _ _ d s
+turns_no_until e h a to iterate_none s = absurd (omega arith)
+turns_no_until e h a to (iterate_some i d) s = h _ _ (begin UntilE (int_same e i).1 d) s
 
-pub turns_whole : {n : Number} {u : Option E} {ts mid to : List Tok} → RoundInt n ts mid → UntilE u mid to → Iterates (Some n, u) ts to
-turns_whole (round_int i) d = turning (iterate_some i d)
-
-pub turning_no_word : {ts : List Tok} → Not (terminal.Word word.Iterate) ts → part (terminal_at ts) ≤ clause.UNTIL → No Turning (Past clause.UNTIL) ts
-turning_no_word n l a to (turning iterate_none) s = absurd (omega arith)
-turning_no_word n l a to (turning (iterate_some i d)) s = n refl
-
-turning_end : {a b : Option Number × Option E} {ts to to' : List Tok} → Turning a ts to → Turning b ts to' → Past clause.UNTIL to → Past clause.UNTIL to' → to ≡ to'
-turning_end (turning d) (turning d') s s' = (iterate_same d d' s s').2
+pub turning_no_word : {ts : List Tok} → Not (terminal.Word word.Iterate) ts → part (terminal_at ts) ≤ clause.UNTIL → No IterateE (Past clause.UNTIL) ts
+turning_no_word n l a to iterate_none s = absurd (omega arith)
+turning_no_word n l a to (iterate_some i d) s = n refl
 
 -- RULES
 pub ruling_no_mode : {ts : List Tok} → No MaybeMode (Past clause.MODE) ts → No Ruling Opens ts
-ruling_no_mode h a to (heading head_none) s = absurd cc
-ruling_no_mode h a to (heading (head_some m b n)) s = h _ _ m (auto_past b (iterate_past n (opens_past to s)))
+ruling_no_mode h a to head_none s = absurd cc
+ruling_no_mode h a to (head_some m b n) s = h _ _ m (auto_past b (iterate_past n (opens_past to s)))
 
 pub ruling_no_auto : {x : Option Mode} {ts mid : List Tok} → MaybeMode x ts mid → Past clause.MODE mid → No AutoE (Past clause.ORDER) mid → No Ruling Opens ts
-ruling_no_auto e r h a to (heading head_none) s = absurd cc
-ruling_no_auto e r h a to (heading (head_some m b n)) s =
+ruling_no_auto e r h a to head_none s = absurd cc
+ruling_no_auto e r h a to (head_some m b n) s =
     let i = iterate_past n (opens_past to s) in
     let p = maybe_mode_same e m r (auto_past b i) in
     h _ _ (begin AutoE p.1 b) i
 
-pub ruling_no_iterate : {x : Option Mode} {y : Bool} {ts mid next : List Tok} → MaybeMode x ts mid → Past clause.MODE mid → AutoE y mid next → Past clause.ORDER next → No Turning (Past clause.UNTIL) next → No Ruling Opens ts
-ruling_no_iterate e r f r' h a to (heading head_none) s = absurd cc
-ruling_no_iterate e r f r' h a to (heading (head_some m b n)) s =
+pub ruling_no_iterate : {x : Option Mode} {y : Bool} {ts mid next : List Tok} → MaybeMode x ts mid → Past clause.MODE mid → AutoE y mid next → Past clause.ORDER next → No IterateE (Past clause.UNTIL) next → No Ruling Opens ts
+ruling_no_iterate e r f r' h a to head_none s = absurd cc
+ruling_no_iterate e r f r' h a to (head_some m b n) s =
     let i = iterate_past n (opens_past to s) in
     let p = maybe_mode_same e m r (auto_past b i) in
     let q = auto_same f (begin AutoE p.1 b) r' i in
-    h _ _ (begin Turning q.1 (turning n)) (opens_past to s)
+    h _ _ (begin IterateE q.1 n) (opens_past to s)
 
-pub ruling_no_open : {x : Option Mode} {y : Bool} {z : Option Number × Option E} {ts mid next last : List Tok} → MaybeMode x ts mid → Past clause.MODE mid → AutoE y mid next → Past clause.ORDER next → Turning z next last → Past clause.UNTIL last → Not (terminal.Sign sign.Open) last → No Ruling Opens ts
-ruling_no_open e r f r' g r'' k a to (heading head_none) s = absurd cc
-ruling_no_open e r f r' g r'' k a to (heading (head_some m b n)) s =
+pub ruling_no_open : {x : Option Mode} {y : Bool} {z : Option Number × Option E} {ts mid next last : List Tok} → MaybeMode x ts mid → Past clause.MODE mid → AutoE y mid next → Past clause.ORDER next → IterateE z next last → Past clause.UNTIL last → Not (terminal.Sign sign.Open) last → No Ruling Opens ts
+ruling_no_open e r f r' g r'' k a to head_none s = absurd cc
+ruling_no_open e r f r' g r'' k a to (head_some m b n) s =
     let i = iterate_past n (opens_past to s) in
     let p = maybe_mode_same e m r (auto_past b i) in
     let q = auto_same f (begin AutoE p.1 b) r' i in
-    let u = turning_end g (begin Turning q.1 (turning n)) r'' (opens_past to s) in
-    k (ap terminal_at u ∙ s)
+    let u = iterate_same _ _ _ _ _ g (begin IterateE q.1 n) r'' (opens_past to s) in
+    k (ap terminal_at u.1 ∙ s)
 
-pub ruling_whole : {m : Option Mode} {b : Bool} {p : Option Number × Option E} {ts mid next to : List Tok} → MaybeMode m ts mid → AutoE b mid next → Turning p next to → Ruling (head_of m b p) ts to
-ruling_whole m b (turning n) = heading (head_some m b n)
-
-pub heading_no_open : {ts : List Tok} → Not (terminal.Word word.Rules) ts → Not (terminal.Sign sign.Open) ts → No Heading Opens ts
-heading_no_open m n a to (heading head_none) s = n s
-heading_no_open m n a to (heading (head_some d e f)) s = m refl
+pub heading_no_open : {ts : List Tok} → Not (terminal.Word word.Rules) ts → Not (terminal.Sign sign.Open) ts → No HeadE Opens ts
+heading_no_open m n a to head_none s = n s
+heading_no_open m n a to (head_some d e f) s = m refl

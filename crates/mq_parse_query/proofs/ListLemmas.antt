@@ -1,13 +1,12 @@
 -- Where lists of parts read nothing, by their parts.
 use Rattle.std.proofs.Common.{◌≡◌, ℕ, ◌<◌, ◌≤◌, List, [], ◌∷◌, ◌++◌, length, Option, Some, None, Ok, refl, ap, ◌∙◌, subst, arith}
 use Rattle.mq_lexer.specs.declared.sorts.Token.{Token}
-use Rattle.mq_ast.specs.Tokens.{Tok, comma}
-use Rattle.mq_ast.specs.OneTree.{OneTree}
-use Rattle.mq_ast.specs.GrammarLists.{MoreOf, more_end, more_comma, SomeOf, some_of, ManyOf, many_end, many_more}
-use Rattle.mq_ast.proofs.Common.{begin}
+use Rattle.mq_ast.specs.Prelude.{EndsList, ManyOf, MoreOf, OneTree, SomeOf, Tok, comma, many_end, many_more, more_comma, more_end}
+use Rattle.mq_ast.specs.Prelude.{some_of}
+use Rattle.mq_ast.specs.Laws.{begin}
+use Rattle.mq_parse_query.specs.Lists.{Turns}
 use Rattle.mq_parse_expr.specs.Reading.{from, No}
 use Rattle.mq_parse_expr.proofs.Steps.{SoFar, as_value, push}
-use Rattle.mq_parse_query.specs.Lists.{EndsList, Turns}
 
 module _ {A : Type 0} (R : A → List Tok → List Tok → Type 0) (Stop : List Tok → Type 0) (one : OneTree R Stop) (before_comma : (ts : List Tok) → Stop (comma ∷ ts)) where
   more_stop : {xs : List A} {from to : List Tok} → MoreOf R xs from to → EndsList Stop to → Stop from

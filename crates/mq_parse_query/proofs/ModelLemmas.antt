@@ -2,28 +2,25 @@
 use Rattle.std.proofs.Common.{◌≡◌, ◌≢◌, ℕ, ◌+◌, ◌<◌, ◌≤◌, Bool, true, false, List, ◌∷◌, length, refl, sym, ap, ◌∙◌, subst, arith}
 use Rattle.std.specs.Prelude.{Option, Some, None, MatchOption}
 use Rattle.mq_lexer.specs.declared.sorts.Token.{Token}
-use Rattle.mq_ast.specs.declared.queries.Sel.{Sel}
-use Rattle.mq_ast.specs.declared.queries.Plain.{Plain}
 use Rattle.mq_ast.specs.declared.queries.Opt.{Opt}
-use Rattle.mq_ast.specs.declared.queries.Opt.TheVariants as opt
+use Rattle.mq_ast.specs.declared.queries.Plain.{Plain}
 use Rattle.mq_ast.specs.declared.queries.RefTree.{RefTree}
-use Rattle.mq_lexer.specs.declared.keywords.Keyword.TheVariants as word
-use Rattle.mq_ast.specs.declared.terminals.Symbol.TheVariants as sign
+use Rattle.mq_ast.specs.declared.queries.Sel.{Sel}
 use Rattle.mq_ast.specs.declared.terminals.Terminal.{Terminal}
-use Rattle.mq_ast.specs.declared.terminals.Terminal.TheVariants as terminal
-use Rattle.mq_ast.specs.Tokens.{Tok, Word, Name, terminal_at, opener}
 use Rattle.mq_ast.specs.declared.clauses.TheConstants as clause
-use Rattle.mq_ast.specs.Continuing.{part, Not, Past}
-use Rattle.mq_ast.specs.GrammarLists.{NameE, name, ManyOf, many_end, many_more}
-use Rattle.mq_ast.specs.GrammarQuery.{Cols}
-use Rattle.mq_ast.specs.GrammarModel.{OptE, opt_ignore, opt_keep, opt_unique, ReturnE, return_none, return_all, return_updated, RefE, reference, ref_of, MainE, main_none, main_some, PartsE, parts_none, parts_some}
-use Rattle.mq_ast.proofs.Common.{Same, begin, cut}
-use Rattle.mq_ast.proofs.OneQuery.{plain_same, cols_same}
-use Rattle.mq_ast.proofs.OneModel.{refs_past}
+use Rattle.mq_ast.specs.declared.queries.Opt.TheVariants as opt
+use Rattle.mq_ast.specs.declared.terminals.Symbol.TheVariants as sign
+use Rattle.mq_ast.specs.declared.terminals.Terminal.TheVariants as terminal
+use Rattle.mq_lexer.specs.declared.keywords.Keyword.TheVariants as word
+use Rattle.mq_ast.specs.Prelude.{AxesE, Cols, DimsE, MainE, ManyOf, Name, NameE, Not, OptE, PartsE, Past, RefE, RefSourceE, ReturnE}
+use Rattle.mq_ast.specs.Prelude.{Tok, WhichE, Word, axes, dims, main_none, main_some, many_end, many_more, name, opener, opt_ignore}
+use Rattle.mq_ast.specs.Prelude.{opt_keep, opt_unique, part, parts_none, parts_some, query, ref_source, reference, return_none}
+use Rattle.mq_ast.specs.Prelude.{return_rows, terminal_at, which_all, which_updated}
+use Rattle.mq_ast.specs.Laws.{axes_same, begin, cols_same, cut, dims_same, ref_source_same, refs_past, which_same}
+use Rattle.mq_parse_expr.proofs.Steps.{till}
+use Rattle.mq_parse_query.specs.Pieces.{PlainEnd, Refers, Returns, first_word, option_of, second_word}
 use Rattle.mq_parse_expr.specs.Reading.{from, Then, No, Anywhere}
 use Rattle.mq_parse_expr.proofs.TokenLemmas.{word_next}
-use Rattle.mq_parse_query.specs.RulePieces.{PlainEnd}
-use Rattle.mq_parse_query.specs.ModelPieces.{option_of, first_word, second_word, WhichE, which_all, which_updated, Returns, SourceE, source, DimsE, dims, AxesE, axes, Refers}
 
 -- options
 option_past : (x : Terminal) → option_of x ≡ None → clause.OPTION < part x
@@ -69,43 +66,36 @@ which_no_word m n a to which_updated s = n refl
 
 pub rows_no_which : {ts : List Tok} → No WhichE Anywhere ts → No Returns (Past clause.RETURN) ts
 rows_no_which h a to return_none s = absurd (omega arith)
-rows_no_which h a to return_all s = h _ _ which_all tt
-rows_no_which h a to return_updated s = h _ _ which_updated tt
+rows_no_which h a to (return_rows d) s = h _ _ d tt
 
 pub rows_no_rows : {b : Bool} {ts mid : List Tok} → WhichE b ts mid → Not (terminal.Word word.Rows) mid → No Returns (Past clause.RETURN) ts
 rows_no_rows e n a to return_none s = absurd (omega arith)
-rows_no_rows which_all n a to return_all s = n refl
-rows_no_rows which_updated n a to return_updated s = n refl
+rows_no_rows e n a to (return_rows d) s = n (ap terminal_at (which_same e d).1)
 
 pub rows_no_end : {b : Bool} {ts mid : List Tok} (next : List Tok) → WhichE b ts mid → mid ≡ Word word.Rows ∷ next → part (terminal_at next) ≤ clause.RETURN → No Returns (Past clause.RETURN) ts
 rows_no_end next e f l a to return_none s = absurd (omega arith)
-rows_no_end next which_all f l a to return_all s = let k = ap (λ x. part (terminal_at x)) (cut f) in absurd (omega arith)
-rows_no_end next which_updated f l a to return_updated s = let k = ap (λ x. part (terminal_at x)) (cut f) in absurd (omega arith)
+rows_no_end next e f l a to (return_rows d) s =
+    let k = ap (λ x. part (terminal_at x)) (cut (sym f ∙ (which_same e d).1)) in absurd (omega arith)
 
 pub rows_whole : {b : Bool} {ts mid to : List Tok} → WhichE b ts mid → mid ≡ Word word.Rows ∷ to → Returns b ts to
-rows_whole {b} {ts} {mid} {to} which_all e = let P : List Tok → Type 0 = λ m. Returns false (Word word.All ∷ m) to in subst P (sym e) return_all
-rows_whole {b} {ts} {mid} {to} which_updated e = let P : List Tok → Type 0 = λ m. Returns true (Word word.Updated ∷ m) to in subst P (sym e) return_updated
+rows_whole e f = return_rows (till WhichE f e)
 
 pub return_no_end : {ts : List Tok} → Not (terminal.Word word.Return) ts → part (terminal_at ts) ≤ clause.RETURN → No ReturnE (Past clause.RETURN) ts
 return_no_end n l a to return_none s = absurd (omega arith)
-return_no_end n l a to return_all s = n refl
-return_no_end n l a to return_updated s = n refl
+return_no_end n l a to (return_rows d) s = n refl
 
 -- REFERENCE
-pub source_no_name : {ts : List Tok} → No NameE Anywhere ts → No SourceE Anywhere ts
-source_no_name h a to (source d) s = h _ _ name tt
+pub source_no_name : {ts : List Tok} → No NameE Anywhere ts → No RefSourceE Anywhere ts
+source_no_name h a to (ref_source d) s = h _ _ name tt
 
-pub source_no_on : {n : List ℕ} {ts : List Tok} → Not (terminal.Word word.On) ts → No SourceE Anywhere (Name n ∷ ts)
-source_no_on n a to (source d) s = n refl
+pub source_no_on : {n : List ℕ} {ts : List Tok} → Not (terminal.Word word.On) ts → No RefSourceE Anywhere (Name n ∷ ts)
+source_no_on n a to (ref_source d) s = n refl
 
-pub source_no_open : {n : List ℕ} {ts : List Tok} → Not (terminal.Sign sign.Open) ts → No SourceE Anywhere (Name n ∷ Word word.On ∷ ts)
-source_no_open n a to (source d) s = n refl
+pub source_no_open : {n : List ℕ} {ts : List Tok} → Not (terminal.Sign sign.Open) ts → No RefSourceE Anywhere (Name n ∷ Word word.On ∷ ts)
+source_no_open n a to (ref_source d) s = n refl
 
-pub source_no_plain : {n : List ℕ} {ts : List Tok} → No PlainEnd Anywhere ts → No SourceE Anywhere (Name n ∷ Word word.On ∷ opener ∷ ts)
-source_no_plain h a to (source d) s = h _ _ d tt
-
-source_same : {a b : List ℕ × Plain} {ts to to' : List Tok} → SourceE a ts to → SourceE b ts to' → Same a b to to'
-source_same (source d) (source d') = let p = plain_same d d' (omega arith) (omega arith) in (cc, cut p.1)
+pub source_no_plain : {n : List ℕ} {ts : List Tok} → No PlainEnd Anywhere ts → No RefSourceE Anywhere (Name n ∷ Word word.On ∷ opener ∷ ts)
+source_no_plain h a to (ref_source d) s = h _ _ d tt
 
 -- DIMENSION BY cols MEASURES cols
 pub dims_no_dimension : {ts : List Tok} → Not (terminal.Word word.Dimension) ts → No DimsE Anywhere ts
@@ -120,38 +110,22 @@ dims_no_cols h a to (dims d) s = h _ _ d tt
 pub dims_no_measures : {xs : List Sel} {ts mid : List Tok} → Cols xs ts mid → Not (terminal.Word word.Measures) mid → No DimsE Anywhere (Word word.Dimension ∷ Word word.By ∷ ts)
 dims_no_measures e n a to (dims d) s = let p = cols_same e d in n (ap terminal_at p.1)
 
-dims_same : {xs ys : List Sel} {ts to to' : List Tok} → DimsE xs ts to → DimsE ys ts to' → Same xs ys to to'
-dims_same (dims d) (dims d') = let p = cols_same d d' in (p.0, cut p.1)
-
 pub axes_no_dims : {ts : List Tok} → No DimsE Anywhere ts → No AxesE Anywhere ts
 axes_no_dims h a to (axes d m) s = h _ _ d tt
 
 pub axes_no_cols : {xs : List Sel} {ts mid : List Tok} → DimsE xs ts mid → No Cols Anywhere mid → No AxesE Anywhere ts
 axes_no_cols e h a to (axes d m) s = let p = dims_same e d in h _ _ (begin Cols p.1 m) tt
 
-pub axes_same : {a b : List Sel × List Sel} {ts to to' : List Tok} → AxesE a ts to → AxesE b ts to' → Same a b to to'
-axes_same (axes d m) (axes d' m') =
-    let p = dims_same d d' in
-    let q = cols_same m (begin Cols p.1 m') in
-    (cc, q.1)
+pub ref_no_source : {ts : List Tok} → No RefSourceE Anywhere ts → No Refers (Past clause.OPTION) ts
+ref_no_source h a to (reference d x o) s = h _ _ d tt
 
-pub axes_past : {a : List Sel × List Sel} {ts to : List Tok} → AxesE a ts to → Past clause.PARTITION ts
-axes_past (axes (dims d) m) = omega arith
+pub ref_no_axes : {x : List ℕ × Plain} {ts mid : List Tok} → RefSourceE x ts mid → No AxesE Anywhere mid → No Refers (Past clause.OPTION) ts
+ref_no_axes e h a to (reference d x o) s = h _ _ (begin AxesE (ref_source_same e d).1 x) tt
 
-pub ref_no_source : {ts : List Tok} → No SourceE Anywhere ts → No Refers (Past clause.OPTION) ts
-ref_no_source h a to (reference d c m o) s = h _ _ (source d) tt
-
-pub ref_no_axes : {x : List ℕ × Plain} {ts mid : List Tok} → SourceE x ts mid → No AxesE Anywhere mid → No Refers (Past clause.OPTION) ts
-ref_no_axes e h a to (reference d c m o) s = let p = source_same e (source d) in h _ _ (begin AxesE p.1 (axes (dims c) m)) tt
-
-pub ref_no_opts : {x : List ℕ × Plain} {y : List Sel × List Sel} {ts mid next : List Tok} → SourceE x ts mid → AxesE y mid next → No (ManyOf OptE) (Past clause.OPTION) next → No Refers (Past clause.OPTION) ts
-ref_no_opts e f h a to (reference d c m o) s =
-    let p = source_same e (source d) in
-    let q = axes_same f (begin AxesE p.1 (axes (dims c) m)) in
+pub ref_no_opts : {x : List ℕ × Plain} {y : List Sel × List Sel} {ts mid next : List Tok} → RefSourceE x ts mid → AxesE y mid next → No (ManyOf OptE) (Past clause.OPTION) next → No Refers (Past clause.OPTION) ts
+ref_no_opts e f h a to (reference d x o) s =
+    let q = axes_same f (begin AxesE (ref_source_same e d).1 x) in
     h _ _ (begin (ManyOf OptE) q.1 o) s
-
-pub ref_whole : {x : List ℕ × Plain} {y : List Sel × List Sel} {os : List Opt} {ts mid next to : List Tok} → SourceE x ts mid → AxesE y mid next → ManyOf OptE os next to → Refers (ref_of x.0 x.1 y.0 y.1 os) ts to
-ref_whole (source d) (axes (dims c) m) o = reference d c m o
 
 refs_past_one : {rs : List RefTree} {ts to : List Tok} → ManyOf RefE rs ts to → Past clause.REFERENCE to → Past clause.OPTION ts
 refs_past_one d s = let h = refs_past d s in omega arith
@@ -162,7 +136,7 @@ refs_no_ref h a to (many_more d ds) s = h _ _ d (refs_past_one ds s)
 
 pub refs_no_end : {ts : List Tok} → Not (terminal.Word word.Reference) ts → part (terminal_at ts) ≤ clause.REFERENCE → No (ManyOf RefE) (Past clause.REFERENCE) ts
 refs_no_end n l a to many_end s = absurd (omega arith)
-refs_no_end n l a to (many_more (reference d c m o) ds) s = n refl
+refs_no_end n l a to (many_more (reference d x o) ds) s = n refl
 
 -- MAIN and PARTITION BY
 pub main_no_name : {ts : List Tok} → No NameE Anywhere ts → No MainE (Past clause.MAIN) (Word word.Main ∷ ts)

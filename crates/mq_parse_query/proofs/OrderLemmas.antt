@@ -1,16 +1,12 @@
 -- Where ORDER BY reads nothing, by its parts. All of it is about lists of tokens.
 use Rattle.std.proofs.Common.{ℕ, Bool, List, ◌∷◌, refl, sym, subst}
 use Rattle.mq_ast.specs.declared.queries.OrderKey.{OrderKey}
-use Rattle.mq_lexer.specs.declared.keywords.Keyword.TheVariants as word
 use Rattle.mq_ast.specs.declared.terminals.Terminal.TheVariants as terminal
-use Rattle.mq_ast.specs.Tokens.{Tok, Word}
-use Rattle.mq_ast.specs.Continuing.{Not}
-use Rattle.mq_ast.specs.GrammarLists.{SomeOf, NameE, name}
-use Rattle.mq_ast.specs.GrammarQuery.{KeyE, key_plain, key_asc, key_desc, key_of, OrderE, order_none, order_some}
-use Rattle.mq_ast.proofs.OneQuery.{keys_same}
+use Rattle.mq_lexer.specs.declared.keywords.Keyword.TheVariants as word
+use Rattle.mq_ast.specs.Prelude.{DirectionE, EndsKey, EndsList, EndsOrder, KeyE, NameE, Not, OrderE, SomeOf, Tok, Word, direction_asc}
+use Rattle.mq_ast.specs.Prelude.{direction_desc, direction_none, key, key_of, name, order_none, order_some}
+use Rattle.mq_ast.specs.Laws.{keys_same}
 use Rattle.mq_parse_expr.specs.Reading.{No, Anywhere}
-use Rattle.mq_parse_query.specs.Lists.{EndsList, EndsOrder}
-use Rattle.mq_parse_query.specs.PlainPieces.{EndsKey, DirectionE, direction_none, direction_asc, direction_desc}
 
 -- [ASC | DESC]
 pub direction_no_asc : {ts : List Tok} → (EndsKey ts → ⊥) → No DirectionE EndsKey (Word word.Asc ∷ ts)
@@ -23,19 +19,13 @@ direction_no_desc h a to direction_desc s = h s
 
 -- name [ASC | DESC]
 pub key_no_name : {ts : List Tok} → No NameE Anywhere ts → No KeyE EndsKey ts
-key_no_name h a to key_plain s = h _ _ name tt
-key_no_name h a to key_asc s = h _ _ name tt
-key_no_name h a to key_desc s = h _ _ name tt
+key_no_name h a to (key d) s = h _ _ name tt
 
 pub key_no_direction : {n : List ℕ} {ts mid : List Tok} → NameE n ts mid → No DirectionE EndsKey mid → No KeyE EndsKey ts
-key_no_direction name h a to key_plain s = h _ _ direction_none s
-key_no_direction name h a to key_asc s = h _ _ direction_asc s
-key_no_direction name h a to key_desc s = h _ _ direction_desc s
+key_no_direction name h a to (key d) s = h _ _ d s
 
 pub key_whole : {n : List ℕ} {b : Bool} {ts mid to : List Tok} → NameE n ts mid → DirectionE b mid to → KeyE (key_of n b) ts to
-key_whole name direction_none = key_plain
-key_whole name direction_asc = key_asc
-key_whole name direction_desc = key_desc
+key_whole name d = key d
 
 -- [ORDER BY key {, key}]
 pub order_no_order : {ts : List Tok} → Not (terminal.Word word.Order) ts → (EndsOrder ts → ⊥) → No OrderE EndsOrder ts

@@ -2,25 +2,21 @@
 use Rattle.std.proofs.Common.{◌≡◌, ℕ, ◌≤◌, List, ◌∷◌, refl, sym, ap, ◌∙◌, subst, arith}
 use Rattle.std.specs.Prelude.{Option, Some, None, MatchOption}
 use Rattle.mq_lexer.specs.declared.sorts.Token.{Token}
-use Rattle.mq_lexer.specs.declared.keywords.Keyword.{Keyword}
 use Rattle.mq_ast.specs.declared.expressions.E.{E}
-use Rattle.mq_ast.specs.declared.queries.Sel.{Sel}
 use Rattle.mq_ast.specs.declared.queries.FromItem.{FromItem}
-use Rattle.mq_lexer.specs.declared.keywords.Keyword.TheVariants as word
+use Rattle.mq_lexer.specs.declared.keywords.Keyword.{Keyword}
+use Rattle.mq_ast.specs.declared.queries.Sel.{Sel}
+use Rattle.mq_ast.specs.declared.levels.TheConstants as level
 use Rattle.mq_ast.specs.declared.terminals.Symbol.TheVariants as sign
 use Rattle.mq_ast.specs.declared.terminals.Terminal.TheVariants as terminal
-use Rattle.mq_ast.specs.Tokens.{Tok, Word, Name, terminal_at, opener}
-use Rattle.mq_ast.specs.declared.levels.TheConstants as level
-use Rattle.mq_ast.specs.Continuing.{loose, Stops, Not}
-use Rattle.mq_ast.specs.GrammarLists.{SomeOf, ManyOf, many_end, many_more, NameE, name}
-use Rattle.mq_ast.specs.GrammarExpression.{Expr}
-use Rattle.mq_ast.specs.GrammarQuery.{AliasE, alias_none, alias_as, alias_name, SelE, sel, Cols, cols, ItemE, item, item_of, JoinE, join_comma, join_on, join_inner, join_cross, FromE, items}
-use Rattle.mq_ast.proofs.Common.{begin, cut}
-use Rattle.mq_ast.proofs.OneExpression.{expr_same}
-use Rattle.mq_ast.proofs.OneQuery.{alias_stop, sels_same, item_same, joins_stop}
+use Rattle.mq_lexer.specs.declared.keywords.Keyword.TheVariants as word
+use Rattle.mq_ast.specs.Prelude.{AliasE, BareFront, Cols, ConditionE, EndsList, Expr, FromE, ItemE, JoinE, ManyOf, Name, NameE, Not}
+use Rattle.mq_ast.specs.Prelude.{OnE, OnFront, SelE, SomeOf, Stops, Tok, Word, alias_as, alias_name, alias_none, cols, condition}
+use Rattle.mq_ast.specs.Prelude.{front_comma, front_cross, front_inner, front_join, item, item_of, items, join_bare, join_on, loose}
+use Rattle.mq_ast.specs.Prelude.{many_end, many_more, name, on_item, opener, sel, terminal_at}
+use Rattle.mq_ast.specs.Laws.{alias_stop, begin, cut, expr_same, item_same, joins_stop, sels_same}
+use Rattle.mq_parse_query.specs.Pieces.{JoinFront, Leads, SomeName, front_word, some_name}
 use Rattle.mq_parse_expr.specs.Reading.{Then, No, Anywhere}
-use Rattle.mq_parse_query.specs.Lists.{EndsList}
-use Rattle.mq_parse_query.specs.PlainPieces.{SomeName, some_name, JoinFront, front_word, BareFront, front_comma, front_cross, OnFront, front_join, front_inner, ConditionE, condition, OnE, on_item, Leads}
 
 -- [AS] name
 pub some_no_name : {ts : List Tok} → No NameE Anywhere ts → No SomeName (Stops level.ITEM) ts
@@ -120,39 +116,39 @@ join_leads k t at join next s u = (omega (arith, s.0, u.0), u.1, leads_from (Joi
 
 pub bare_none : {ts : List Tok} → Not (terminal.Sign sign.Comma) ts → ((us : List Tok) → JoinFront word.Cross ts us → ⊥) → (us : List Tok) → BareFront ts us → ⊥
 bare_none n h us front_comma = n refl
-bare_none n h us (front_cross j) = h us j
+bare_none n h us front_cross = h us front_word
 
 pub on_none : {ts : List Tok} → Not (terminal.Word word.Join) ts → ((us : List Tok) → JoinFront word.Inner ts us → ⊥) → (us : List Tok) → OnFront ts us → ⊥
 on_none n h us front_join = n refl
-on_none n h us (front_inner j) = h us j
+on_none n h us front_inner = h us front_word
+
+pub cross_front : {ts us : List Tok} → JoinFront word.Cross ts us → BareFront ts us
+cross_front front_word = front_cross
+
+pub inner_front : {ts us : List Tok} → JoinFront word.Inner ts us → OnFront ts us
+inner_front front_word = front_inner
 
 -- the items of FROM behind the first
-pub bare_join : {i : FromItem} {ts us to : List Tok} → BareFront ts us → ItemE None i us to → JoinE i ts to
-bare_join front_comma d = join_comma d
-bare_join (front_cross front_word) d = join_cross d
-
-pub on_join : {i : FromItem} {ts us to : List Tok} → OnFront ts us → OnE i us to → JoinE i ts to
-on_join front_join (on_item d (condition f)) = join_on d f
-on_join (front_inner front_word) (on_item d (condition f)) = join_inner d f
-
 pub joins_no_bare : {ts us : List Tok} → BareFront ts us → No (ItemE None) (Stops level.ITEM) us → No (ManyOf JoinE) (Stops level.SOURCES) ts
 joins_no_bare front_comma h a to many_end s = absurd (omega arith)
-joins_no_bare front_comma h a to (many_more (join_comma d) ds) s = h _ _ d (joins_stop ds s)
-joins_no_bare (front_cross front_word) h a to many_end s = absurd (omega arith)
-joins_no_bare (front_cross front_word) h a to (many_more (join_cross d) ds) s = h _ _ d (joins_stop ds s)
+joins_no_bare front_cross h a to many_end s = absurd (omega arith)
+joins_no_bare front_comma h a to (many_more (join_bare front_comma d) ds) s = h _ _ d (joins_stop ds s)
+joins_no_bare front_cross h a to (many_more (join_bare front_cross d) ds) s = h _ _ d (joins_stop ds s)
+joins_no_bare front_comma h a to (many_more (join_on o d) ds) s = elim o [ ]
+joins_no_bare front_cross h a to (many_more (join_on o d) ds) s = elim o [ ]
 
 pub joins_no_on : {ts us : List Tok} → OnFront ts us → No OnE (Stops level.ITEM) us → No (ManyOf JoinE) (Stops level.SOURCES) ts
 joins_no_on front_join h a to many_end s = absurd (omega arith)
-joins_no_on front_join h a to (many_more (join_on d f) ds) s = h _ _ (on_item d (condition f)) (joins_stop ds s)
-joins_no_on (front_inner front_word) h a to many_end s = absurd (omega arith)
-joins_no_on (front_inner front_word) h a to (many_more (join_inner d f) ds) s = h _ _ (on_item d (condition f)) (joins_stop ds s)
+joins_no_on front_inner h a to many_end s = absurd (omega arith)
+joins_no_on front_join h a to (many_more (join_on front_join d) ds) s = h _ _ d (joins_stop ds s)
+joins_no_on front_inner h a to (many_more (join_on front_inner d) ds) s = h _ _ d (joins_stop ds s)
+joins_no_on front_join h a to (many_more (join_bare b d) ds) s = elim b [ ]
+joins_no_on front_inner h a to (many_more (join_bare b d) ds) s = elim b [ ]
 
 pub joins_no_front : {ts : List Tok} → ((us : List Tok) → BareFront ts us → ⊥) → ((us : List Tok) → OnFront ts us → ⊥) → loose (terminal_at ts) ≤ level.SOURCES → No (ManyOf JoinE) (Stops level.SOURCES) ts
 joins_no_front m n l a to many_end s = absurd (omega arith)
-joins_no_front m n l a to (many_more (join_comma d) ds) s = m _ front_comma
-joins_no_front m n l a to (many_more (join_cross d) ds) s = m _ (front_cross front_word)
-joins_no_front m n l a to (many_more (join_on d f) ds) s = n _ front_join
-joins_no_front m n l a to (many_more (join_inner d f) ds) s = n _ (front_inner front_word)
+joins_no_front m n l a to (many_more (join_bare f d) ds) s = m _ f
+joins_no_front m n l a to (many_more (join_on f d) ds) s = n _ f
 
 pub from_no_item : {ts : List Tok} → No (ItemE None) (Stops level.ITEM) ts → No FromE (Stops level.SOURCES) ts
 from_no_item h a to (items d ds) s = h _ _ d (joins_stop ds s)

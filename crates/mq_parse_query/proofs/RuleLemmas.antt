@@ -4,35 +4,29 @@ use Rattle.std.specs.Prelude.{Option, Some, None, MatchOption}
 use Rattle.mq_values.specs.declared.operators.Mode.{Mode}
 use Rattle.mq_lexer.specs.declared.sorts.Token.{Token}
 use Rattle.mq_ast.specs.declared.expressions.E.{E}
+use Rattle.mq_ast.specs.declared.queries.ForList.{ForList}
+use Rattle.mq_ast.specs.declared.queries.LeftTree.{LeftTree}
 use Rattle.mq_ast.specs.declared.queries.OrderKey.{OrderKey}
 use Rattle.mq_ast.specs.declared.queries.Plain.{Plain}
-use Rattle.mq_ast.specs.declared.queries.ForList.{ForList}
-use Rattle.mq_ast.specs.declared.queries.LeftPlace.TheVariants as left_place
-use Rattle.mq_ast.specs.declared.queries.LeftTree.{LeftTree}
-use Rattle.mq_ast.specs.declared.queries.LeftTree.TheVariants as left_tree
-use Rattle.mq_lexer.specs.declared.keywords.Keyword.TheVariants as word
 use Rattle.mq_ast.specs.declared.terminals.Symbol.{Symbol}
+use Rattle.mq_ast.specs.declared.clauses.TheConstants as clause
+use Rattle.mq_ast.specs.declared.queries.LeftTree.TheVariants as left_tree
+use Rattle.mq_ast.specs.declared.levels.TheConstants as level
 use Rattle.mq_ast.specs.declared.terminals.Symbol.TheVariants as sign
 use Rattle.mq_ast.specs.declared.terminals.Terminal.TheVariants as terminal
-use Rattle.mq_ast.specs.Tokens.{Tok, Word, Sign, Name, terminal_at, opener, closer, close_square, comma, equal}
-use Rattle.mq_ast.specs.declared.levels.TheConstants as level
-use Rattle.mq_ast.specs.declared.clauses.TheConstants as clause
-use Rattle.mq_ast.specs.Continuing.{loose, part, Stops, Not, Past}
-use Rattle.mq_ast.specs.OneTree.{OneTree}
-use Rattle.mq_ast.specs.GrammarLists.{SomeOf, NameE, name}
-use Rattle.mq_ast.specs.GrammarExpression.{Expr, Tuple}
-use Rattle.mq_ast.specs.GrammarQuery.{PlainE, OrderE}
-use Rattle.mq_ast.specs.GrammarRule.{AloneE, alone, mode_update, mode_upsert, mode_upsert_all, MaybeMode, mode_none, mode_some, values_list, values_rows, TuplesE, tuples_list, tuples_rows, DownE, down_no, down_yes, LitE, lit_any, lit_expr, lit_in, lit_range, left_places, left_tuples, RuleE, rule, rule_of, RuleList, rules_none, rules_some}
-use Rattle.mq_ast.proofs.Common.{Same, begin, cut}
-use Rattle.mq_ast.proofs.OneExpression.{expr_same, expr_no_any, expr_no_for}
-use Rattle.mq_ast.proofs.OneList.{some_same, names_same}
-use Rattle.mq_ast.proofs.OneQuery.{plain_same, plain_front, order_same}
-use Rattle.mq_ast.proofs.OneRule.{maybe_mode_same, alones_no_plain, values_same, tuples_no_plain, rows_same, down_same, down_stop, lits_no_tuple, left_same}
+use Rattle.mq_lexer.specs.declared.keywords.Keyword.TheVariants as word
+use Rattle.mq_ast.specs.Prelude.{AloneE, DownE, EndsList, EndsOrder, Expr, FinishE, ForListE, LitE, MaybeMode, Name, NameE, Not}
+use Rattle.mq_ast.specs.Prelude.{OneTree, OrderE, Past, PlainE, RangeE, RuleE, RuleFront, RuleList, RuleRight, Sign, SomeOf, StartE}
+use Rattle.mq_ast.specs.Prelude.{Stops, Tok, Tuple, Word, alone, close_square, closer, comma, down_no, down_yes, equal, finish}
+use Rattle.mq_ast.specs.Prelude.{for_rows, for_values, key, left_places, left_tuples, lit_any, lit_expr, lit_in, lit_range, loose}
+use Rattle.mq_ast.specs.Prelude.{mode_none, mode_some, mode_update, mode_upsert, mode_upsert_all, name, opener, part, plain, range}
+use Rattle.mq_ast.specs.Prelude.{rule, rule_front, rule_right, rules_none, rules_some, start, terminal_at}
+use Rattle.mq_ast.specs.Laws.{Same, begin, cut, down_stop, expr_no_any, expr_no_for, expr_same, finish_same, left_same, lits_no_tuple}
+use Rattle.mq_ast.specs.Laws.{maybe_mode_same, names_same, order_same, plain_front, plain_same, range_no_in, rows_same, rule_front_same}
+use Rattle.mq_ast.specs.Laws.{some_same, start_same, values_same}
+use Rattle.mq_parse_query.specs.Pieces.{Closed, ForOpen, ForPlace, LeftEnd, LeftTuples, NoForOpen, PlainEnd, Upserts}
 use Rattle.mq_parse_expr.specs.Reading.{from, Then, No, Anywhere}
 use Rattle.mq_parse_expr.proofs.Steps.{till}
-use Rattle.mq_parse_query.specs.Lists.{EndsList, EndsOrder}
-use Rattle.mq_parse_query.specs.declared.left.Range.{Range}
-use Rattle.mq_parse_query.specs.RulePieces.{Closed, PlainEnd, InValues, in_values, InTuples, in_tuples, StartE, start, FinishE, finish, RangeE, range, ForPlace, LeftEnd, LeftTuples, ForOpen, NoForOpen, Upserts, RuleFront, rule_front, RuleRight, rule_right}
 
 -- lists with a closing sign
 module _ {A : Type 0} (R : A → List Tok → List Tok → Type 0) (Stop : List Tok → Type 0) (k : Symbol) (closes : (ts : List Tok) → EndsList Stop (Sign k ∷ ts)) where
@@ -64,27 +58,18 @@ plain_no_close e r n a to d s = let p = plain_same e d r (omega arith) in n (ap 
 pub alone_no_expr : {ts : List Tok} → No Expr (Stops level.EXPRESSION) ts → No AloneE (Stops level.EXPRESSION) ts
 alone_no_expr h a to (alone d) s = h _ _ d s
 
-pub values_no_open : {ts : List Tok} → Not (terminal.Sign sign.Open) ts → No InValues Anywhere ts
-values_no_open n a to (in_values d) s = n refl
+module _ (R : List E → List Tok → List Tok → Type 0) where
+  pub for_no_open : {ts : List Tok} → Not (terminal.Sign sign.Open) ts → No (ForListE R) Anywhere ts
+  for_no_open n a to (for_values d) s = n refl
+  for_no_open n a to (for_rows d) s = n refl
 
-pub values_no_rows : {ts us : List Tok} → ts ≡ Word word.Select ∷ us → No PlainEnd Anywhere ts → No InValues Anywhere (opener ∷ ts)
-values_no_rows e h a to (in_values (values_list d)) s = alones_no_plain d (ap terminal_at e)
-values_no_rows e h a to (in_values (values_rows d)) s = h _ _ d s
+  pub for_no_rows : ((xss : List (List E)) (ts to : List Tok) → SomeOf R xss ts to → terminal_at ts ≡ terminal.Word word.Select → ⊥) → {ts us : List Tok} → ts ≡ Word word.Select ∷ us → No PlainEnd Anywhere ts → No (ForListE R) Anywhere (opener ∷ ts)
+  for_no_rows no_plain e h a to (for_values d) s = no_plain _ _ _ d (ap terminal_at e)
+  for_no_rows no_plain e h a to (for_rows d) s = h _ _ d s
 
-pub values_no_list : {ts : List Tok} → Not (terminal.Word word.Select) ts → No (Closed closer AloneE) Anywhere ts → No InValues Anywhere (opener ∷ ts)
-values_no_list n h a to (in_values (values_list d)) s = h _ _ d s
-values_no_list n h a to (in_values (values_rows d)) s = n (plain_front d)
-
-pub tuples_no_open : {ts : List Tok} → Not (terminal.Sign sign.Open) ts → No InTuples Anywhere ts
-tuples_no_open n a to (in_tuples d) s = n refl
-
-pub tuples_no_rows : {ts us : List Tok} → ts ≡ Word word.Select ∷ us → No PlainEnd Anywhere ts → No InTuples Anywhere (opener ∷ ts)
-tuples_no_rows e h a to (in_tuples (tuples_list d)) s = tuples_no_plain d (ap terminal_at e)
-tuples_no_rows e h a to (in_tuples (tuples_rows d)) s = h _ _ d s
-
-pub tuples_no_list : {ts : List Tok} → Not (terminal.Word word.Select) ts → No (Closed closer Tuple) Anywhere ts → No InTuples Anywhere (opener ∷ ts)
-tuples_no_list n h a to (in_tuples (tuples_list d)) s = h _ _ d s
-tuples_no_list n h a to (in_tuples (tuples_rows d)) s = n (plain_front d)
+  pub for_no_list : {ts : List Tok} → Not (terminal.Word word.Select) ts → No (Closed closer R) Anywhere ts → No (ForListE R) Anywhere (opener ∷ ts)
+  for_no_list n h a to (for_values d) s = h _ _ d s
+  for_no_list n h a to (for_rows d) s = n (plain_front d)
 
 -- FROM e TO e (INCREMENT | DECREMENT) e
 pub start_no_from : {ts : List Tok} → Not (terminal.Word word.From) ts → No StartE Anywhere ts
@@ -96,9 +81,6 @@ start_no_expr h a to (start d) s = h _ _ d (omega arith)
 pub start_no_to : {x : E} {ts mid : List Tok} → Expr x ts mid → Stops level.EXPRESSION mid → Not (terminal.Word word.To) mid → No StartE Anywhere (Word word.From ∷ ts)
 start_no_to e r n a to (start d) s = let p = expr_same e d r (omega arith) in n (ap terminal_at p.1)
 
-start_same : {a b : E} {ts to to' : List Tok} → StartE a ts to → StartE b ts to' → Same a b to to'
-start_same (start d) (start d') = let p = expr_same d d' (omega arith) (omega arith) in (p.0, cut p.1)
-
 pub down_no_word : {ts : List Tok} → Not (terminal.Word word.Increment) ts → Not (terminal.Word word.Decrement) ts → No DownE Anywhere ts
 down_no_word m n a to down_no s = m refl
 down_no_word m n a to down_yes s = n refl
@@ -108,12 +90,6 @@ finish_no_expr h a to (finish d b) s = h _ _ d (down_stop b)
 
 pub finish_no_down : {x : E} {ts mid : List Tok} → Expr x ts mid → Stops level.EXPRESSION mid → No DownE Anywhere mid → No FinishE Anywhere ts
 finish_no_down e r h a to (finish d b) s = let p = expr_same e d r (down_stop b) in h _ _ (begin DownE p.1 b) tt
-
-finish_same : {a b : E × Bool} {ts to to' : List Tok} → FinishE a ts to → FinishE b ts to' → Same a b to to'
-finish_same (finish d b) (finish d' b') =
-    let p = expr_same d d' (down_stop b) (down_stop b') in
-    let q = down_same b (begin DownE p.1 b') in
-    (cc, q.1)
 
 pub range_no_start : {ts : List Tok} → No StartE Anywhere ts → No RangeE (Stops level.EXPRESSION) ts
 range_no_start h a to (range x y z) s = h _ _ x tt
@@ -131,28 +107,22 @@ range_no_step e f h a to (range x y z) s =
 pub for_no_name : {ts : List Tok} → No NameE Anywhere ts → No ForPlace (Stops level.EXPRESSION) ts
 for_no_name h a to (lit_expr d) s = expr_no_for d
 for_no_name h a to (lit_in l) s = h _ _ name tt
-for_no_name h a to (lit_range d f g k) s = h _ _ name tt
+for_no_name h a to (lit_range r) s = h _ _ name tt
 
-pub for_no_values : {n : List ℕ} {ts : List Tok} → No InValues Anywhere ts → No ForPlace (Stops level.EXPRESSION) (Name n ∷ Word word.In ∷ ts)
+pub for_no_values : {n : List ℕ} {ts : List Tok} → No (ForListE AloneE) Anywhere ts → No ForPlace (Stops level.EXPRESSION) (Name n ∷ Word word.In ∷ ts)
 for_no_values h a to (lit_expr d) s = expr_no_for d
-for_no_values h a to (lit_in l) s = h _ _ (in_values l) tt
+for_no_values h a to (lit_in l) s = h _ _ l tt
+for_no_values h a to (lit_range r) s = range_no_in r
 
-pub for_no_end : {n : List ℕ} {x : ForList} {ts : List Tok} (mid : List Tok) → InValues x ts mid → loose (terminal_at mid) ≤ level.EXPRESSION → No ForPlace (Stops level.EXPRESSION) (Name n ∷ Word word.In ∷ ts)
+pub for_no_end : {n : List ℕ} {x : ForList} {ts : List Tok} (mid : List Tok) → ForListE AloneE x ts mid → loose (terminal_at mid) ≤ level.EXPRESSION → No ForPlace (Stops level.EXPRESSION) (Name n ∷ Word word.In ∷ ts)
 for_no_end mid e l a to (lit_expr d) s = expr_no_for d
-for_no_end mid (in_values e) l a to (lit_in d) s =
-    let p = values_same e d in
-    let k = ap (λ x. loose (terminal_at x)) p.1 in absurd (omega arith)
+for_no_end mid e l a to (lit_in d) s = let k = ap (λ x. loose (terminal_at x)) (values_same e d).1 in absurd (omega arith)
+for_no_end mid e l a to (lit_range r) s = range_no_in r
 
 pub for_no_range : {n : List ℕ} {ts : List Tok} → Not (terminal.Word word.In) ts → No RangeE (Stops level.EXPRESSION) ts → No ForPlace (Stops level.EXPRESSION) (Name n ∷ ts)
 for_no_range n h a to (lit_expr d) s = expr_no_for d
 for_no_range n h a to (lit_in l) s = n refl
-for_no_range n h a to (lit_range d f g k) s = h _ _ (range (start d) (finish f g) k) s
-
-pub for_values : {n : List ℕ} {l : ForList} {ts to : List Tok} → InValues l ts to → ForPlace (left_place.ForIn n l) (Name n ∷ Word word.In ∷ ts) to
-for_values (in_values d) = lit_in d
-
-pub for_range : {n : List ℕ} {r : Range} {ts to : List Tok} → RangeE r ts to → ForPlace (left_place.ForRange n r.start r.finish r.step r.down) (Name n ∷ ts) to
-for_range (range (start d) (finish f g) k) = lit_range d f g k
+for_no_range n h a to (lit_range r) s = h _ _ r s
 
 -- a place
 pub place_no_any : {ts : List Tok} → loose (terminal_at ts) ≤ level.EXPRESSION → No LitE (Stops level.EXPRESSION) (Word word.Any ∷ ts)
@@ -163,7 +133,7 @@ pub place_no_expr : {ts : List Tok} → Not (terminal.Word word.Any) ts → Not 
 place_no_expr m n h a to lit_any s = m refl
 place_no_expr m n h a to (lit_expr d) s = h _ _ d s
 place_no_expr m n h a to (lit_in l) s = n refl
-place_no_expr m n h a to (lit_range d f g k) s = n refl
+place_no_expr m n h a to (lit_range r) s = n refl
 
 -- a left side
 pub for_open : (t : List Token) (at mid : ℕ) (r : Option ℕ) → Then (Word word.For) t at mid → MatchOption r (Not (terminal.Sign sign.Open) (from t mid)) (Then opener t mid) → MatchOption r (NoForOpen (from t at)) (ForOpen t at)
@@ -181,24 +151,21 @@ pub left_no_in : {ns : List (List ℕ)} {ts mid : List Tok} → Closed closer Na
 left_no_in e m a to (left_places d) s = lits_no_tuple d
 left_no_in e m a to (left_tuples n d) s = let p = names_same e n (λ q. cc) (λ q. cc) in m (ap terminal_at (cut p.1))
 
-pub left_no_list : {ns : List (List ℕ)} {ts mid next : List Tok} → Closed closer NameE ns ts mid → mid ≡ Word word.In ∷ next → No InTuples Anywhere next → No LeftTuples Anywhere ts
+pub left_no_list : {ns : List (List ℕ)} {ts mid next : List Tok} → Closed closer NameE ns ts mid → mid ≡ Word word.In ∷ next → No (ForListE Tuple) Anywhere next → No LeftTuples Anywhere ts
 left_no_list e i h a to (left_places d) s = lits_no_tuple d
 left_no_list e i h a to (left_tuples n d) s =
     let p = names_same e n (λ q. cc) (λ q. cc) in
-    h _ _ (begin InTuples (cut (sym i ∙ cut p.1)) (in_tuples d)) tt
+    h _ _ (begin (ForListE Tuple) (cut (sym i ∙ cut p.1)) d) tt
 
-in_same : {l l' : ForList} {ts to to' : List Tok} → InTuples l ts to → InTuples l' ts to' → Same l l' to to'
-in_same (in_tuples d) (in_tuples d') = rows_same d d'
-
-pub left_no_close : {ns : List (List ℕ)} {l : ForList} {ts mid next last : List Tok} → Closed closer NameE ns ts mid → mid ≡ Word word.In ∷ next → InTuples l next last → Not (terminal.Sign sign.CloseSquare) last → No LeftTuples Anywhere ts
+pub left_no_close : {ns : List (List ℕ)} {l : ForList} {ts mid next last : List Tok} → Closed closer NameE ns ts mid → mid ≡ Word word.In ∷ next → ForListE Tuple l next last → Not (terminal.Sign sign.CloseSquare) last → No LeftTuples Anywhere ts
 left_no_close e i f m a to (left_places d) s = lits_no_tuple d
 left_no_close e i f m a to (left_tuples n d) s =
     let p = names_same e n (λ q. cc) (λ q. cc) in
-    let q = in_same f (begin InTuples (cut (sym i ∙ cut p.1)) (in_tuples d)) in
+    let q = rows_same f (begin (ForListE Tuple) (cut (sym i ∙ cut p.1)) d) in
     m (ap terminal_at q.1)
 
-pub tuples_left : {ns : List (List ℕ)} {l : ForList} {ts mid next last to : List Tok} → Closed closer NameE ns ts mid → mid ≡ Word word.In ∷ next → InTuples l next last → last ≡ close_square ∷ to → LeftTuples (left_tree.Tuples ns l) ts to
-tuples_left n i (in_tuples d) e = left_tuples (till (SomeOf NameE) (ap (λ r. closer ∷ r) i) n) (till TuplesE (ap (λ r. closer ∷ r) e) d)
+pub tuples_left : {ns : List (List ℕ)} {l : ForList} {ts mid next last to : List Tok} → Closed closer NameE ns ts mid → mid ≡ Word word.In ∷ next → ForListE Tuple l next last → last ≡ close_square ∷ to → LeftTuples (left_tree.Tuples ns l) ts to
+tuples_left n i d e = left_tuples (till (SomeOf NameE) (ap (λ r. closer ∷ r) i) n) (till (ForListE Tuple) e d)
 
 pub left_no_places : {ts : List Tok} → NoForOpen ts → No (Closed close_square LitE) Anywhere ts → No LeftEnd Anywhere ts
 left_no_places n h a to (left_places d) s = h _ _ d s
@@ -238,12 +205,6 @@ front_no_name e r h a to (rule_front d) s = let p = maybe_mode_same e d r (omega
 pub front_no_open : {m : Option Mode} {n : List ℕ} {ts mid next : List Tok} → MaybeMode m ts mid → Past clause.MODE mid → mid ≡ Name n ∷ next → Not (terminal.Sign sign.OpenSquare) next → No RuleFront Anywhere ts
 front_no_open e r f k a to (rule_front d) s = let p = maybe_mode_same e d r (omega arith) in k (ap terminal_at (cut (sym f ∙ p.1)))
 
-front_same : {a b : Option Mode × List ℕ} {ts to to' : List Tok} → RuleFront a ts to → RuleFront b ts to' → Same a b to to'
-front_same (rule_front {n = n} d) (rule_front {n = n'} d') =
-    let p = maybe_mode_same d d' (omega arith) (omega arith) in
-    let e : n ≡ n' = cc in
-    (cc, cut (cut p.1))
-
 -- [ORDER BY key {',' key}] '=' e
 pub before_equal : (ts : List Tok) → EndsOrder (equal ∷ ts)
 before_equal ts = (λ e. cc, (λ e. cc, λ e. cc, λ e. cc))
@@ -264,19 +225,15 @@ right_no_expr e r f h a to (rule_right {mid = m} o d) s =
 
 -- rules
 pub rule_no_front : {ts : List Tok} → No RuleFront Anywhere ts → No RuleE (Stops level.EXPRESSION) ts
-rule_no_front h a to (rule m l o d) s = h _ _ (rule_front m) tt
+rule_no_front h a to (rule f l r) s = h _ _ f tt
 
 pub rule_no_left : {f : Option Mode × List ℕ} {ts mid : List Tok} → RuleFront f ts mid → No LeftEnd Anywhere mid → No RuleE (Stops level.EXPRESSION) ts
-rule_no_left e h a to (rule m l o d) s = let p = front_same e (rule_front m) in h _ _ (begin LeftEnd p.1 l) tt
+rule_no_left e h a to (rule f l r) s = h _ _ (begin LeftEnd (rule_front_same e f).1 l) tt
 
 pub rule_no_right : {f : Option Mode × List ℕ} {x : LeftTree} {ts mid next : List Tok} → RuleFront f ts mid → LeftEnd x mid next → No RuleRight (Stops level.EXPRESSION) next → No RuleE (Stops level.EXPRESSION) ts
-rule_no_right e g h a to (rule m l o d) s =
-    let p = front_same e (rule_front m) in
-    let q = left_end_same g (begin LeftEnd p.1 l) in
-    h _ _ (begin RuleRight q.1 (rule_right o d)) s
-
-pub rule_whole : {f : Option Mode × List ℕ} {l : LeftTree} {r : List OrderKey × E} {ts mid next to : List Tok} → RuleFront f ts mid → LeftEnd l mid next → RuleRight r next to → RuleE (rule_of f.0 f.1 l r.0 r.1) ts to
-rule_whole (rule_front m) l (rule_right o d) = rule m l o d
+rule_no_right e g h a to (rule f l r) s =
+    let q = left_end_same g (begin LeftEnd (rule_front_same e f).1 l) in
+    h _ _ (begin RuleRight q.1 r) s
 
 pub rules_no_open : {ts : List Tok} → Not (terminal.Sign sign.Open) ts → No RuleList Anywhere ts
 rules_no_open n a to rules_none s = n refl

@@ -1,27 +1,20 @@
 -- Where the plain part of a query reads nothing behind its columns and its items of FROM. All of it is about lists of tokens.
 use Rattle.std.proofs.Common.{◌≤◌, List, [], ◌∷◌, refl, ap, arith}
 use Rattle.std.specs.Prelude.{Option}
-use Rattle.mq_ast.specs.declared.expressions.Path.{Path}
 use Rattle.mq_ast.specs.declared.expressions.E.{E}
-use Rattle.mq_ast.specs.declared.queries.Sel.{Sel}
 use Rattle.mq_ast.specs.declared.queries.FromItem.{FromItem}
-use Rattle.mq_lexer.specs.declared.keywords.Keyword.TheVariants as word
-use Rattle.mq_ast.specs.declared.terminals.Terminal.TheVariants as terminal
-use Rattle.mq_ast.specs.Tokens.{Tok, Word, terminal_at, star}
+use Rattle.mq_ast.specs.declared.expressions.Path.{Path}
+use Rattle.mq_ast.specs.declared.queries.Sel.{Sel}
+use Rattle.mq_ast.specs.declared.parts.Shown.{Shown}
 use Rattle.mq_ast.specs.declared.levels.TheConstants as level
-use Rattle.mq_ast.specs.Continuing.{loose, Stops, Not}
-use Rattle.mq_ast.specs.GrammarNames.{PathE}
-use Rattle.mq_ast.specs.GrammarLists.{SomeOf}
-use Rattle.mq_ast.specs.GrammarExpression.{Expr}
-use Rattle.mq_ast.specs.GrammarQuery.{SelE, select_star, select_list, FromE, WhereE, where_none, where_some, GroupE, group_none, group_some, PlainE, plain, plain_of}
-use Rattle.mq_ast.proofs.Common.{begin, cut}
-use Rattle.mq_ast.proofs.OneExpression.{expr_same}
-use Rattle.mq_ast.proofs.OneQuery.{sels_same, sels_no_star, select_same, from_same, where_same, where_stop, group_stop, paths_same, ends_paths}
+use Rattle.mq_ast.specs.declared.terminals.Terminal.TheVariants as terminal
+use Rattle.mq_lexer.specs.declared.keywords.Keyword.TheVariants as word
+use Rattle.mq_ast.specs.Prelude.{EndsList, Expr, FromE, GroupE, Not, PathE, PlainE, SelE, ShownE, SomeOf, SourceE, Stops, Tok, WhereE}
+use Rattle.mq_ast.specs.Prelude.{Word, group_none, group_some, loose, plain, query, shown_list, shown_star, source, star, terminal_at}
+use Rattle.mq_ast.specs.Prelude.{where_none, where_some}
+use Rattle.mq_ast.specs.Laws.{begin, ends_paths, expr_same, from_same, group_stop, paths_same, sels_no_star, sels_same, shown_same}
+use Rattle.mq_ast.specs.Laws.{where_same, where_stop}
 use Rattle.mq_parse_expr.specs.Reading.{No, Anywhere}
-use Rattle.mq_parse_query.specs.declared.plain.Shown.{Shown}
-use Rattle.mq_parse_query.specs.declared.plain.Source.{Source}
-use Rattle.mq_parse_query.specs.Lists.{EndsList}
-use Rattle.mq_parse_query.specs.PlainPieces.{ShownE, shown, SourceE, source}
 
 -- [WHERE e]
 pub where_no_where : {ts : List Tok} → Not (terminal.Word word.Where) ts → loose (terminal_at ts) ≤ level.FILTERED → No WhereE (Stops level.FILTERED) ts
@@ -57,16 +50,16 @@ group_no_end mid e r l a to (group_some d) s =
 
 -- (* | sel {, sel}) FROM
 pub shown_no_star : {ts : List Tok} → Not (terminal.Word word.From) ts → No ShownE Anywhere (star ∷ ts)
-shown_no_star n a to (shown select_star) s = n refl
-shown_no_star n a to (shown (select_list d)) s = absurd (sels_no_star d)
+shown_no_star n a to shown_star s = n refl
+shown_no_star n a to (shown_list d) s = absurd (sels_no_star d)
 
 pub shown_no_sels : {ts : List Tok} → Not (terminal_at (star ∷ [])) ts → No (SomeOf SelE) (EndsList (Stops level.ITEM)) ts → No ShownE Anywhere ts
-shown_no_sels n h a to (shown select_star) s = n refl
-shown_no_sels n h a to (shown (select_list d)) s = h _ _ d (omega arith, λ e. cc)
+shown_no_sels n h a to shown_star s = n refl
+shown_no_sels n h a to (shown_list d) s = h _ _ d (omega arith, λ e. cc)
 
 pub shown_no_from : {xs : List Sel} {ts mid : List Tok} → Not (terminal_at (star ∷ [])) ts → SomeOf SelE xs ts mid → EndsList (Stops level.ITEM) mid → Not (terminal.Word word.From) mid → No ShownE Anywhere ts
-shown_no_from n e r m a to (shown select_star) s = n refl
-shown_no_from n e r m a to (shown (select_list d)) s = let p = sels_same e d r (omega arith, λ e. cc) in m (ap terminal_at p.1)
+shown_no_from n e r m a to shown_star s = n refl
+shown_no_from n e r m a to (shown_list d) s = let p = sels_same e d r (omega arith, λ e. cc) in m (ap terminal_at p.1)
 
 -- from [WHERE e] [GROUP BY path {, path}]
 pub source_no_from : {ts : List Tok} → No FromE (Stops level.SOURCES) ts → No SourceE (Stops level.PLAIN) ts
@@ -85,14 +78,10 @@ source_no_group e r v q h a to (source f w g) s =
 
 -- SELECT and both
 pub plain_no_select : {ts : List Tok} → Not (terminal.Word word.Select) ts → No PlainE (Stops level.PLAIN) ts
-plain_no_select n a to (plain d f w g) s = n refl
+plain_no_select n a to (plain d f) s = n refl
 
 pub plain_no_shown : {ts : List Tok} → No ShownE Anywhere ts → No PlainE (Stops level.PLAIN) (Word word.Select ∷ ts)
-plain_no_shown h a to (plain d f w g) s = h _ _ (shown d) tt
+plain_no_shown h a to (plain d f) s = h _ _ d tt
 
 pub plain_no_source : {x : Shown} {ts mid : List Tok} → ShownE x ts mid → No SourceE (Stops level.PLAIN) mid → No PlainE (Stops level.PLAIN) (Word word.Select ∷ ts)
-plain_no_source (shown e) h a to (plain d f w g) s =
-    let p = select_same e d (omega arith, λ e. cc) (omega arith, λ e. cc) in h _ _ (source (begin FromE (cut p.2) f) w g) s
-
-pub plain_whole : {x : Shown} {y : Source} {ts mid to : List Tok} → ShownE x ts mid → SourceE y mid to → PlainE (plain_of x.star x.sels y.froms y.filter y.group) (Word word.Select ∷ ts) to
-plain_whole (shown d) (source f w g) = plain d f w g
+plain_no_source e h a to (plain d f) s = h _ _ (begin SourceE (shown_same e d).1 f) s

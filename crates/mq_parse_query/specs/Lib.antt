@@ -1,5 +1,2 @@
 pub mod Lists
-pub mod RulePieces
-pub mod HeadPieces
-pub mod ModelPieces
-pub mod PlainPieces
+pub mod Pieces

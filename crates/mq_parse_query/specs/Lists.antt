@@ -1,23 +1,10 @@
--- Where lists end.
+-- Parts that stand one behind the other.
 use Rattle.std.specs.Prelude.{◌<◌, ◌≤◌, ℕ, List, length, Option, Some, None, Result, Ok, Err}
 use Rattle.mq_values.specs.declared.memory.Fail.{Fail}
 use Rattle.mq_values.specs.declared.faults.Refused.{Refused}
 use Rattle.mq_lexer.specs.declared.sorts.Token.{Token}
-use Rattle.mq_lexer.specs.declared.keywords.Keyword.TheVariants as word
-use Rattle.mq_ast.specs.declared.terminals.Symbol.TheVariants as sign
-use Rattle.mq_ast.specs.declared.terminals.Terminal.TheVariants as terminal
-use Rattle.mq_ast.specs.Tokens.{Tok}
-use Rattle.mq_ast.specs.Continuing.{Not, EndsKeys}
-use Rattle.mq_ast.specs.GrammarLists.{ManyOf}
+use Rattle.mq_ast.specs.Prelude.{ManyOf, Tok}
 use Rattle.mq_parse_expr.specs.Reading.{from, No, Fails}
-
--- a member ends here, and no comma follows
-abbrev pub EndsList : (List Tok → Type 0) → List Tok → Type 0
-EndsList stop ts = stop ts × Not (terminal.Sign sign.Comma) ts
-
--- neither ORDER stands here nor what goes on behind a key
-abbrev pub EndsOrder : List Tok → Type 0
-EndsOrder ts = Not (terminal.Word word.Order) ts × EndsKeys ts
 
 -- The next of parts that stand one behind the other: none where the last has ended; SYNTAX where the tokens from here on are none
 -- of them up to such an end.

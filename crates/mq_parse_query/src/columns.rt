@@ -2,12 +2,9 @@
 
 ghost use Rattle.std.specs.Prelude.{◌≡◌, ◌≤◌, length};
 ghost use Rattle.mq_ast.specs.declared.levels.TheConstants as level;
-ghost use Rattle.mq_ast.specs.Continuing.{Stops};
-ghost use Rattle.mq_ast.specs.GrammarLists.{SomeOf};
-ghost use Rattle.mq_ast.specs.GrammarQuery.{AliasE, Cols, SelE, sel_of};
+ghost use Rattle.mq_ast.specs.Prelude.{AliasE, Cols, EndsList, SelE, SomeOf, Stops, sel_of};
+ghost use Rattle.mq_parse_query.specs.Pieces.{SomeName};
 ghost use Rattle.mq_parse_expr.specs.Reading.{Anywhere, Gives};
-ghost use Rattle.mq_parse_query.specs.Lists.{EndsList};
-ghost use Rattle.mq_parse_query.specs.PlainPieces.{SomeName};
 
 use crate::lists::{Listed, read_list};
 use mq_ast::{E, Keyword, Sel, Symbol, levels};
@@ -52,7 +49,7 @@ fn read_alias_name(
 impl Listed for Sel {
     ghost use Rattle.mq_ast.specs.Continuing.{Stops};
     ghost use Rattle.mq_ast.specs.GrammarQuery.{SelE};
-    ghost use Rattle.mq_ast.proofs.OneQuery.{sel_same};
+    ghost use Rattle.mq_ast.specs.Laws.{sel_same};
     ghost use Rattle.std.proofs.Common.{arith, rules};
 
     type Tree = Sel;

@@ -1,12 +1,10 @@
 //! The items of FROM (docs/LANGUAGE.md, "Queries").
 
 ghost use Rattle.std.specs.Prelude.{◌≡◌, ◌≤◌, List, Some, None, length, MatchOption};
-ghost use Rattle.mq_ast.specs.Tokens.{Tok};
 ghost use Rattle.mq_ast.specs.declared.levels.TheConstants as level;
-ghost use Rattle.mq_ast.specs.Continuing.{Stops};
-ghost use Rattle.mq_ast.specs.GrammarQuery.{FromE, ItemE, item_of};
+ghost use Rattle.mq_ast.specs.Prelude.{BareFront, ConditionE, FromE, ItemE, OnE, OnFront, Stops, Tok, item_of};
+ghost use Rattle.mq_parse_query.specs.Pieces.{JoinFront, Leads};
 ghost use Rattle.mq_parse_expr.specs.Reading.{Gives, from};
-ghost use Rattle.mq_parse_query.specs.PlainPieces.{BareFront, ConditionE, JoinFront, Leads, OnE, OnFront};
 
 use crate::columns::read_alias;
 use crate::lists::{Repeated, read_many};
@@ -107,7 +105,7 @@ struct Joins;
 impl Repeated for Joins {
     ghost use Rattle.mq_ast.specs.Continuing.{Stops};
     ghost use Rattle.mq_ast.specs.GrammarQuery.{JoinE};
-    ghost use Rattle.mq_ast.proofs.OneQuery.{join_same, join_begins, join_not_stop};
+    ghost use Rattle.mq_ast.specs.Laws.{join_same, join_begins, join_not_stop};
     ghost use Rattle.std.proofs.Common.{arith, rules};
 
     type Tree = FromItem;

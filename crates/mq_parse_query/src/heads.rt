@@ -1,21 +1,21 @@
 //! The parts of a MODEL clause before its rules (docs/LANGUAGE.md, "The MODEL clause").
 
 ghost use Rattle.std.specs.Prelude.{◌≡◌, ◌≢◌, ◌≤◌, ◌+◌, ◌∷◌, length, MatchOption};
-ghost use Rattle.mq_ast.specs.Tokens.{Word, terminal_at};
-ghost use Rattle.mq_ast.specs.declared.clauses.TheConstants as clause;
-ghost use Rattle.mq_ast.specs.Continuing.{Past};
-ghost use Rattle.mq_ast.specs.GrammarModel.{AutoE, MainE, OptE, PartsE, RefE, ReturnE, UntilE, ref_of};
 ghost use Rattle.std.proofs.Common.{arith};
-ghost use Rattle.mq_ast.proofs.OneModel.{opt_same, opt_not_past, ref_not_past, ref_past, ref_same};
+ghost use Rattle.mq_ast.specs.declared.clauses.TheConstants as clause;
+ghost use Rattle.mq_ast.specs.Prelude.{AutoE, AxesE, DimsE, HeadE, IterateE, MainE, Opens, OptE, PartsE, Past, RefE, RefSourceE};
+ghost use Rattle.mq_ast.specs.Prelude.{ReturnE, RoundInt, UntilE, WhichE, Word, head_of, ref_of};
+ghost use Rattle.mq_ast.specs.Laws.{opt_not_past, opt_same, ref_not_past, ref_past, ref_same};
+ghost use Rattle.mq_parse_query.specs.Pieces.{AutoEnd, Iterates, Refers, Returns, Ruling, first_word, option_of as spec_option};
+ghost use Rattle.mq_parse_query.specs.Pieces.{second_word as spec_second};
 ghost use Rattle.mq_parse_expr.specs.Reading.{Anywhere, Gives, Then, from};
 ghost use Rattle.mq_parse_query.specs.Lists as lists;
-ghost use Rattle.mq_parse_query.specs.HeadPieces.{AutoEnd, Heading, Opens, RoundInt, Ruling, Turning, Iterates, head_of};
-ghost use Rattle.mq_parse_query.specs.ModelPieces.{AxesE, DimsE, Refers, Returns, SourceE, WhichE, first_word, option_of as spec_option, second_word as spec_second};
 
 use crate::columns::read_cols;
 use crate::left::read_plain_end;
 use crate::lists::{Repeated, read_many};
 use crate::rules::{past, read_mode};
+use mq_ast::parts::Head;
 use mq_ast::{E, Keyword, Opt, Plain, RefTree, Sel, Symbol, Terminal, clauses};
 use mq_lexer::Token;
 use mq_parse_expr::{behind_word, pass_sign, pass_word, read_int, read_name, read_round, terminal};
@@ -137,7 +137,7 @@ fn read_source(
     t: &[Token<'_>],
     at: usize,
 ) -> Result<((Words, Plain), usize), Fail<Refused>>
-    ensures { Gives SourceE Anywhere t.now at result }
+    ensures { Gives RefSourceE Anywhere t.now at result }
 {
     let (name, end) = read_name(alloc, t, at)?;
     let on = pass_word(t, end, Keyword::On)?;
@@ -175,7 +175,7 @@ pub(crate) fn read_axes(
 }
 
 fn ref_tree(source: (Words, Plain), axes: (Items<Sel>, Items<Sel>), opts: Items<Opt>) -> RefTree
-    ensures { result ≡ ref_of source.0 source.1 axes.0 axes.1 opts }
+    ensures { result ≡ ref_of source axes opts }
 {
     let (name, query) = source;
     let (dims, measures) = axes;
@@ -368,7 +368,7 @@ fn read_iterate(
     at: usize,
 ) -> Result<((Option<Num>, Option<E>), usize), Fail<Refused>>
     requires { at ≤ length t.now }
-    ensures { Gives Turning (Past clause.UNTIL) t.now at result }
+    ensures { Gives IterateE (Past clause.UNTIL) t.now at result }
 {
     match behind_word(t, at, Keyword::Iterate) {
         Some(behind) => read_turns(alloc, t, behind),
@@ -377,15 +377,6 @@ fn read_iterate(
             Ok(((None, None), at))
         }
     }
-}
-
-/// What stands before the rules: the mode, whether their order is AUTOMATIC, ITERATE and UNTIL.
-#[derive(Drop)]
-pub(crate) struct Head {
-    pub(crate) mode: Option<Mode>,
-    pub(crate) auto: bool,
-    pub(crate) iterate: Option<Num>,
-    pub(crate) until: Option<E>,
 }
 
 fn head_from(mode: Option<Mode>, auto: bool, iterate: (Option<Num>, Option<E>)) -> Head
@@ -419,7 +410,7 @@ pub(crate) fn read_head(
     at: usize,
 ) -> Result<(Head, usize), Fail<Refused>>
     requires { at ≤ length t.now }
-    ensures { Gives Heading Opens t.now at result }
+    ensures { Gives HeadE Opens t.now at result }
 {
     match behind_word(t, at, Keyword::Rules) {
         Some(behind) => read_ruling(alloc, t, behind),

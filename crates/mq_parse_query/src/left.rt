@@ -1,22 +1,17 @@
 //! The left sides of rules (docs/LANGUAGE.md, "The MODEL clause").
 
 ghost use Rattle.std.specs.Prelude.{◌≡◌, ◌≤◌, ◌∷◌, [], List, length, IfOk, MatchOption};
-ghost use Rattle.mq_ast.specs.declared.queries.LeftPlace.TheVariants as left_place;
-ghost use Rattle.mq_ast.specs.Tokens.{Tok, Sign};
-ghost use Rattle.mq_ast.specs.declared.levels.TheConstants as level;
-ghost use Rattle.mq_ast.specs.Continuing.{Stops};
-ghost use Rattle.mq_ast.specs.GrammarLists.{NameE};
-ghost use Rattle.mq_ast.specs.GrammarExpression.{Tuple};
-ghost use Rattle.mq_ast.specs.GrammarRule.{AloneE, DownE, LitE};
 ghost use Rattle.mq_parse_expr.specs.Reading.{Anywhere, Gives, from};
-ghost use Rattle.mq_parse_query.specs.Lists.{EndsList};
-ghost use Rattle.mq_parse_query.specs.RulePieces.{Closed, FinishE, ForOpen, ForPlace, InTuples, InValues, LeftEnd, LeftTuples, NoForOpen, PlainEnd, RangeE, StartE, range_of};
 ghost use Rattle.std.proofs.Common.{arith};
-ghost use Rattle.mq_ast.proofs.OneList.{name_same};
-ghost use Rattle.mq_ast.proofs.OneRule.{alone_same, lit_same, tuple_one};
+ghost use Rattle.mq_ast.specs.declared.levels.TheConstants as level;
+ghost use Rattle.mq_ast.specs.Prelude.{AloneE, DownE, EndsList, FinishE, ForListE, LitE, NameE, RangeE, Sign, StartE, Stops, Tok, Tuple};
+ghost use Rattle.mq_ast.specs.Prelude.{place_of, range_of};
+ghost use Rattle.mq_ast.specs.Laws.{alone_same, lit_same, name_same, tuple_one};
+ghost use Rattle.mq_parse_query.specs.Pieces.{Closed, ForOpen, ForPlace, LeftEnd, LeftTuples, NoForOpen, PlainEnd};
 
 use crate::lists::{Listed, read_list};
 use crate::plain::read_plain;
+use mq_ast::parts::Range;
 use mq_ast::{E, ForList, Keyword, LeftPlace, LeftTree, Plain, Symbol, levels};
 use mq_lexer::Token;
 use mq_parse_expr::{
@@ -132,7 +127,7 @@ fn list_of(alloc: Global, e: E) -> Result<Items<E>, Memory>
 
 // The values of a FOR between brackets, or a query.
 fn read_values(alloc: Global, t: &[Token<'_>], at: usize) -> Result<(ForList, usize), Fail<Refused>>
-    ensures { Gives InValues Anywhere t.now at result }
+    ensures { Gives (ForListE AloneE) Anywhere t.now at result }
 {
     let open = pass_sign(t, at, Symbol::Open)?;
     match behind_word(t, open, Keyword::Select) {
@@ -149,7 +144,7 @@ fn read_values(alloc: Global, t: &[Token<'_>], at: usize) -> Result<(ForList, us
 
 // The rows of a FOR between brackets, or a query.
 fn read_tuples(alloc: Global, t: &[Token<'_>], at: usize) -> Result<(ForList, usize), Fail<Refused>>
-    ensures { Gives InTuples Anywhere t.now at result }
+    ensures { Gives (ForListE Tuple) Anywhere t.now at result }
 {
     let open = pass_sign(t, at, Symbol::Open)?;
     match behind_word(t, open, Keyword::Select) {
@@ -162,15 +157,6 @@ fn read_tuples(alloc: Global, t: &[Token<'_>], at: usize) -> Result<(ForList, us
             Ok((ForList::Values(list), to))
         }
     }
-}
-
-/// The values that a FOR goes through from a first to a last one.
-#[derive(Drop)]
-pub(crate) struct Range {
-    pub(crate) start: E,
-    pub(crate) finish: E,
-    pub(crate) down: bool,
-    pub(crate) step: E,
 }
 
 // FROM, an expression and TO.
@@ -233,7 +219,7 @@ fn read_range(alloc: Global, t: &[Token<'_>], at: usize) -> Result<(Range, usize
 }
 
 fn for_range(dim: Words, range: Range) -> LeftPlace
-    ensures { result ≡ left_place.ForRange dim range.start range.finish range.step range.down }
+    ensures { result ≡ place_of dim range }
 {
     LeftPlace::ForRange {
         dim,

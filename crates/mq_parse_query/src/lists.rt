@@ -1,11 +1,9 @@
 //! Parts that stand one or more times, with commas between them, or one behind the other.
 
 ghost use Rattle.std.specs.Prelude.{◌≡◌, ◌<◌, ◌≤◌, ℕ, List, ◌∷◌, length};
-ghost use Rattle.mq_ast.specs.Tokens.{Tok, comma};
-ghost use Rattle.mq_ast.specs.OneTree.{OneTree};
-ghost use Rattle.mq_ast.specs.GrammarLists.{SomeOf, MoreOf, ManyOf};
+ghost use Rattle.mq_ast.specs.Prelude.{EndsList, ManyOf, MoreOf, OneTree, SomeOf, Tok, comma};
+ghost use Rattle.mq_parse_query.specs.Lists.{Turns};
 ghost use Rattle.mq_parse_expr.specs.Reading.{Gives, from};
-ghost use Rattle.mq_parse_query.specs.Lists.{EndsList, Turns};
 
 use mq_ast::Symbol;
 use mq_lexer::Token;

@@ -2,43 +2,19 @@
 
 ghost use Rattle.std.specs.Prelude.{◌≡◌, ◌≤◌, length};
 ghost use Rattle.mq_ast.specs.declared.clauses.TheConstants as clause;
-ghost use Rattle.mq_ast.specs.Continuing.{Past};
-ghost use Rattle.mq_ast.specs.GrammarModel.{ModelE};
+ghost use Rattle.mq_ast.specs.Prelude.{BodyE, FrontE, ModelE, Past, TailE, model_of};
+ghost use Rattle.mq_parse_query.specs.Pieces.{Modelling};
 ghost use Rattle.mq_parse_expr.specs.Reading.{Anywhere, Gives};
-ghost use Rattle.mq_parse_query.specs.ModelPieces.{BodyE, FrontE, Modelling, TailE, model_of};
 
-use crate::heads::{Head, read_axes, read_head, read_main, read_parts, read_return};
+use crate::heads::{read_axes, read_head, read_main, read_parts, read_return};
 use crate::lists::read_many;
 use crate::rules::read_rules;
+use mq_ast::parts::{Body, Front, Head, Tail};
 use mq_ast::{Keyword, ModelTree, Opt, RefTree, RuleTree, Sel};
 use mq_lexer::Token;
 use mq_parse_expr::behind_word;
 use mq_values::{Fail, Items, Refused, Words};
 use std::alloc::Global;
-
-/// The options of a MODEL clause, whether RETURN UPDATED stands there, and its references.
-#[derive(Drop)]
-pub(crate) struct Front {
-    pub(crate) opts: Items<Opt>,
-    pub(crate) updated: bool,
-    pub(crate) refs: Items<RefTree>,
-}
-
-/// The name behind MAIN, the columns of PARTITION BY, and those of DIMENSION BY and MEASURES.
-#[derive(Drop)]
-pub(crate) struct Body {
-    pub(crate) main: Option<Words>,
-    pub(crate) parts: Items<Sel>,
-    pub(crate) axes: (Items<Sel>, Items<Sel>),
-}
-
-/// The options behind MEASURES, and the rules with what stands before them.
-#[derive(Drop)]
-pub(crate) struct Tail {
-    pub(crate) opts: Items<Opt>,
-    pub(crate) head: Head,
-    pub(crate) rules: Items<RuleTree>,
-}
 
 fn read_front(alloc: Global, t: &[Token<'_>], at: usize) -> Result<(Front, usize), Fail<Refused>>
     requires { at ≤ length t.now }

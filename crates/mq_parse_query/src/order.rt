@@ -1,10 +1,8 @@
 //! The keys of ORDER BY (docs/LANGUAGE.md, "Queries").
 
 ghost use Rattle.std.specs.Prelude.{◌≡◌, ◌≢◌, ◌≤◌, length, MatchResult};
-ghost use Rattle.mq_ast.specs.GrammarQuery.{OrderE, key_of};
+ghost use Rattle.mq_ast.specs.Prelude.{DirectionE, EndsKey, EndsOrder, OrderE, key_of};
 ghost use Rattle.mq_parse_expr.specs.Reading.{Fails, Gives, from};
-ghost use Rattle.mq_parse_query.specs.Lists.{EndsOrder};
-ghost use Rattle.mq_parse_query.specs.PlainPieces.{DirectionE, EndsKey};
 
 use crate::lists::{Listed, read_list};
 use mq_ast::{Keyword, OrderKey, Symbol};
@@ -57,7 +55,7 @@ fn read_direction(t: &[Token<'_>], at: usize) -> Result<(bool, usize), Fail<Refu
 
 impl Listed for OrderKey {
     ghost use Rattle.mq_ast.specs.GrammarQuery.{KeyE};
-    ghost use Rattle.mq_ast.proofs.OneQuery.{key_same};
+    ghost use Rattle.mq_ast.specs.Laws.{key_same};
     ghost use Rattle.mq_parse_query.specs.PlainPieces.{EndsKey};
     ghost use Rattle.std.proofs.Common.{arith, rules};
 

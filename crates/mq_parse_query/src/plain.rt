@@ -2,14 +2,13 @@
 
 ghost use Rattle.std.specs.Prelude.{◌≡◌, ◌≤◌, true, false, [], length};
 ghost use Rattle.mq_ast.specs.declared.levels.TheConstants as level;
-ghost use Rattle.mq_ast.specs.Continuing.{Stops};
-ghost use Rattle.mq_ast.specs.GrammarQuery.{GroupE, PlainE, WhereE, plain_of};
+ghost use Rattle.mq_ast.specs.Prelude.{GroupE, PlainE, ShownE, SourceE, Stops, WhereE, plain_of, shown_of, source_of};
 ghost use Rattle.mq_parse_expr.specs.Reading.{Anywhere, Gives};
-ghost use Rattle.mq_parse_query.specs.PlainPieces.{ShownE, SourceE, shown_of, source_of};
 
 use crate::columns::read_sels;
 use crate::froms::read_from;
 use crate::lists::{Listed, read_list};
+use mq_ast::parts::{Shown, Source};
 use mq_ast::{E, FromItem, Keyword, Path, Plain, Sel, Symbol, levels};
 use mq_lexer::Token;
 use mq_parse_expr::{behind_sign, behind_word, pass_word, read_expr, read_path, settled};
@@ -37,7 +36,7 @@ pub fn read_where(
 impl Listed for Path {
     ghost use Rattle.mq_ast.specs.Continuing.{Stops};
     ghost use Rattle.mq_ast.specs.GrammarNames.{PathE};
-    ghost use Rattle.mq_ast.proofs.OneQuery.{path_one};
+    ghost use Rattle.mq_ast.specs.Laws.{path_one};
     ghost use Rattle.std.proofs.Common.{arith, rules};
 
     type Tree = Path;
@@ -74,13 +73,6 @@ fn read_group(
     Ok((paths, to))
 }
 
-/// What a query shows: all columns, or these.
-#[derive(Drop)]
-pub(crate) struct Shown {
-    pub(crate) star: bool,
-    pub(crate) sels: Items<Sel>,
-}
-
 fn all_columns(alloc: Global) -> Shown
     ensures { result ≡ shown_of true [] }
 {
@@ -110,14 +102,6 @@ fn read_shown(alloc: Global, t: &[Token<'_>], at: usize) -> Result<(Shown, usize
     Ok((these(sels), to))
 }
 
-/// Which rows a query takes, and their groups.
-#[derive(Drop)]
-pub(crate) struct Source {
-    pub(crate) froms: Items<FromItem>,
-    pub(crate) filter: Option<E>,
-    pub(crate) group: Items<Path>,
-}
-
 fn source_with(froms: Items<FromItem>, filter: Option<E>, group: Items<Path>) -> Source
     ensures { result ≡ source_of froms filter group }
 {
@@ -140,7 +124,7 @@ fn read_source(alloc: Global, t: &[Token<'_>], at: usize) -> Result<(Source, usi
 }
 
 fn plain_with(shown: Shown, source: Source) -> Plain
-    ensures { result ≡ plain_of shown.star shown.sels source.froms source.filter source.group }
+    ensures { result ≡ plain_of shown source }
 {
     Plain {
         star: shown.star,

@@ -2,11 +2,8 @@
 
 ghost use Rattle.std.specs.Prelude.{◌≡◌, ◌≤◌, length};
 ghost use Rattle.mq_ast.specs.declared.levels.TheConstants as level;
-ghost use Rattle.mq_ast.specs.Continuing.{Stops};
-ghost use Rattle.mq_ast.specs.GrammarQuery.{OrderE};
-ghost use Rattle.mq_ast.specs.GrammarModel.{QueryE, query_of};
+ghost use Rattle.mq_ast.specs.Prelude.{EndE, OrderE, QueryE, Stops, query_of};
 ghost use Rattle.mq_parse_expr.specs.Reading.{Gives};
-ghost use Rattle.mq_parse_query.specs.ModelPieces.{EndE};
 
 use crate::model::read_model;
 use crate::order::read_order;
@@ -54,7 +51,7 @@ fn read_end(
 }
 
 fn query_tree(plain: Plain, end: (Option<ModelTree>, Items<OrderKey>)) -> Query
-    ensures { result ≡ query_of plain end.0 end.1 }
+    ensures { result ≡ query_of plain end }
 {
     let (model, order) = end;
     Query {

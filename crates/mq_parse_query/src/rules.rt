@@ -1,15 +1,13 @@
 //! The rules of a MODEL clause (docs/LANGUAGE.md, "The MODEL clause").
 
 ghost use Rattle.std.specs.Prelude.{◌≡◌, ◌≤◌, ◌<◌, length, MatchResult};
-ghost use Rattle.mq_ast.specs.Tokens.{terminal_at};
-ghost use Rattle.mq_ast.specs.declared.levels.TheConstants as level;
-ghost use Rattle.mq_ast.specs.declared.clauses.TheConstants as clause;
-ghost use Rattle.mq_ast.specs.Continuing.{Past, Stops, part};
-ghost use Rattle.mq_ast.specs.GrammarRule.{MaybeMode, RuleE, RuleList, rule_of};
 ghost use Rattle.mq_parse_expr.specs.Reading.{Anywhere, Fails, Gives, from};
-ghost use Rattle.mq_parse_query.specs.RulePieces.{RuleFront, RuleRight, Upserts};
 ghost use Rattle.std.proofs.Common.{arith};
-ghost use Rattle.mq_ast.proofs.OneRule.{rule_same};
+ghost use Rattle.mq_ast.specs.declared.clauses.TheConstants as clause;
+ghost use Rattle.mq_ast.specs.declared.levels.TheConstants as level;
+ghost use Rattle.mq_ast.specs.Prelude.{MaybeMode, Past, RuleE, RuleFront, RuleList, RuleRight, Stops, part, rule_of, terminal_at};
+ghost use Rattle.mq_ast.specs.Laws.{rule_same};
+ghost use Rattle.mq_parse_query.specs.Pieces.{Upserts};
 
 use crate::left::{read_closed, read_left};
 use crate::lists::Listed;
@@ -118,7 +116,7 @@ fn read_right(
 }
 
 fn rule_tree(front: (Option<Mode>, Words), left: LeftTree, right: (Items<OrderKey>, E)) -> RuleTree
-    ensures { result ≡ rule_of front.0 front.1 left right.0 right.1 }
+    ensures { result ≡ rule_of front left right }
 {
     let (mode, measure) = front;
     let (order, right) = right;

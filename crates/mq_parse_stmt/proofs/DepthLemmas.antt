@@ -6,8 +6,7 @@ use Rattle.std.proofs.lemmas.Bool.{cases_lt}
 use mir.Val.{bool_byte}
 use Rattle.mq_lexer.specs.declared.sorts.Token.{Token}
 use Rattle.mq_ast.specs.declared.terminals.Terminal.{Terminal}
-use Rattle.mq_ast.specs.Tokens.{Tok, terminal_at}
-use Rattle.mq_ast.specs.Spelling.{tok_of, toks}
+use Rattle.mq_ast.specs.Prelude.{Tok, terminal_at, tok_of, toks}
 use Rattle.mq_parse_expr.specs.Reading.{from}
 use Rattle.mq_parse_stmt.specs.Depth.{opens, closes, count, Over, TooDeep}
 

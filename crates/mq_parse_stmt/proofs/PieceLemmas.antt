@@ -2,29 +2,22 @@
 use Rattle.std.proofs.Common.{◌≡◌, ℕ, ◌≤◌, List, ◌∷◌, refl, ap, arith}
 use Rattle.std.specs.Prelude.{Option}
 use Rattle.mq_values.specs.declared.value.Kind.{Kind}
-use Rattle.mq_ast.specs.declared.expressions.E.{E}
-use Rattle.mq_ast.specs.declared.statements.ColDef.{ColDef}
-use Rattle.mq_lexer.specs.declared.keywords.Keyword.{Keyword}
-use Rattle.mq_lexer.specs.declared.keywords.Keyword.TheVariants as word
-use Rattle.mq_ast.specs.declared.terminals.Symbol.TheVariants as sign
 use Rattle.mq_values.specs.declared.operators.CmpOp.TheVariants as cmp
-use Rattle.mq_ast.specs.declared.terminals.Terminal.TheVariants as terminal
-use Rattle.mq_ast.specs.Tokens.{Tok, Word, Name, Text, terminal_at, opener, comma, equal}
+use Rattle.mq_ast.specs.declared.statements.ColDef.{ColDef}
+use Rattle.mq_ast.specs.declared.expressions.E.{E}
+use Rattle.mq_lexer.specs.declared.keywords.Keyword.{Keyword}
 use Rattle.mq_ast.specs.declared.levels.TheConstants as level
-use Rattle.mq_ast.specs.Continuing.{loose, Stops, Not, EndsCols}
-use Rattle.mq_ast.specs.GrammarNames.{KindE}
-use Rattle.mq_ast.specs.GrammarLists.{SomeOf, some_of, MoreOf, more_end, more_comma, NameE, name}
-use Rattle.mq_ast.specs.GrammarExpression.{Expr}
-use Rattle.mq_ast.specs.GrammarQuery.{WhereE}
-use Rattle.mq_ast.specs.GrammarStatement.{NotNullE, null_may, null_not, ColE, col, NamesE, names, PrimaryE, primary_none, primary_some, names_none, names_some, SetE, set}
-use Rattle.mq_ast.proofs.Common.{begin}
-use Rattle.mq_ast.proofs.OneExpression.{kind_same}
-use Rattle.mq_ast.proofs.OneList.{names_same, stops_not}
-use Rattle.mq_ast.proofs.OneQuery.{where_same, where_stop}
-use Rattle.mq_ast.proofs.OneStatement.{col_same, cols_of_same, names_of_same, primary_ends, primary_same, sets_same}
+use Rattle.mq_ast.specs.declared.terminals.Symbol.TheVariants as sign
+use Rattle.mq_ast.specs.declared.terminals.Terminal.TheVariants as terminal
+use Rattle.mq_lexer.specs.declared.keywords.Keyword.TheVariants as word
+use Rattle.mq_ast.specs.Prelude.{ColE, EndsCols, EndsList, Expr, KindE, MoreOf, Name, NameE, NamesE, Not, NotNullE, PrimaryE, SetE}
+use Rattle.mq_ast.specs.Prelude.{SomeOf, Stops, Text, Tok, WhereE, Word, col, comma, equal, key, loose, more_comma, more_end, name}
+use Rattle.mq_ast.specs.Prelude.{names, names_none, names_some, null_may, null_not, opener, primary_none, primary_some, set, some_of}
+use Rattle.mq_ast.specs.Prelude.{terminal_at}
+use Rattle.mq_ast.specs.Laws.{begin, col_same, cols_of_same, kind_same, names_of_same, names_same, primary_ends, primary_same}
+use Rattle.mq_ast.specs.Laws.{sets_same, stops_not, where_same, where_stop}
 use Rattle.mq_parse_expr.specs.Names.{TextE, txt}
 use Rattle.mq_parse_expr.specs.Reading.{No, Anywhere}
-use Rattle.mq_parse_query.specs.Lists.{EndsList}
 use Rattle.mq_parse_stmt.specs.Pieces.{WordName, word_name, KeyEnd, KeyBehind, Body, body, NamesValues, Changes, changes}
 
 -- a name behind a word, and a text

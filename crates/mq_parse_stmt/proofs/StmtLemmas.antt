@@ -5,30 +5,20 @@ use Rattle.mq_values.specs.declared.memory.Fail.{Fail}
 use Rattle.mq_values.specs.declared.memory.Fail.TheVariants as fail
 use Rattle.mq_values.specs.declared.faults.Refused.{Refused}
 use Rattle.mq_values.specs.declared.faults.Refused.TheVariants as refused
+use Rattle.mq_ast.specs.declared.statements.ColDef.{ColDef}
 use Rattle.mq_ast.specs.declared.expressions.E.{E}
 use Rattle.mq_ast.specs.declared.queries.Query.{Query}
-use Rattle.mq_ast.specs.declared.statements.ColDef.{ColDef}
 use Rattle.mq_ast.specs.declared.statements.Stmt.{Stmt}
-use Rattle.mq_ast.specs.declared.statements.Stmt.TheVariants as stmt
-use Rattle.mq_lexer.specs.declared.keywords.Keyword.TheVariants as word
-use Rattle.mq_ast.specs.declared.terminals.Terminal.TheVariants as terminal
-use Rattle.mq_ast.specs.Tokens.{Tok, Word, Name, Text}
 use Rattle.mq_ast.specs.declared.levels.TheConstants as level
-use Rattle.mq_ast.specs.Continuing.{Stops, Not}
-use Rattle.mq_ast.specs.GrammarLists.{SomeOf, NameE, name}
-use Rattle.mq_ast.specs.GrammarExpression.{Tuple}
-use Rattle.mq_ast.specs.GrammarQuery.{WhereE}
-use Rattle.mq_ast.specs.GrammarModel.{QueryE}
-use Rattle.mq_ast.specs.GrammarStatement.{StmtE, stmt_create_table, stmt_drop_table, stmt_create_view, stmt_drop_view, stmt_insert, stmt_update, stmt_delete, stmt_load, stmt_show, stmt_query}
-use Rattle.mq_ast.proofs.Common.{begin}
-use Rattle.mq_ast.proofs.OneList.{Whatever}
-use Rattle.mq_ast.proofs.OneModel.{query_same}
-use Rattle.mq_ast.proofs.OneQuery.{where_same}
-use Rattle.mq_ast.proofs.OneRule.{tuples_same}
-use Rattle.mq_ast.proofs.OneStatement.{maybe_names_same}
+use Rattle.mq_ast.specs.declared.statements.Stmt.TheVariants as stmt
+use Rattle.mq_ast.specs.declared.terminals.Terminal.TheVariants as terminal
+use Rattle.mq_lexer.specs.declared.keywords.Keyword.TheVariants as word
+use Rattle.mq_ast.specs.Prelude.{EndsList, Name, NameE, Not, QueryE, SomeOf, StmtE, Stops, Text, Tok, Tuple, WhereE, Word, name, query}
+use Rattle.mq_ast.specs.Prelude.{stmt_create_table, stmt_create_view, stmt_delete, stmt_drop_table, stmt_drop_view, stmt_insert}
+use Rattle.mq_ast.specs.Prelude.{stmt_load, stmt_query, stmt_show, stmt_update}
+use Rattle.mq_ast.specs.Laws.{Whatever, begin, maybe_names_same, query_same, tuples_same, where_same}
 use Rattle.mq_parse_expr.specs.Names.{TextE, txt}
 use Rattle.mq_parse_expr.specs.Reading.{No, Anywhere}
-use Rattle.mq_parse_query.specs.Lists.{EndsList}
 use Rattle.mq_parse_stmt.specs.Depth.{TooDeep}
 use Rattle.mq_parse_stmt.specs.Parsing.{NoStmt, Whole, Parses}
 use Rattle.mq_parse_stmt.specs.Pieces.{WordName, word_name, Body, body, NamesValues, Changes, changes}

@@ -5,8 +5,7 @@ use Rattle.mq_values.specs.declared.memory.Fail.TheVariants as fail
 use Rattle.mq_values.specs.declared.faults.Refused.{Refused}
 use Rattle.mq_values.specs.declared.faults.Refused.TheVariants as refused
 use Rattle.mq_ast.specs.declared.statements.Stmt.{Stmt}
-use Rattle.mq_ast.specs.Tokens.{Tok}
-use Rattle.mq_ast.specs.GrammarStatement.{StmtE}
+use Rattle.mq_ast.specs.Prelude.{StmtE, Tok}
 use Rattle.mq_parse_expr.specs.Reading.{Fails}
 use Rattle.mq_parse_stmt.specs.Depth.{TooDeep}
 

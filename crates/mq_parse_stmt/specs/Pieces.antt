@@ -1,13 +1,10 @@
 -- Parts of statements that have readers of their own. R a from to: a reads the tokens of `from` before `to`.
 use Rattle.std.specs.Prelude.{ℕ, List, ◌∷◌, Option}
-use Rattle.mq_ast.specs.declared.expressions.E.{E}
 use Rattle.mq_ast.specs.declared.statements.ColDef.{ColDef}
+use Rattle.mq_ast.specs.declared.expressions.E.{E}
 use Rattle.mq_lexer.specs.declared.keywords.Keyword.{Keyword}
 use Rattle.mq_lexer.specs.declared.keywords.Keyword.TheVariants as word
-use Rattle.mq_ast.specs.Tokens.{Tok, Word, Name, opener, closer, comma}
-use Rattle.mq_ast.specs.GrammarLists.{SomeOf}
-use Rattle.mq_ast.specs.GrammarQuery.{WhereE}
-use Rattle.mq_ast.specs.GrammarStatement.{ColE, PrimaryE, MaybeNames, SetE}
+use Rattle.mq_ast.specs.Prelude.{ColE, MaybeNames, Name, PrimaryE, SetE, SomeOf, Tok, WhereE, Word, closer, comma, opener}
 
 -- this word and the name behind it
 pub data WordName : Keyword → List ℕ → List Tok → List Tok → Type 0 where

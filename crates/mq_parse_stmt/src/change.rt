@@ -1,11 +1,9 @@
 //! INSERT, UPDATE, DELETE and LOAD (docs/LANGUAGE.md, "Statements").
 
 ghost use Rattle.std.specs.Prelude.{◌≡◌, ◌≢◌, ◌≤◌, ◌<◌, List, ◌∷◌, length};
-ghost use Rattle.mq_ast.specs.Tokens.{Tok, Word};
 ghost use Rattle.mq_ast.specs.declared.levels.TheConstants as level;
-ghost use Rattle.mq_ast.specs.Continuing.{Stops};
-ghost use Rattle.mq_ast.specs.GrammarStatement.{SetE};
-ghost use Rattle.mq_ast.proofs.OneStatement.{set_same};
+ghost use Rattle.mq_ast.specs.Prelude.{SetE, Stops, Word};
+ghost use Rattle.mq_ast.specs.Laws.{set_same};
 ghost use Rattle.mq_parse_expr.specs.Reading.{from, Anywhere, Gives};
 ghost use Rattle.mq_parse_stmt.specs.Pieces.{NamesValues, Changes};
 ghost use Rattle.mq_parse_stmt.specs.Parsing.{Whole};

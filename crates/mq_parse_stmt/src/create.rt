@@ -1,11 +1,8 @@
 //! CREATE and DROP (docs/LANGUAGE.md, "Statements").
 
 ghost use Rattle.std.specs.Prelude.{◌≡◌, ◌≢◌, ◌≤◌, List, ◌∷◌, length, MatchOption};
-ghost use Rattle.mq_ast.specs.Tokens.{Tok, Word, comma, terminal_at, rest_of};
 ghost use Rattle.mq_ast.specs.declared.levels.TheConstants as level;
-ghost use Rattle.mq_ast.specs.Continuing.{Stops, EndsCols, Not};
-ghost use Rattle.mq_ast.specs.GrammarLists.{SomeOf, MoreOf};
-ghost use Rattle.mq_ast.specs.GrammarStatement.{ColE, NotNullE, col_of};
+ghost use Rattle.mq_ast.specs.Prelude.{ColE, EndsCols, MoreOf, Not, NotNullE, SomeOf, Stops, Word, col_of, comma, rest_of, terminal_at};
 ghost use Rattle.mq_parse_expr.specs.Reading.{from, Then, Anywhere, Gives};
 ghost use Rattle.mq_parse_stmt.specs.Pieces.{Body, KeyEnd, KeyBehind};
 ghost use Rattle.mq_parse_stmt.specs.Parsing.{Whole};

@@ -1,8 +1,7 @@
 //! Parts that several statements share.
 
 ghost use Rattle.std.specs.Prelude.{◌≡◌, ◌≢◌, ◌≤◌, [], List, ◌∷◌, length, MatchResult};
-ghost use Rattle.mq_ast.specs.Tokens.{Tok};
-ghost use Rattle.mq_ast.specs.GrammarStatement.{NamesE};
+ghost use Rattle.mq_ast.specs.Prelude.{NamesE};
 ghost use Rattle.mq_parse_expr.specs.Reading.{from, Anywhere, Fails, Gives};
 ghost use Rattle.mq_parse_stmt.specs.Pieces.{WordName};
 

@@ -1,8 +1,7 @@
 //! Whole statements (docs/LANGUAGE.md, "Statements").
 
 ghost use Rattle.std.specs.Prelude.{◌≡◌, ◌≢◌, ◌≤◌, List, ◌∷◌, length};
-ghost use Rattle.mq_ast.specs.Tokens.{Tok, Word, terminal_at};
-ghost use Rattle.mq_ast.specs.Continuing.{Not};
+ghost use Rattle.mq_ast.specs.Prelude.{Not, Word};
 ghost use Rattle.mq_parse_expr.specs.Reading.{from};
 ghost use Rattle.mq_parse_stmt.specs.Parsing.{Parses, Whole};
 

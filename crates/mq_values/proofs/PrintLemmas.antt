@@ -5,7 +5,8 @@ use Rattle.std.specs.List.{flat_map}
 use Rattle.std.specs.Cmp.{first_so, second_so, unsigned_Decides}
 use Rattle.mq_values.specs.Number.{Number, is_mantissa, text_of_number}
 use Rattle.mq_values.specs.Laws.{is_of}
-use Rattle.mq_values.specs.Print.{QUOTE, doubled, quoted, printed}
+use Rattle.mq_values.specs.Bytes.{QUOTE}
+use Rattle.mq_values.specs.Print.{doubled, quoted, printed}
 use Rattle.mq_values.specs.declared.value.Kind.{Kind}
 use Rattle.mq_values.specs.declared.value.Kind.TheVariants as kind
 use Rattle.mq_values.specs.declared.value.Value.{Value}

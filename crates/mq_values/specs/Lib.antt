@@ -1,6 +1,7 @@
 pub mod Aggregate
 pub mod Answers
 pub mod Arithmetic
+pub mod Bytes
 pub mod Convert
 pub mod DimTestLaws
 pub mod DimTests

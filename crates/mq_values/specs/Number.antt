@@ -2,6 +2,7 @@
 use Rattle.std.specs.Prelude.{ℕ, zero, suc, ◌+◌, ◌-◌, ◌/◌, ◌%◌, ◌^◌, ℤ, pos, negsuc, neg_ℤ, ◌*ℤ◌, Bool, ◌&&◌, int_le, int_lt, unsigned_abs, if◌then◌else◌, Option, Some, None, List, [], ◌∷◌, ◌++◌, decimal}
 use Rattle.std.specs.Ordering.{on, then_cmp, nat_cmp, int_cmp}
 use Rattle.std.specs.declared.cmp.Ordering.{Ordering}
+use Rattle.mq_values.specs.Bytes.{DIGIT_ZERO, MINUS, POINT}
 use Rattle.mq_values.specs.declared.limits.TheConstants.{MAX_SCALE}
 
 -- a mantissa and a scale: the number is worth mant / 10 ^ scale
@@ -32,16 +33,16 @@ cmp_number = then_cmp cmp_worth (on (λ n. n.scale) nat_cmp)
 -- k digits of n, with zeros in front
 abbrev pub fixed_digits : ℕ → ℕ → List ℕ
 fixed_digits zero n = []
-fixed_digits (suc k) n = fixed_digits k (n / 10) ++ (48 + n % 10) ∷ []
+fixed_digits (suc k) n = fixed_digits k (n / 10) ++ (DIGIT_ZERO + n % 10) ∷ []
 
 -- the point and the digits behind it, of which a whole number has none
 abbrev pub fraction_text : ℕ → ℕ → List ℕ
 fraction_text zero n = []
-fraction_text (suc k) n = 46 ∷ fixed_digits (suc k) n
+fraction_text (suc k) n = POINT ∷ fixed_digits (suc k) n
 
 abbrev pub sign_text : ℤ → List ℕ
 sign_text (pos n) = []
-sign_text (negsuc n) = 45 ∷ []
+sign_text (negsuc n) = MINUS ∷ []
 
 -- the printed text: sign, whole part, point, and as many digits behind it as the scale
 abbrev pub text_of_number : Number → List ℕ

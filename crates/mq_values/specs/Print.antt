@@ -1,13 +1,10 @@
 -- Printed texts.
 use Rattle.std.specs.Prelude.{ℕ, ◌==◌, if◌then◌else◌, List, [], ◌∷◌, ◌++◌, codes}
 use Rattle.std.specs.List.{flat_map}
+use Rattle.mq_values.specs.Bytes.{QUOTE}
 use Rattle.mq_values.specs.Number.{text_of_number}
 use Rattle.mq_values.specs.declared.value.Value.{Value}
 use Rattle.mq_values.specs.declared.value.Value.TheVariants as value
-
--- the quotation mark
-abbrev pub QUOTE : ℕ
-QUOTE = 39
 
 abbrev pub doubled : ℕ → List ℕ
 doubled b = if b == QUOTE then b ∷ b ∷ [] else b ∷ []

@@ -201,7 +201,7 @@ begin_tail {a} {a'} {b} {from} {from'} {to} e f t =
     let Q : List Tok → Type 0 = λ m. TestTail a' b m to in
     subst P (sym e) (subst Q (sym f) t)
 
-one_call : {o : Option (Func × ℕ)} {f f' : Func} {n n' : ℕ} → o ≡ Some (f, n) → o ≡ Some (f', n') → f ≡ f'
+pub one_call : {o : Option (Func × ℕ)} {f f' : Func} {n n' : ℕ} → o ≡ Some (f, n) → o ≡ Some (f', n') → f ≡ f'
 one_call {f = f} {f' = f'} {n = n} {n' = n'} c c' = let p : (f, n) ≡ (f', n') = cc in ap (λ (x : Func × ℕ). x.0) p
 
 mutual

@@ -117,7 +117,7 @@ range_same _ _ _ _ _ (range x y z) (range x' y' z') s s' =
     let r = expr_same z (begin Expr q.1 z') s s' in
     (cc, r.1)
 
-range_no_in : {r : Range} {from to : List Tok} → RangeE r (Word word.In ∷ from) to → ⊥
+pub range_no_in : {r : Range} {from to : List Tok} → RangeE r (Word word.In ∷ from) to → ⊥
 range_no_in (range x y z) = elim x [ ]
 
 pub lit_same : OneTree LitE (Stops level.EXPRESSION)

@@ -14,7 +14,7 @@ use Rattle.mq_ast.specs.GrammarExpression.{Expr, MoreOr, AndE, MoreAnd, NotE, Te
 use Rattle.mq_parse_expr.specs.declared.forms.Form.TheVariants as form
 use Rattle.mq_parse_expr.specs.declared.forms.Tail.TheVariants as tail
 use Rattle.mq_parse_expr.specs.Reading.{from, Anywhere}
-use Rattle.mq_parse_expr.specs.Forms.{form_of, tail_of, word_of}
+use Rattle.mq_parse_expr.specs.Forms.{form_of, tail_of}
 use Rattle.mq_parse_expr.specs.Fronts.{RoundE, round, Behind, Since, cmp_front, not_front, is_front, between_front, in_front, CellsOf, ElseEnd}
 use Rattle.mq_parse_expr.proofs.Steps.{exit, here, there, till, as_value, gives_as, fronted, one_more, cut_short, all_found}
 use Rattle.mq_parse_expr.proofs.FrontLemmas.{form_front, tail_front, at_front, leaf_left}
@@ -376,8 +376,8 @@ read_closed-returns-in-Round t c =
 
 pub read_closed-returns-in-Call : goal.read_closed-returns-in-Call
 read_closed-returns-in-Call t c =
-    let f = form_front (form.Call c.in-Call.call) (from c.args.t.now c.args.at) (sym c.in-Call.is ∙ c.requires.begins) in
-    fronted PrimE Anywhere (λ us. Word (word_of c.in-Call.call) ∷ us) c.args.t.now c.args.at (c.args.at + 1) c.read_call.result (omega arith) (at_front (Word (word_of c.in-Call.call)) c.args.t.now c.args.at f) c.read_call.ensures
+    let f = form_front (form.Call c.in-Call.word) (from c.args.t.now c.args.at) (sym c.in-Call.is ∙ c.requires.begins) in
+    fronted PrimE Anywhere (λ us. Word c.in-Call.word ∷ us) c.args.t.now c.args.at (c.args.at + 1) c.read_call.result (omega arith) (at_front (Word c.in-Call.word) c.args.t.now c.args.at f) c.read_call.ensures
 
 pub read_closed-read_leaf-requires : goal.read_closed-read_leaf-requires
 read_closed-read_leaf-requires t c =
@@ -534,16 +534,16 @@ read_rounded-returns t c =
 pub read_call-returns-in_err-args : goal.read_call-returns-in_err-args
 read_call-returns-in_err-args t c =
     let p = err_from_is_err_and c.from_residual.result c.from_residual.ensures.1 in
-    rw (p.1, p.2) (exit c.in_err-args.field-0.0 c.in_err-args.ensures (call_no_tuple c.args.call))
+    rw (p.1, p.2) (exit c.in_err-args.field-0.0 c.in_err-args.ensures (call_no_tuple c.args.word c.requires.calls))
 
 pub read_call-returns-in-Some : goal.read_call-returns-in-Some
 read_call-returns-in-Some t c =
     let a = c.in_ok-args.ensures in
-    (a.0, a.1, call_prim c.args.call c.in_ok-args.args a.2 (sym c.in_ok-e.ensures ∙ c.in-Some.is), tt)
+    (a.0, a.1, call_prim c.args.word c.in_ok-args.args a.2 (sym c.in_ok-e.ensures ∙ c.in-Some.is), tt)
 
 pub read_call-returns-in-None : goal.read_call-returns-in-None
 read_call-returns-in-None t c =
-    call_no_count c.args.call c.in_ok-args.ensures.2 (sym c.in-None.is ∙ c.in_ok-e.ensures)
+    call_no_count c.args.word c.requires.calls c.in_ok-args.ensures.2 (sym c.in-None.is ∙ c.in_ok-e.ensures)
 
 pub read_case-returns-in_err-subject : goal.read_case-returns-in_err-subject
 read_case-returns-in_err-subject t c =

@@ -1,14 +1,11 @@
 use Rattle.std.proofs.Common.{◌∷◌, ap, ◌∙◌, arith}
 use Rattle.std.proofs.lemmas.Result.{err_from_is_err_and}
-use Rattle.mq_ast.specs.Tokens.{Word}
 use Rattle.mq_ast.specs.declared.clauses.TheConstants as clause
-use Rattle.mq_ast.specs.Continuing.{Past}
-use Rattle.mq_ast.specs.GrammarLists.{ManyOf}
+use Rattle.mq_ast.specs.Prelude.{ManyOf, OptE, Past, Word}
+use Rattle.mq_parse_query.specs.Pieces.{first_word}
 use Rattle.mq_parse_expr.specs.Reading.{from}
 use Rattle.mq_parse_expr.proofs.Steps.{exit, here, there}
 use Rattle.mq_parse_query.proofs.ModelLemmas.{option_no_second, option_whole}
-use Rattle.mq_ast.specs.GrammarModel.{OptE}
-use Rattle.mq_parse_query.specs.ModelPieces.{first_word}
 use Rattle.mq_parse_query.proofs.heads.next_option.Goals as goal
 
 pub returns-in_err-to-in-Some : goal.returns-in_err-to-in-Some

@@ -1,11 +1,10 @@
 use Rattle.std.proofs.Common.{true, false, arith}
 use Rattle.std.proofs.lemmas.Result.{err_from_is_err_and}
 use Rattle.mq_ast.specs.declared.clauses.TheConstants as clause
-use Rattle.mq_ast.specs.Continuing.{Past}
+use Rattle.mq_ast.specs.Prelude.{AutoE, Past, auto_none}
+use Rattle.mq_parse_query.specs.Pieces.{AutoEnd}
 use Rattle.mq_parse_expr.proofs.Steps.{exit, here, there, gives_as}
 use Rattle.mq_parse_query.proofs.HeadLemmas.{auto_no_yes, auto_no_no, yes_auto, no_auto, auto_no_word}
-use Rattle.mq_parse_query.specs.HeadPieces.{AutoEnd}
-use Rattle.mq_ast.specs.GrammarModel.{AutoE, auto_none}
 use Rattle.mq_parse_query.proofs.heads.read_auto.Goals as goal
 
 pub returns-in-Some : goal.returns-in-Some

@@ -1,16 +1,13 @@
 use Rattle.std.proofs.Common.{◌∷◌, ap, arith}
 use Rattle.std.proofs.lemmas.Result.{err_from_is_err_and}
 use Rattle.mq_lexer.specs.declared.keywords.Keyword.TheVariants as word
-use Rattle.mq_ast.specs.Tokens.{Word}
+use Rattle.mq_ast.specs.Prelude.{HeadE, Opens, Word, head_none, terminal_at}
 use Rattle.mq_parse_expr.proofs.Steps.{exit, as_value, fronted}
 use Rattle.mq_parse_query.proofs.HeadLemmas.{heading_no_open}
-use Rattle.mq_ast.specs.GrammarModel.{head_none}
-use Rattle.mq_parse_query.specs.HeadPieces.{Heading, heading, Opens}
-use Rattle.mq_ast.specs.Tokens.{terminal_at}
 use Rattle.mq_parse_query.proofs.heads.read_head.Goals as goal
 
 pub returns-in-Some : goal.returns-in-Some
-returns-in-Some c = let s = c.in-Some.ensures in fronted Heading Opens (λ us. Word word.Rules ∷ us) c.args.t.now c.args.at c.in-Some.behind c.read_ruling.result (omega (arith, s.0)) s.2 c.read_ruling.ensures
+returns-in-Some c = let s = c.in-Some.ensures in fronted HeadE Opens (λ us. Word word.Rules ∷ us) c.args.t.now c.args.at c.in-Some.behind c.read_ruling.result (omega (arith, s.0)) s.2 c.read_ruling.ensures
 
 pub returns-in_err-pass_sign-in-None : goal.returns-in_err-pass_sign-in-None
 returns-in_err-pass_sign-in-None c =
@@ -18,4 +15,4 @@ returns-in_err-pass_sign-in-None c =
     rw (p.1, p.2) (exit c.in_err-pass_sign-in-None.field-0.0 c.in_err-pass_sign-in-None.ensures (heading_no_open c.in-None.ensures))
 
 pub returns-in_ok-pass_sign-in-None : goal.returns-in_ok-pass_sign-in-None
-returns-in_ok-pass_sign-in-None c = (omega arith, c.requires, as_value Heading c.head_from.ensures (heading head_none), ap terminal_at c.in_ok-pass_sign-in-None.ensures.2)
+returns-in_ok-pass_sign-in-None c = (omega arith, c.requires, as_value HeadE c.head_from.ensures head_none, ap terminal_at c.in_ok-pass_sign-in-None.ensures.2)

@@ -1,17 +1,14 @@
 use Rattle.std.proofs.Common.{◌∷◌, arith}
 use Rattle.std.proofs.lemmas.Result.{err_from_is_err_and}
-use Rattle.mq_lexer.specs.declared.keywords.Keyword.TheVariants as word
-use Rattle.mq_ast.specs.Tokens.{Word}
 use Rattle.mq_ast.specs.declared.clauses.TheConstants as clause
-use Rattle.mq_ast.specs.Continuing.{Past}
+use Rattle.mq_lexer.specs.declared.keywords.Keyword.TheVariants as word
+use Rattle.mq_ast.specs.Prelude.{IterateE, Past, Word, iterate_none}
 use Rattle.mq_parse_expr.proofs.Steps.{exit, fronted}
 use Rattle.mq_parse_query.proofs.HeadLemmas.{turning_no_word}
-use Rattle.mq_ast.specs.GrammarModel.{iterate_none}
-use Rattle.mq_parse_query.specs.HeadPieces.{Turning, turning}
 use Rattle.mq_parse_query.proofs.heads.read_iterate.Goals as goal
 
 pub returns-in-Some : goal.returns-in-Some
-returns-in-Some c = let s = c.in-Some.ensures in fronted Turning (Past clause.UNTIL) (λ us. Word word.Iterate ∷ us) c.args.t.now c.args.at c.in-Some.behind c.read_turns.result (omega (arith, s.0)) s.2 c.read_turns.ensures
+returns-in-Some c = let s = c.in-Some.ensures in fronted IterateE (Past clause.UNTIL) (λ us. Word word.Iterate ∷ us) c.args.t.now c.args.at c.in-Some.behind c.read_turns.result (omega (arith, s.0)) s.2 c.read_turns.ensures
 
 pub returns-in_err-past-in-None : goal.returns-in_err-past-in-None
 returns-in_err-past-in-None c =
@@ -19,4 +16,4 @@ returns-in_err-past-in-None c =
     rw (p.1, p.2) (exit c.in_err-past-in-None.field-0.0 c.in_err-past-in-None.ensures (turning_no_word c.in-None.ensures))
 
 pub returns-in_ok-past-in-None : goal.returns-in_ok-past-in-None
-returns-in_ok-past-in-None c = (omega arith, c.requires, turning iterate_none, c.in_ok-past-in-None.ensures)
+returns-in_ok-past-in-None c = (omega arith, c.requires, iterate_none, c.in_ok-past-in-None.ensures)

@@ -1,13 +1,11 @@
 use Rattle.std.proofs.Common.{◌∷◌, ap, ◌∙◌, arith}
 use Rattle.std.proofs.lemmas.Result.{err_from_is_err_and}
-use Rattle.mq_lexer.specs.declared.keywords.Keyword.TheVariants as word
-use Rattle.mq_ast.specs.Tokens.{Word}
 use Rattle.mq_ast.specs.declared.clauses.TheConstants as clause
-use Rattle.mq_ast.specs.Continuing.{Past}
+use Rattle.mq_lexer.specs.declared.keywords.Keyword.TheVariants as word
+use Rattle.mq_ast.specs.Prelude.{PartsE, Past, Word, parts_none, parts_some}
 use Rattle.mq_parse_expr.specs.Reading.{from}
 use Rattle.mq_parse_expr.proofs.Steps.{exit, here, there, as_value}
 use Rattle.mq_parse_query.proofs.ModelLemmas.{parts_no_by, parts_no_cols, parts_no_end, parts_no_word}
-use Rattle.mq_ast.specs.GrammarModel.{PartsE, parts_none, parts_some}
 use Rattle.mq_parse_query.proofs.heads.read_parts.Goals as goal
 
 pub returns-in_err-by-in-Some : goal.returns-in_err-by-in-Some

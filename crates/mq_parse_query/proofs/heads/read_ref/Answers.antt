@@ -1,8 +1,9 @@
 use Rattle.std.proofs.Common.{arith}
 use Rattle.std.proofs.lemmas.Result.{err_from_is_err_and}
+use Rattle.mq_ast.specs.Prelude.{reference}
+use Rattle.mq_parse_query.specs.Pieces.{Refers}
 use Rattle.mq_parse_expr.proofs.Steps.{exit, as_value}
-use Rattle.mq_parse_query.proofs.ModelLemmas.{ref_no_source, ref_no_axes, ref_no_opts, ref_whole}
-use Rattle.mq_parse_query.specs.ModelPieces.{Refers}
+use Rattle.mq_parse_query.proofs.ModelLemmas.{ref_no_source, ref_no_axes, ref_no_opts}
 use Rattle.mq_parse_query.proofs.heads.read_ref.Goals as goal
 
 pub returns-in_err-source : goal.returns-in_err-source
@@ -25,4 +26,4 @@ returns c =
     let x = c.in_ok-source.ensures in
     let y = c.in_ok-axes.ensures in
     let o = c.in_ok-opts.ensures in
-    (omega (arith, x.0, y.0, o.0), o.1, as_value Refers c.ref_tree.ensures (ref_whole x.2 y.2 o.2), o.3)
+    (omega (arith, x.0, y.0, o.0), o.1, as_value Refers c.ref_tree.ensures (reference x.2 y.2 o.2), o.3)

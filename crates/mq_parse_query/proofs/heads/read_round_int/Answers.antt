@@ -1,11 +1,10 @@
 use Rattle.std.proofs.Common.{◌∷◌, ap, ◌∙◌, arith}
 use Rattle.std.proofs.lemmas.Result.{err_from_is_err_and}
-use Rattle.mq_ast.specs.Tokens.{Num, opener}
+use Rattle.mq_ast.specs.Prelude.{Num, RoundInt, opener, round_int}
 use Rattle.mq_parse_expr.specs.Reading.{Anywhere}
 use Rattle.mq_parse_expr.proofs.Steps.{exit, here, there}
 use Rattle.mq_parse_expr.proofs.NameLemmas.{numbered}
 use Rattle.mq_parse_query.proofs.HeadLemmas.{int_no_open, int_no_int, int_no_close}
-use Rattle.mq_parse_query.specs.HeadPieces.{RoundInt, round_int}
 use Rattle.mq_parse_query.proofs.heads.read_round_int.Goals as goal
 
 pub returns-in_err-open : goal.returns-in_err-open

@@ -1,9 +1,9 @@
 use Rattle.std.proofs.Common.{ap, arith}
 use Rattle.std.proofs.lemmas.Result.{err_from_is_err_and}
+use Rattle.mq_ast.specs.Prelude.{head_some, terminal_at}
+use Rattle.mq_parse_query.specs.Pieces.{Ruling}
 use Rattle.mq_parse_expr.proofs.Steps.{exit, as_value}
-use Rattle.mq_parse_query.proofs.HeadLemmas.{ruling_no_mode, ruling_no_auto, ruling_no_iterate, ruling_no_open, ruling_whole}
-use Rattle.mq_parse_query.specs.HeadPieces.{Ruling}
-use Rattle.mq_ast.specs.Tokens.{terminal_at}
+use Rattle.mq_parse_query.proofs.HeadLemmas.{ruling_no_mode, ruling_no_auto, ruling_no_iterate, ruling_no_open}
 use Rattle.mq_parse_query.proofs.heads.read_ruling.Goals as goal
 
 pub returns-in_err-mode : goal.returns-in_err-mode
@@ -31,4 +31,4 @@ returns c =
     let m = c.in_ok-mode.ensures in
     let o = c.in_ok-auto.ensures in
     let i = c.in_ok-iterate.ensures in
-    (omega (arith, m.0, o.0, i.0), i.1, as_value Ruling c.head_from.ensures (ruling_whole m.2 o.2 i.2), ap terminal_at c.in_ok-pass_sign.ensures.2)
+    (omega (arith, m.0, o.0, i.0), i.1, as_value Ruling c.head_from.ensures (head_some m.2 o.2 i.2), ap terminal_at c.in_ok-pass_sign.ensures.2)

@@ -1,12 +1,11 @@
 use Rattle.std.proofs.Common.{◌∷◌, ap, ◌∙◌, arith}
 use Rattle.std.proofs.lemmas.Result.{err_from_is_err_and}
 use Rattle.mq_lexer.specs.declared.keywords.Keyword.TheVariants as word
-use Rattle.mq_ast.specs.Tokens.{Word, Name}
+use Rattle.mq_ast.specs.Prelude.{Name, RefSourceE, Word, ref_source}
 use Rattle.mq_parse_expr.specs.Reading.{Anywhere}
 use Rattle.mq_parse_expr.proofs.Steps.{exit, here, there}
 use Rattle.mq_parse_expr.proofs.NameLemmas.{named}
 use Rattle.mq_parse_query.proofs.ModelLemmas.{source_no_name, source_no_on, source_no_open, source_no_plain}
-use Rattle.mq_parse_query.specs.ModelPieces.{SourceE, source}
 use Rattle.mq_parse_query.proofs.heads.read_source.Goals as goal
 
 pub returns-in_err-name : goal.returns-in_err-name
@@ -17,17 +16,17 @@ returns-in_err-name c =
 pub returns-in_err-on : goal.returns-in_err-on
 returns-in_err-on c =
     let p = err_from_is_err_and c.from_residual-in_err-on.result c.from_residual-in_err-on.ensures.1 in
-    rw (p.1, p.2) (exit c.in_err-on.field-0.0 c.in_err-on.ensures (λ h. here SourceE Anywhere (named c.in_ok-name.ensures.2) (source_no_on h)))
+    rw (p.1, p.2) (exit c.in_err-on.field-0.0 c.in_err-on.ensures (λ h. here RefSourceE Anywhere (named c.in_ok-name.ensures.2) (source_no_on h)))
 
 pub returns-in_err-open : goal.returns-in_err-open
 returns-in_err-open c =
     let p = err_from_is_err_and c.from_residual-in_err-open.result c.from_residual-in_err-open.ensures.1 in
-    rw (p.1, p.2) (exit c.in_err-open.field-0.0 c.in_err-open.ensures (λ h. here SourceE Anywhere (named c.in_ok-name.ensures.2 ∙ ap (λ r. Name c.in_ok-name.name ∷ r) c.in_ok-on.ensures.2) (source_no_open h)))
+    rw (p.1, p.2) (exit c.in_err-open.field-0.0 c.in_err-open.ensures (λ h. here RefSourceE Anywhere (named c.in_ok-name.ensures.2 ∙ ap (λ r. Name c.in_ok-name.name ∷ r) c.in_ok-on.ensures.2) (source_no_open h)))
 
 pub returns-in_err-plain : goal.returns-in_err-plain
 returns-in_err-plain c =
     let p = err_from_is_err_and c.from_residual-in_err-plain.result c.from_residual-in_err-plain.ensures.1 in
-    rw (p.1, p.2) (exit c.in_err-plain.field-0.0 c.in_err-plain.ensures (λ h. here SourceE Anywhere (named c.in_ok-name.ensures.2 ∙ ap (λ r. Name c.in_ok-name.name ∷ r) (c.in_ok-on.ensures.2 ∙ ap (λ r. Word word.On ∷ r) c.in_ok-open.ensures.2)) (source_no_plain h)))
+    rw (p.1, p.2) (exit c.in_err-plain.field-0.0 c.in_err-plain.ensures (λ h. here RefSourceE Anywhere (named c.in_ok-name.ensures.2 ∙ ap (λ r. Name c.in_ok-name.name ∷ r) (c.in_ok-on.ensures.2 ∙ ap (λ r. Word word.On ∷ r) c.in_ok-open.ensures.2)) (source_no_plain h)))
 
 pub returns : goal.returns
 returns c =
@@ -35,4 +34,4 @@ returns c =
     let o = c.in_ok-on.ensures in
     let b = c.in_ok-open.ensures in
     let p = c.in_ok-plain.ensures in
-    (omega (arith, n.0, o.0, b.0, p.0), p.1, there SourceE (named n.2 ∙ ap (λ r. Name c.in_ok-name.name ∷ r) (o.2 ∙ ap (λ r. Word word.On ∷ r) b.2)) (source p.2), tt)
+    (omega (arith, n.0, o.0, b.0, p.0), p.1, there RefSourceE (named n.2 ∙ ap (λ r. Name c.in_ok-name.name ∷ r) (o.2 ∙ ap (λ r. Word word.On ∷ r) b.2)) (ref_source p.2), tt)

@@ -1,7 +1,8 @@
 use Rattle.std.proofs.Common.{arith}
 use Rattle.std.proofs.lemmas.Result.{err_from_is_err_and}
+use Rattle.mq_ast.specs.Prelude.{iterate_some}
 use Rattle.mq_parse_expr.proofs.Steps.{exit}
-use Rattle.mq_parse_query.proofs.HeadLemmas.{turns_no_int, turns_no_until, turns_whole}
+use Rattle.mq_parse_query.proofs.HeadLemmas.{turns_no_int, turns_no_until}
 use Rattle.mq_parse_query.proofs.heads.read_turns.Goals as goal
 
 pub returns-in_err-number : goal.returns-in_err-number
@@ -18,4 +19,4 @@ pub returns : goal.returns
 returns c =
     let k = c.in_ok-number.ensures in
     let u = c.in_ok-until.ensures in
-    (omega (arith, k.0, u.0), u.1, turns_whole k.2 u.2, u.3)
+    (omega (arith, k.0, u.0), u.1, iterate_some k.2 u.2, u.3)

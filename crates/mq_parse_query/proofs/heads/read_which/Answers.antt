@@ -1,8 +1,8 @@
 use Rattle.std.proofs.Common.{arith}
 use Rattle.std.proofs.lemmas.Result.{err_from_is_err_and}
+use Rattle.mq_ast.specs.Prelude.{WhichE, which_all, which_updated}
 use Rattle.mq_parse_expr.proofs.Steps.{exit, there}
 use Rattle.mq_parse_query.proofs.ModelLemmas.{which_no_word}
-use Rattle.mq_parse_query.specs.ModelPieces.{WhichE, which_all, which_updated}
 use Rattle.mq_parse_query.proofs.heads.read_which.Goals as goal
 
 pub returns-in-Some : goal.returns-in-Some

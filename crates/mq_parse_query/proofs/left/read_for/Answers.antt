@@ -1,13 +1,12 @@
 use Rattle.std.proofs.Common.{◌∷◌, ap, ◌∙◌, arith}
 use Rattle.std.proofs.lemmas.Result.{err_from_is_err_and}
-use Rattle.mq_ast.specs.Tokens.{Name}
 use Rattle.mq_ast.specs.declared.levels.TheConstants as level
-use Rattle.mq_ast.specs.Continuing.{Stops}
+use Rattle.mq_ast.specs.Prelude.{Name, Stops, lit_in, lit_range}
+use Rattle.mq_parse_query.specs.Pieces.{ForPlace}
 use Rattle.mq_parse_expr.specs.Reading.{from}
 use Rattle.mq_parse_expr.proofs.Steps.{exit, here, there, as_value}
 use Rattle.mq_parse_expr.proofs.NameLemmas.{named}
-use Rattle.mq_parse_query.proofs.RuleLemmas.{for_no_name, for_no_values, for_no_end, for_no_range, for_values, for_range}
-use Rattle.mq_parse_query.specs.RulePieces.{ForPlace}
+use Rattle.mq_parse_query.proofs.RuleLemmas.{for_no_name, for_no_values, for_no_end, for_no_range}
 use Rattle.mq_parse_query.proofs.left.read_for.Goals as goal
 
 pub returns-in_err-dim : goal.returns-in_err-dim
@@ -30,7 +29,7 @@ returns-in_ok-settled-in-Some c =
     let n = c.in_ok-dim.ensures in
     let s = c.in-Some.ensures in
     let f = c.in_ok-list-in-Some.ensures in
-    (omega (arith, n.0, s.0, f.0), f.1, there ForPlace (named n.2 ∙ ap (λ r. Name c.in_ok-dim.dim ∷ r) s.2) (for_values f.2), c.in_ok-settled-in-Some.ensures)
+    (omega (arith, n.0, s.0, f.0), f.1, there ForPlace (named n.2 ∙ ap (λ r. Name c.in_ok-dim.dim ∷ r) s.2) (lit_in f.2), c.in_ok-settled-in-Some.ensures)
 
 pub returns-in_err-range-in-None : goal.returns-in_err-range-in-None
 returns-in_err-range-in-None c =
@@ -41,4 +40,4 @@ pub returns-in_ok-range-in-None : goal.returns-in_ok-range-in-None
 returns-in_ok-range-in-None c =
     let n = c.in_ok-dim.ensures in
     let f = c.in_ok-range-in-None.ensures in
-    (omega (arith, n.0, f.0), f.1, as_value ForPlace c.for_range.ensures (there ForPlace (named n.2) (for_range f.2)), f.3)
+    (omega (arith, n.0, f.0), f.1, as_value ForPlace c.for_range.ensures (there ForPlace (named n.2) (lit_range f.2)), f.3)

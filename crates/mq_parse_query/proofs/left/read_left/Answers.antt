@@ -1,12 +1,11 @@
 use Rattle.std.proofs.Common.{◌∷◌}
 use Rattle.std.proofs.lemmas.Result.{err_from_is_err_and}
 use Rattle.mq_lexer.specs.declared.keywords.Keyword.TheVariants as word
-use Rattle.mq_ast.specs.Tokens.{Word, opener}
+use Rattle.mq_ast.specs.Prelude.{Word, left_places, opener}
+use Rattle.mq_parse_query.specs.Pieces.{LeftEnd}
 use Rattle.mq_parse_expr.specs.Reading.{Anywhere}
 use Rattle.mq_parse_expr.proofs.Steps.{exit, fronted}
 use Rattle.mq_parse_query.proofs.RuleLemmas.{left_no_places, ends_square}
-use Rattle.mq_parse_query.specs.RulePieces.{LeftEnd}
-use Rattle.mq_ast.specs.GrammarRule.{left_places}
 use Rattle.mq_parse_query.proofs.left.read_left.Goals as goal
 
 pub returns-in-Some : goal.returns-in-Some

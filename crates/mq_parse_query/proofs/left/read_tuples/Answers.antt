@@ -1,27 +1,27 @@
 use Rattle.std.proofs.Common.{arith}
 use Rattle.std.proofs.lemmas.Result.{err_from_is_err_and}
+use Rattle.mq_ast.specs.Prelude.{ForListE, Tuple, for_rows, for_values}
+use Rattle.mq_ast.specs.Laws.{tuples_no_plain}
 use Rattle.mq_parse_expr.specs.Reading.{Anywhere}
 use Rattle.mq_parse_expr.proofs.Steps.{exit, here, there}
-use Rattle.mq_parse_query.proofs.RuleLemmas.{tuples_no_open, tuples_no_rows, tuples_no_list, any_closed}
-use Rattle.mq_parse_query.specs.RulePieces.{InTuples, in_tuples}
-use Rattle.mq_ast.specs.GrammarRule.{tuples_list, tuples_rows}
+use Rattle.mq_parse_query.proofs.RuleLemmas.{any_closed}
 use Rattle.mq_parse_query.proofs.left.read_tuples.Goals as goal
 
 pub returns-in_err-open : goal.returns-in_err-open
 returns-in_err-open c =
     let p = err_from_is_err_and c.from_residual.result c.from_residual.ensures.1 in
-    rw (p.1, p.2) (exit c.in_err-open.field-0.0 c.in_err-open.ensures (tuples_no_open))
+    rw (p.1, p.2) (exit c.in_err-open.field-0.0 c.in_err-open.ensures (for_no_open Tuple))
 
 pub returns-in_err-plain-in-Some : goal.returns-in_err-plain-in-Some
 returns-in_err-plain-in-Some c =
     let p = err_from_is_err_and c.from_residual-in_err-plain-in-Some.result c.from_residual-in_err-plain-in-Some.ensures.1 in
-    rw (p.1, p.2) (exit c.in_err-plain-in-Some.field-0.0 c.in_err-plain-in-Some.ensures (λ h. here InTuples Anywhere c.in_ok-open.ensures.2 (tuples_no_rows c.in-Some.ensures.2 h)))
+    rw (p.1, p.2) (exit c.in_err-plain-in-Some.field-0.0 c.in_err-plain-in-Some.ensures (λ h. here (ForListE Tuple) Anywhere c.in_ok-open.ensures.2 (for_no_rows Tuple (λ xs us vs d. tuples_no_plain d) c.in-Some.ensures.2 h)))
 
 pub returns-in_ok-plain-in-Some : goal.returns-in_ok-plain-in-Some
 returns-in_ok-plain-in-Some c =
     let o = c.in_ok-open.ensures in
     let f = c.in_ok-plain-in-Some.ensures in
-    (omega (arith, o.0, f.0), f.1, there InTuples o.2 (in_tuples (tuples_rows f.2)), tt)
+    (omega (arith, o.0, f.0), f.1, there (ForListE Tuple) o.2 (for_rows f.2), tt)
 
 pub read_closed-requires-clause-closes : goal.read_closed-requires-clause-closes
 read_closed-requires-clause-closes c = any_closed
@@ -29,10 +29,10 @@ read_closed-requires-clause-closes c = any_closed
 pub returns-in_err-list-in-None : goal.returns-in_err-list-in-None
 returns-in_err-list-in-None c =
     let p = err_from_is_err_and c.from_residual-in_err-list-in-None.result c.from_residual-in_err-list-in-None.ensures.1 in
-    rw (p.1, p.2) (exit c.in_err-list-in-None.field-0.0 c.in_err-list-in-None.ensures (λ h. here InTuples Anywhere c.in_ok-open.ensures.2 (tuples_no_list c.in-None.ensures h)))
+    rw (p.1, p.2) (exit c.in_err-list-in-None.field-0.0 c.in_err-list-in-None.ensures (λ h. here (ForListE Tuple) Anywhere c.in_ok-open.ensures.2 (for_no_list Tuple c.in-None.ensures h)))
 
 pub returns-in_ok-list-in-None : goal.returns-in_ok-list-in-None
 returns-in_ok-list-in-None c =
     let o = c.in_ok-open.ensures in
     let f = c.in_ok-list-in-None.ensures in
-    (omega (arith, o.0, f.0), f.1, there InTuples o.2 (in_tuples (tuples_list f.2)), tt)
+    (omega (arith, o.0, f.0), f.1, there (ForListE Tuple) o.2 (for_values f.2), tt)

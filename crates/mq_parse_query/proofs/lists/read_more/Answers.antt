@@ -1,8 +1,6 @@
 use Rattle.std.proofs.lemmas.Result.{err_from_is_err_and}
-use Rattle.mq_ast.specs.Tokens.{comma}
-use Rattle.mq_ast.specs.GrammarLists.{MoreOf, more_end, more_comma}
+use Rattle.mq_ast.specs.Prelude.{EndsList, MoreOf, comma, more_comma, more_end}
 use Rattle.mq_parse_expr.proofs.Steps.{exit, one_more, cut_short, all_found}
-use Rattle.mq_parse_query.specs.Lists.{EndsList}
 use Rattle.mq_parse_query.proofs.ListLemmas.{list_no_next, list_no_more}
 use Rattle.mq_parse_query.proofs.lists.read_more.Goals as goal
 

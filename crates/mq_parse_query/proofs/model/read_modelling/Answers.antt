@@ -1,8 +1,9 @@
 use Rattle.std.proofs.Common.{arith}
 use Rattle.std.proofs.lemmas.Result.{err_from_is_err_and}
+use Rattle.mq_ast.specs.Prelude.{model}
+use Rattle.mq_parse_query.specs.Pieces.{Modelling}
 use Rattle.mq_parse_expr.proofs.Steps.{exit, as_value}
-use Rattle.mq_parse_query.proofs.QueryLemmas.{model_no_front, model_no_body, model_no_tail, model_whole}
-use Rattle.mq_parse_query.specs.ModelPieces.{Modelling}
+use Rattle.mq_parse_query.proofs.QueryLemmas.{model_no_front, model_no_body, model_no_tail}
 use Rattle.mq_parse_query.proofs.model.read_modelling.Goals as goal
 
 pub returns-in_err-front : goal.returns-in_err-front
@@ -25,4 +26,4 @@ returns c =
     let f = c.in_ok-front.ensures in
     let b = c.in_ok-body.ensures in
     let e = c.in_ok-tail.ensures in
-    (omega (arith, f.0, b.0, e.0), e.1, as_value Modelling c.model_tree.ensures (model_whole f.2 b.2 e.2), tt)
+    (omega (arith, f.0, b.0, e.0), e.1, as_value Modelling c.model_tree.ensures (model f.2 b.2 e.2), tt)

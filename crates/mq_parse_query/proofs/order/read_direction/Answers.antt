@@ -1,6 +1,6 @@
 use Rattle.std.proofs.Common.{arith}
 use Rattle.std.proofs.lemmas.Result.{err_from_is_err_and}
-use Rattle.mq_parse_query.specs.PlainPieces.{EndsKey, DirectionE, direction_none, direction_asc, direction_desc}
+use Rattle.mq_ast.specs.Prelude.{DirectionE, EndsKey, direction_asc, direction_desc, direction_none}
 use Rattle.mq_parse_expr.proofs.Steps.{exit, here, there}
 use Rattle.mq_parse_query.proofs.OrderLemmas.{direction_no_asc}
 use Rattle.mq_parse_query.proofs.order.read_direction.Goals as goal

@@ -1,10 +1,9 @@
 use Rattle.std.proofs.Common.{arith}
 use Rattle.std.proofs.lemmas.Result.{err_from_is_err_and}
 use Rattle.mq_ast.specs.declared.levels.TheConstants as level
-use Rattle.mq_ast.specs.Continuing.{Stops}
-use Rattle.mq_ast.specs.GrammarQuery.{PlainE}
+use Rattle.mq_ast.specs.Prelude.{PlainE, Stops, plain}
 use Rattle.mq_parse_expr.proofs.Steps.{exit, here, there, as_value}
-use Rattle.mq_parse_query.proofs.SourceLemmas.{plain_no_select, plain_no_shown, plain_no_source, plain_whole}
+use Rattle.mq_parse_query.proofs.SourceLemmas.{plain_no_select, plain_no_shown, plain_no_source}
 use Rattle.mq_parse_query.proofs.plain.read_plain.Goals as goal
 
 pub returns-in_err-select : goal.returns-in_err-select
@@ -27,4 +26,4 @@ returns c =
     let b = c.in_ok-select.ensures in
     let x = c.in_ok-shown.ensures in
     let y = c.in_ok-source.ensures in
-    (omega (arith, b.0, x.0, y.0), y.1, as_value PlainE c.plain_with.ensures (there PlainE b.2 (plain_whole x.2 y.2)), y.3)
+    (omega (arith, b.0, x.0, y.0), y.1, as_value PlainE c.plain_with.ensures (there PlainE b.2 (plain x.2 y.2)), y.3)

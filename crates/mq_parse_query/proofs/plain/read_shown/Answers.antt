@@ -1,10 +1,7 @@
 use Rattle.std.proofs.Common.{◌∷◌, ap, ◌∙◌, arith}
 use Rattle.std.proofs.lemmas.Result.{err_from_is_err_and}
-use Rattle.mq_ast.specs.Tokens.{star}
-use Rattle.mq_ast.specs.GrammarLists.{SomeOf}
-use Rattle.mq_ast.specs.GrammarQuery.{SelE, select_star, select_list}
+use Rattle.mq_ast.specs.Prelude.{SelE, ShownE, SomeOf, shown_list, shown_star, star}
 use Rattle.mq_parse_expr.specs.Reading.{Anywhere}
-use Rattle.mq_parse_query.specs.PlainPieces.{ShownE, shown}
 use Rattle.mq_parse_expr.proofs.Steps.{exit, here, there, till, as_value}
 use Rattle.mq_parse_query.proofs.SourceLemmas.{shown_no_star, shown_no_from}
 use Rattle.mq_parse_query.proofs.plain.read_shown.Goals as goal
@@ -18,7 +15,7 @@ pub returns-in-Some : goal.returns-in-Some
 returns-in-Some c =
     let s = c.in-Some.ensures in
     let e = c.in_ok-to.ensures in
-    (omega (arith, s.0, e.0), e.1, as_value ShownE c.all_columns.ensures (there ShownE (s.2 ∙ ap (λ r. star ∷ r) e.2) (shown select_star)), tt)
+    (omega (arith, s.0, e.0), e.1, as_value ShownE c.all_columns.ensures (there ShownE (s.2 ∙ ap (λ r. star ∷ r) e.2) shown_star), tt)
 
 pub returns-in_err-to-2 : goal.returns-in_err-to-2
 returns-in_err-to-2 c =
@@ -29,4 +26,4 @@ pub returns : goal.returns
 returns c =
     let l = c.in_ok-sels.ensures in
     let e = c.in_ok-to-2.ensures in
-    (omega (arith, l.0, e.0), e.1, as_value ShownE c.these.ensures (shown (select_list (till (SomeOf SelE) e.2 l.2))), tt)
+    (omega (arith, l.0, e.0), e.1, as_value ShownE c.these.ensures (shown_list (till (SomeOf SelE) e.2 l.2)), tt)

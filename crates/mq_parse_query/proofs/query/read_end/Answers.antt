@@ -1,9 +1,8 @@
 use Rattle.std.proofs.Common.{arith}
 use Rattle.std.proofs.lemmas.Result.{err_from_is_err_and}
+use Rattle.mq_ast.specs.Prelude.{ending, model_none, model_some}
 use Rattle.mq_parse_expr.proofs.Steps.{exit}
 use Rattle.mq_parse_query.proofs.QueryLemmas.{end_no_model, end_no_last, end_no_order}
-use Rattle.mq_parse_query.specs.ModelPieces.{ending}
-use Rattle.mq_ast.specs.GrammarModel.{model_none, model_some}
 use Rattle.mq_parse_query.proofs.query.read_end.Goals as goal
 
 pub returns-in_err-model-in-Some : goal.returns-in_err-model-in-Some

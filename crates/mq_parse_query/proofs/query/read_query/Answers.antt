@@ -1,8 +1,8 @@
 use Rattle.std.proofs.Common.{arith}
 use Rattle.std.proofs.lemmas.Result.{err_from_is_err_and}
+use Rattle.mq_ast.specs.Prelude.{QueryE, query}
 use Rattle.mq_parse_expr.proofs.Steps.{exit, as_value}
-use Rattle.mq_parse_query.proofs.QueryLemmas.{query_no_plain, query_no_end, query_whole}
-use Rattle.mq_ast.specs.GrammarModel.{QueryE}
+use Rattle.mq_parse_query.proofs.QueryLemmas.{query_no_plain, query_no_end}
 use Rattle.mq_parse_query.proofs.query.read_query.Goals as goal
 
 pub returns-in_err-plain : goal.returns-in_err-plain
@@ -19,4 +19,4 @@ pub returns : goal.returns
 returns c =
     let p = c.in_ok-plain.ensures in
     let e = c.in_ok-end.ensures in
-    (omega (arith, p.0, e.0), e.1, as_value QueryE c.query_tree.ensures (query_whole p.2 e.2), e.3)
+    (omega (arith, p.0, e.0), e.1, as_value QueryE c.query_tree.ensures (query p.2 e.2), e.3)

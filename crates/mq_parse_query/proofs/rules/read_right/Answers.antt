@@ -1,9 +1,8 @@
 use Rattle.std.proofs.Common.{arith}
 use Rattle.std.proofs.lemmas.Result.{err_from_is_err_and}
-use Rattle.mq_ast.specs.GrammarQuery.{OrderE}
+use Rattle.mq_ast.specs.Prelude.{OrderE, rule_right}
 use Rattle.mq_parse_expr.proofs.Steps.{exit, till}
 use Rattle.mq_parse_query.proofs.RuleLemmas.{right_no_order, right_no_equal, right_no_expr}
-use Rattle.mq_parse_query.specs.RulePieces.{rule_right}
 use Rattle.mq_parse_query.proofs.rules.read_right.Goals as goal
 
 pub returns-in_err-order : goal.returns-in_err-order

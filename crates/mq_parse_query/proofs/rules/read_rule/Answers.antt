@@ -1,8 +1,8 @@
 use Rattle.std.proofs.Common.{arith}
 use Rattle.std.proofs.lemmas.Result.{err_from_is_err_and}
+use Rattle.mq_ast.specs.Prelude.{RuleE, rule}
 use Rattle.mq_parse_expr.proofs.Steps.{exit, as_value}
-use Rattle.mq_parse_query.proofs.RuleLemmas.{rule_no_front, rule_no_left, rule_no_right, rule_whole}
-use Rattle.mq_ast.specs.GrammarRule.{RuleE}
+use Rattle.mq_parse_query.proofs.RuleLemmas.{rule_no_front, rule_no_left, rule_no_right}
 use Rattle.mq_parse_query.proofs.rules.read_rule.Goals as goal
 
 pub returns-in_err-front : goal.returns-in_err-front
@@ -25,4 +25,4 @@ returns c =
     let f = c.in_ok-front.ensures in
     let l = c.in_ok-left.ensures in
     let r = c.in_ok-right.ensures in
-    (omega (arith, f.0, l.0, r.0), r.1, as_value RuleE c.rule_tree.ensures (rule_whole f.2 l.2 r.2), r.3)
+    (omega (arith, f.0, l.0, r.0), r.1, as_value RuleE c.rule_tree.ensures (rule f.2 l.2 r.2), r.3)

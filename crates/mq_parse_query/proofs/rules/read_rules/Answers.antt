@@ -1,11 +1,10 @@
 use Rattle.std.proofs.Common.{◌∷◌, ap, ◌∙◌, arith}
 use Rattle.std.proofs.lemmas.Result.{err_from_is_err_and}
-use Rattle.mq_ast.specs.Tokens.{opener, closer}
+use Rattle.mq_ast.specs.Prelude.{RuleE, RuleList, closer, opener, rules_none, rules_some}
+use Rattle.mq_parse_query.specs.Pieces.{Closed}
 use Rattle.mq_parse_expr.specs.Reading.{Anywhere}
 use Rattle.mq_parse_expr.proofs.Steps.{exit, here, there, as_value, gives_as}
 use Rattle.mq_parse_query.proofs.RuleLemmas.{rules_no_open, rules_no_list, ends_closed}
-use Rattle.mq_parse_query.specs.RulePieces.{Closed}
-use Rattle.mq_ast.specs.GrammarRule.{RuleE, RuleList, rules_none, rules_some}
 use Rattle.mq_parse_query.proofs.rules.read_rules.Goals as goal
 
 pub returns-in_err-open : goal.returns-in_err-open

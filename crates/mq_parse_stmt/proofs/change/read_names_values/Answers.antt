@@ -1,6 +1,6 @@
 use Rattle.std.proofs.Common.{arith}
 use Rattle.std.proofs.lemmas.Result.{err_from_is_err_and}
-use Rattle.mq_ast.specs.GrammarStatement.{NamesE, names_none, names_some}
+use Rattle.mq_ast.specs.Prelude.{NamesE, names_none, names_some}
 use Rattle.mq_parse_expr.proofs.Steps.{exit, there, till}
 use Rattle.mq_parse_stmt.specs.Pieces.{NamesValues}
 use Rattle.mq_parse_stmt.proofs.PieceLemmas.{values_no_names, values_no_values}

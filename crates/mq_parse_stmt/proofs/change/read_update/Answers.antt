@@ -1,7 +1,7 @@
 use Rattle.std.proofs.Common.{◌∷◌, ap, ◌∙◌}
 use Rattle.std.proofs.lemmas.Result.{err_from_is_err_and}
 use Rattle.mq_lexer.specs.declared.keywords.Keyword.TheVariants as word
-use Rattle.mq_ast.specs.Tokens.{Word, Name}
+use Rattle.mq_ast.specs.Prelude.{Name, Word}
 use Rattle.mq_parse_expr.proofs.Steps.{exit, till}
 use Rattle.mq_parse_expr.proofs.NameLemmas.{named}
 use Rattle.mq_parse_stmt.specs.Pieces.{Changes}

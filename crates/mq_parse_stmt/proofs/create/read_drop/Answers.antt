@@ -1,6 +1,6 @@
 use Rattle.std.proofs.Common.{◌∷◌, ap}
 use Rattle.mq_lexer.specs.declared.keywords.Keyword.TheVariants as word
-use Rattle.mq_ast.specs.Tokens.{Word}
+use Rattle.mq_ast.specs.Prelude.{Word}
 use Rattle.mq_parse_stmt.proofs.StmtLemmas.{whole_at}
 use Rattle.mq_parse_stmt.proofs.create.read_drop.Goals as goal
 

@@ -1,8 +1,7 @@
 use Rattle.std.proofs.Common.{◌∷◌, ap, ◌∙◌, arith}
 use Rattle.std.proofs.lemmas.Result.{err_from_is_err_and}
 use Rattle.mq_lexer.specs.declared.keywords.Keyword.TheVariants as word
-use Rattle.mq_ast.specs.Tokens.{Word}
-use Rattle.mq_ast.specs.GrammarStatement.{NamesE, primary_some}
+use Rattle.mq_ast.specs.Prelude.{NamesE, Word, primary_some}
 use Rattle.mq_parse_expr.specs.Reading.{Anywhere}
 use Rattle.mq_parse_expr.proofs.Steps.{exit, here, there, till}
 use Rattle.mq_parse_stmt.specs.Pieces.{KeyBehind}

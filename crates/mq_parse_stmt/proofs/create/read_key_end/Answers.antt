@@ -1,7 +1,6 @@
 use Rattle.std.proofs.Common.{◌∷◌, arith}
 use Rattle.std.proofs.lemmas.Result.{err_from_is_err_and}
-use Rattle.mq_ast.specs.Tokens.{comma}
-use Rattle.mq_ast.specs.GrammarStatement.{primary_none}
+use Rattle.mq_ast.specs.Prelude.{comma, primary_none}
 use Rattle.mq_parse_expr.specs.Reading.{Anywhere}
 use Rattle.mq_parse_expr.proofs.Steps.{exit, there, as_value, fronted}
 use Rattle.mq_parse_stmt.specs.Pieces.{KeyEnd}

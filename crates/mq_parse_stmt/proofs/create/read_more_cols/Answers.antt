@@ -1,9 +1,6 @@
 use Rattle.std.proofs.lemmas.Result.{err_from_is_err_and}
-use Rattle.mq_ast.specs.Tokens.{comma}
 use Rattle.mq_ast.specs.declared.levels.TheConstants as level
-use Rattle.mq_ast.specs.Continuing.{Stops, EndsCols}
-use Rattle.mq_ast.specs.GrammarLists.{MoreOf, more_end, more_comma}
-use Rattle.mq_ast.specs.GrammarStatement.{ColE}
+use Rattle.mq_ast.specs.Prelude.{ColE, EndsCols, MoreOf, Stops, comma, more_comma, more_end}
 use Rattle.mq_parse_expr.proofs.Steps.{exit, one_more, cut_short, all_found}
 use Rattle.mq_parse_stmt.proofs.PieceLemmas.{cols_no_next, cols_no_more}
 use Rattle.mq_parse_stmt.proofs.create.read_more_cols.Goals as goal

@@ -1,8 +1,6 @@
 use Rattle.std.proofs.Common.{◌-◌, length}
 use Rattle.mq_ast.specs.declared.levels.TheConstants as level
-use Rattle.mq_ast.specs.Continuing.{Stops, EndsCols}
-use Rattle.mq_ast.specs.GrammarLists.{MoreOf}
-use Rattle.mq_ast.specs.GrammarStatement.{ColE}
+use Rattle.mq_ast.specs.Prelude.{ColE, EndsCols, MoreOf, Stops}
 use Rattle.mq_parse_expr.proofs.Steps.{SoFar}
 use Rattle.mq_parse_stmt.proofs.create.read_more_cols.Given as goal
 

@@ -1,7 +1,6 @@
 use Rattle.std.proofs.Common.{arith}
 use Rattle.std.proofs.lemmas.Result.{err_from_is_err_and}
-use Rattle.mq_ast.specs.GrammarLists.{SomeOf, NameE}
-use Rattle.mq_ast.specs.GrammarStatement.{NamesE, names}
+use Rattle.mq_ast.specs.Prelude.{NameE, NamesE, SomeOf, names}
 use Rattle.mq_parse_expr.specs.Reading.{Anywhere}
 use Rattle.mq_parse_expr.proofs.Steps.{exit, here, there, till}
 use Rattle.mq_parse_stmt.proofs.PieceLemmas.{names_no_open, names_no_list, names_no_close}

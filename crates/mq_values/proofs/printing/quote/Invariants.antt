@@ -1,6 +1,7 @@
 use Rattle.std.proofs.Common.{◌≡◌, ◌∷◌, ◌++◌, take}
 use Rattle.std.specs.List.{flat_map}
-use Rattle.mq_values.specs.Print.{QUOTE, doubled}
+use Rattle.mq_values.specs.Bytes.{QUOTE}
+use Rattle.mq_values.specs.Print.{doubled}
 use Rattle.mq_values.proofs.printing.quote.Given as goal
 
 abbrev pub invariant-loop-byte : goal.invariant-loop-byte

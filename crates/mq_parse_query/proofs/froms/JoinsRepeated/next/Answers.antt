@@ -1,7 +1,8 @@
 use Rattle.std.proofs.Common.{arith}
 use Rattle.std.proofs.lemmas.Result.{err_from_is_err_and}
+use Rattle.mq_ast.specs.Prelude.{join_bare, join_on}
 use Rattle.mq_parse_expr.proofs.Steps.{exit}
-use Rattle.mq_parse_query.proofs.PlainLemmas.{bare_join, on_join, joins_no_bare, joins_no_on, joins_no_front}
+use Rattle.mq_parse_query.proofs.PlainLemmas.{joins_no_bare, joins_no_on, joins_no_front}
 use Rattle.mq_parse_query.proofs.froms.JoinsRepeated.next.Goals as goal
 
 pub returns-in_err-read_item : goal.returns-in_err-read_item
@@ -13,7 +14,7 @@ pub returns-in-Some : goal.returns-in-Some
 returns-in-Some c =
     let f = c.in-Some.ensures in
     let i = c.in_ok-read_item.ensures in
-    (omega (arith, f.0, i.0), i.1, bare_join f.2 i.2, i.3)
+    (omega (arith, f.0, i.0), i.1, join_bare f.2 i.2, i.3)
 
 pub returns-in_err-read_on_item : goal.returns-in_err-read_on_item
 returns-in_err-read_on_item c =
@@ -24,7 +25,7 @@ pub returns-in-Some-on_front : goal.returns-in-Some-on_front
 returns-in-Some-on_front c =
     let f = c.in-Some-on_front.ensures in
     let i = c.in_ok-read_on_item.ensures in
-    (omega (arith, f.0, i.0), i.1, on_join f.2 i.2, i.3)
+    (omega (arith, f.0, i.0), i.1, join_on f.2 i.2, i.3)
 
 pub returns-in_err-settled : goal.returns-in_err-settled
 returns-in_err-settled c =
