@@ -1,3 +1,4 @@
 pub mod ReadLemmas
 pub mod StatementLemmas
 pub mod WorkedLemmas
+pub mod WorkedScriptLemmas
