@@ -6,3 +6,4 @@ pub mod ReadLemmas
 pub mod RowLemmas
 pub mod StatementLemmas
 pub mod WorkedLemmas
+pub mod WorkedScriptLemmas

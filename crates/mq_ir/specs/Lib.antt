@@ -45,6 +45,7 @@ pub mod TestLaws
 pub mod Tests
 pub mod Unfolding
 pub mod Worked
+pub mod WorkedScript
 pub mod Worth
 pub mod WorthLaws
 pub mod WorthRolls

@@ -1,3 +1,4 @@
+ghost use Rattle.mq_ir.specs.WorkedScript.{AnswerDownwards, RepeatedKey};
 ghost use Rattle.mq_ir.specs.Worked.{CycleAtLeast, HalvedInTurns, OrderMissing, OrderedDownwards, SumOfRange, UpsertedCells};
 
 /// What some small models come to, worked out by hand and computed from the definitions. The call does nothing: its
@@ -9,4 +10,6 @@ pub fn worked_results()
     ensures halved_in_turns { HalvedInTurns }
     ensures cycle { CycleAtLeast }
     ensures sum_of_range { SumOfRange }
+    ensures answer_downwards { AnswerDownwards }
+    ensures repeated_key { RepeatedKey }
 {}

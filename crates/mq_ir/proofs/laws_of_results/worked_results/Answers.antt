@@ -1,4 +1,5 @@
 use Rattle.mq_ir.proofs.WorkedLemmas as worked
+use Rattle.mq_ir.proofs.WorkedScriptLemmas as script
 use Rattle.mq_ir.proofs.laws_of_results.worked_results.Goals as goal
 
 pub returns-clause-upserted : goal.returns-clause-upserted
@@ -18,3 +19,9 @@ returns-clause-cycle c = worked.cycle
 
 pub returns-clause-sum_of_range : goal.returns-clause-sum_of_range
 returns-clause-sum_of_range c = worked.range
+
+pub returns-clause-answer_downwards : goal.returns-clause-answer_downwards
+returns-clause-answer_downwards c = script.answer_downwards
+
+pub returns-clause-repeated_key : goal.returns-clause-repeated_key
+returns-clause-repeated_key c = script.repeated_key
