@@ -1,3 +1,4 @@
+pub mod CellLemmas
 pub mod ConvertLemmas
 pub mod GroupLemmas
 pub mod KeyLemmas

@@ -9,7 +9,7 @@ use Rattle.mq_values.specs.declared.value.Value.{Value}
 use Rattle.mq_ir.specs.declared.query.ColRef.{ColRef}
 use Rattle.mq_ir.specs.Items.{BaseRow, groups_of}
 use Rattle.mq_ir.specs.Keys.{Tuple, is_same}
-use Rattle.mq_ir.specs.Partitions.{partition_keys}
+use Rattle.mq_ir.specs.Partitions.{cell_at, cells_of, partition_keys}
 
 -- how often a key stands among these
 abbrev pub times : Tuple → List Tuple → ℕ
@@ -34,3 +34,7 @@ RowsHaveOneGroup cols rows = (n : ℕ) → n < length rows → groups_with n (gr
 -- a value that is converted twice is as converted once
 abbrev pub ConvertsOnce : Value → Kind → Type 0
 ConvertsOnce v kind = (w : Value) → cast_of v kind ≡ Ok w → cast_of w kind ≡ Ok w
+
+-- where a tuple stands in several rows, a look-up in the cells finds the measures of the first of them
+abbrev pub FirstRowCounts : List (Tuple × Tuple) → Tuple → Type 0
+FirstRowCounts rows key = cell_at (cells_of rows) key ≡ cell_at rows key

@@ -4,7 +4,7 @@ ghost use Rattle.mq_values.specs.declared.value.Value.{Value};
 ghost use Rattle.mq_ir.specs.declared.query.ColRef.{ColRef};
 ghost use Rattle.mq_ir.specs.Items.{BaseRow};
 ghost use Rattle.mq_ir.specs.Keys.{Tuple};
-ghost use Rattle.mq_ir.specs.RowLaws.{ConvertsOnce, PartitionsAscend, RowsHaveOneGroup, RowsHaveOnePartition};
+ghost use Rattle.mq_ir.specs.RowLaws.{ConvertsOnce, FirstRowCounts, PartitionsAscend, RowsHaveOneGroup, RowsHaveOnePartition};
 
 /// Every item row is in exactly one partition. The call does nothing: its contract is the law
 /// (docs/MEANING.md, "Partitions").
@@ -22,6 +22,12 @@ pub fn partitions_ascend()
 /// (docs/MEANING.md, "Groups and items").
 pub fn rows_have_one_group()
     ensures { (cols : List ColRef) (rows : List BaseRow) → RowsHaveOneGroup cols rows }
+{}
+
+/// Where a dimension tuple stands in several rows, a look-up in the cells finds the measures of the first of
+/// them. The call does nothing: its contract is the law (docs/MEANING.md, "Partitions").
+pub fn first_rows_count()
+    ensures { (rows : List (Tuple × Tuple)) (key : Tuple) → FirstRowCounts rows key }
 {}
 
 /// A value that is converted twice is as converted once. The call does nothing: its contract is the law

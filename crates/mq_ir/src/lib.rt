@@ -28,7 +28,8 @@ pub use laws_of_reads::{
 };
 pub use laws_of_results::worked_results;
 pub use laws_of_rows::{
-    partitions_ascend, rows_have_one_group, rows_have_one_partition, values_convert_once,
+    first_rows_count, partitions_ascend, rows_have_one_group, rows_have_one_partition,
+    values_convert_once,
 };
 pub use laws_of_statements::refusals_alter_nothing;
 pub use limit_numbers::{
