@@ -6,7 +6,6 @@ pub mod OneQueryLemmas
 pub mod OneRuleLemmas
 pub mod OneModelLemmas
 pub mod OneStatementLemmas
-
 -- equal trees that end at equal places, and facts that begin where others end
 pub use Rattle.mq_ast.specs.Laws.CommonLemmas.{Same, begin, none_some, cut}
 -- lists
