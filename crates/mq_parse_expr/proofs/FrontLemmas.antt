@@ -19,8 +19,8 @@ use Rattle.mq_ast.specs.Calls.{call_of}
 use Rattle.mq_ast.specs.Continuing.{loose, Stops, Not}
 use Rattle.mq_ast.specs.GrammarLists.{NameE, name}
 use Rattle.mq_ast.specs.GrammarNames.{KindE}
-use Rattle.mq_ast.specs.GrammarExpression.{TestTail, tail_none, tail_null, tail_not_null, tail_present, tail_not_present, tail_any, PrimE, prim_num, prim_text, prim_null, prim_cv, prim_cv_name, prim_turn}
-use Rattle.mq_ast.specs.Laws.{cut}
+use Rattle.mq_ast.specs.GrammarExpression.{TestTail, tail_none, tail_null, tail_not_null, tail_present, tail_not_present, tail_any, PrimE, prim_call, prim_num, prim_text, prim_null, prim_cv, prim_cv_name, prim_turn}
+use Rattle.mq_ast.specs.Laws.{cut, none_some}
 use Rattle.mq_ast.specs.Laws.{kind_same}
 use Rattle.mq_parse_expr.specs.declared.forms.Form.{Form}
 use Rattle.mq_parse_expr.specs.declared.forms.Form.TheVariants as form
@@ -189,13 +189,16 @@ scale_no_close h k to (to_scale i) s = h refl
 pub cv_no_open : {ts : List Tok} → Not (terminal.Sign sign.Open) ts → No (Behind (Word word.Cv)) Anywhere ts
 cv_no_open n a to prim_cv s = n refl
 cv_no_open n a to prim_cv_name s = n refl
+cv_no_open n a to (prim_call c d l) s = absurd (none_some c)
 
 pub cv_no_name : {ts : List Tok} → Not (terminal.Sign sign.Close) ts → No NameE Anywhere ts → No (Behind (Word word.Cv)) Anywhere (opener ∷ ts)
 cv_no_name n h a to prim_cv s = n refl
 cv_no_name n h a to prim_cv_name s = h _ _ name tt
+cv_no_name n h a to (prim_call c d l) s = absurd (none_some c)
 
 pub cv_no_close : {n : List ℕ} {ts : List Tok} → Not (terminal.Sign sign.Close) ts → No (Behind (Word word.Cv)) Anywhere (opener ∷ Name n ∷ ts)
 cv_no_close h a to prim_cv_name s = h refl
+cv_no_close h a to (prim_call c d l) s = absurd (none_some c)
 
 -- what a test by IS asks
 pub asks_no_word : {not : Bool} {ts : List Tok} → Not (terminal.Word word.Null) ts → Not (terminal.Word word.Present) ts → No (NullOrPresent not) Anywhere ts
@@ -264,6 +267,7 @@ form_inside terminal.Name t at h = form_of_inside form.Name t at (h (λ e. cc))
 form_inside terminal.Number t at h = form_of_inside form.Number t at (h (λ e. cc))
 form_inside terminal.Text t at h = form_of_inside form.Text t at (h (λ e. cc))
 form_inside (terminal.Sign s) t at h = form_of_inside (form_of (terminal.Sign s)) t at (h (λ e. cc))
+form_inside (terminal.Aggregate g) t at h = form_of_inside (form.Aggregate g) t at (h (λ e. cc))
 form_inside (terminal.Word w) t at h = form_of_inside (form_of (terminal.Word w)) t at (h (λ e. cc))
 
 pub tail_inside : (x : Terminal) (t : List Token) (at : ℕ) → (x ≢ terminal.Nothing → at < length t) → TailInside (tail_of x) t at
@@ -273,4 +277,5 @@ tail_inside terminal.Name t at h = tt
 tail_inside terminal.Number t at h = tt
 tail_inside terminal.Text t at h = tt
 tail_inside (terminal.Sign s) t at h = tail_of_inside (tail_of (terminal.Sign s)) t at (h (λ e. cc))
+tail_inside (terminal.Aggregate g) t at h = tt
 tail_inside (terminal.Word w) t at h = tail_of_inside (tail_of (terminal.Word w)) t at (h (λ e. cc))

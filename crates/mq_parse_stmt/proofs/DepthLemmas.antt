@@ -4,6 +4,7 @@ use Rattle.std.proofs.lemmas.List.{drop-map, drop_more, take_all, length-map}
 use Rattle.std.proofs.lemmas.List.Filters.{length-filter_more}
 use Rattle.std.proofs.lemmas.Bool.{cases_lt}
 use mir.Val.{bool_byte}
+use Rattle.mq_values.specs.declared.limits.TheConstants.{MAX_DEPTH}
 use Rattle.mq_lexer.specs.declared.sorts.Token.{Token}
 use Rattle.mq_ast.specs.declared.terminals.Terminal.{Terminal}
 use Rattle.mq_ast.specs.Prelude.{Tok, terminal_at, tok_of, toks}
@@ -55,14 +56,14 @@ module _ (t : List Token) (at opened closed : ℕ) (kept : LevelsSoFar t at open
   closed_next : closed + cond (closes (terminal_at (k ∷ []))) 1 0 ≡ count closes (take (at + 1) (toks t))
   closed_next = ap (λ x. x + cond (closes (terminal_at (k ∷ []))) 1 0) kept.closing ∙ sym (count_next closes t at k us within is)
 
-  none_by : (o c : ℕ) → o ≡ count opens (take (at + 1) (toks t)) → c ≡ count closes (take (at + 1) (toks t)) → (c + 64 < o → ⊥) → (n : ℕ) → n ≤ at + 1 → Over n (toks t) → (at < n) ⊎ (n ≤ at) → ⊥
+  none_by : (o c : ℕ) → o ≡ count opens (take (at + 1) (toks t)) → c ≡ count closes (take (at + 1) (toks t)) → (c + MAX_DEPTH < o → ⊥) → (n : ℕ) → n ≤ at + 1 → Over n (toks t) → (at < n) ⊎ (n ≤ at) → ⊥
   none_by o c a b h n l over (inr r) = kept.none n r over
   none_by o c a b h n l over (inl r) =
       let e : n ≡ at + 1 = omega (arith, r, l) in
       let v : Over (at + 1) (toks t) = subst (λ m. Over m (toks t)) e over in
       h (rw (a, b) v)
 
-  none_next : (o c : ℕ) → o ≡ count opens (take (at + 1) (toks t)) → c ≡ count closes (take (at + 1) (toks t)) → (c + 64 < o → ⊥) → (n : ℕ) → n ≤ at + 1 → Over n (toks t) → ⊥
+  none_next : (o c : ℕ) → o ≡ count opens (take (at + 1) (toks t)) → c ≡ count closes (take (at + 1) (toks t)) → (c + MAX_DEPTH < o → ⊥) → (n : ℕ) → n ≤ at + 1 → Over n (toks t) → ⊥
   none_next o c a b h n l over = none_by o c a b h n l over (cases_lt at n)
 
   counted : (p : Terminal → Bool) (b : Bool) → b ≡ p s → bool_byte b ≡ cond (p (terminal_at (k ∷ []))) 1 0
@@ -78,7 +79,7 @@ module _ (t : List Token) (at opened closed : ℕ) (kept : LevelsSoFar t at open
   at_most n true l = omega (arith, l)
   at_most n false l = omega (arith, l)
 
-  pub levels_next : (b d : Bool) → b ≡ opens s → d ≡ closes s → (closed + bool_byte d + 64 < opened + bool_byte b → ⊥) → LevelsSoFar t (at + 1) (opened + bool_byte b) (closed + bool_byte d)
+  pub levels_next : (b d : Bool) → b ≡ opens s → d ≡ closes s → (closed + bool_byte d + MAX_DEPTH < opened + bool_byte b → ⊥) → LevelsSoFar t (at + 1) (opened + bool_byte b) (closed + bool_byte d)
   levels_next b d e f h = record {
     high = omega (arith, low);
     opening = opened_now b e;
@@ -87,9 +88,9 @@ module _ (t : List Token) (at opened closed : ℕ) (kept : LevelsSoFar t at open
     none = none_next (opened + bool_byte b) (closed + bool_byte d) (opened_now b e) (closed_now d f) h;
   }
 
-  pub levels_over : (b d : Bool) → b ≡ opens s → d ≡ closes s → closed + bool_byte d + 64 < opened + bool_byte b → TooDeep (toks t)
+  pub levels_over : (b d : Bool) → b ≡ opens s → d ≡ closes s → closed + bool_byte d + MAX_DEPTH < opened + bool_byte b → TooDeep (toks t)
   levels_over b d e f h =
-      let v : count closes (take (at + 1) (toks t)) + 64 < count opens (take (at + 1) (toks t)) = rw (sym (opened_now b e), sym (closed_now d f)) h in
+      let v : count closes (take (at + 1) (toks t)) + MAX_DEPTH < count opens (take (at + 1) (toks t)) = rw (sym (opened_now b e), sym (closed_now d f)) h in
       (at + 1, v)
 
 -- the whole list
@@ -108,7 +109,7 @@ module _ (t : List Token) (at opened closed : ℕ) (kept : LevelsSoFar t at open
       let l = all_read in
       let p = take_all n (toks t) (omega (arith, l, r)) in
       let q = take_all at (toks t) l in
-      kept.none at (omega arith) (subst (λ m. count closes m + 64 < count opens m) (p ∙ sym q) over)
+      kept.none at (omega arith) (subst (λ m. count closes m + MAX_DEPTH < count opens m) (p ∙ sym q) over)
 
   pub levels_all : TooDeep (toks t) → ⊥
   levels_all d = none_behind d.0 d.1 (cases_lt at d.0)

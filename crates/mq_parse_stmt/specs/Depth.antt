@@ -1,5 +1,6 @@
 -- When a statement is too deep.
 use Rattle.std.specs.Prelude.{ℕ, ◌+◌, ◌<◌, Bool, true, false, List, [], ◌∷◌, length, filter, take}
+use Rattle.mq_values.specs.declared.limits.TheConstants.{MAX_DEPTH}
 use Rattle.mq_ast.specs.declared.terminals.Terminal.{Terminal}
 use Rattle.mq_ast.specs.declared.terminals.Symbol.TheVariants as sign
 use Rattle.mq_ast.specs.declared.terminals.Terminal.TheVariants as terminal
@@ -24,9 +25,9 @@ closes _ = false
 abbrev pub count : (Terminal → Bool) → List Tok → ℕ
 count p ts = length (filter (λ k. p (terminal_at (k ∷ []))) ts)
 
--- among the first n tokens those that open are more than 64 ahead of those that close
+-- among the first n tokens those that open are more than the limit ahead of those that close
 abbrev pub Over : ℕ → List Tok → Type 0
-Over n ts = count closes (take n ts) + 64 < count opens (take n ts)
+Over n ts = count closes (take n ts) + MAX_DEPTH < count opens (take n ts)
 
 abbrev pub TooDeep : List Tok → Type 0
 TooDeep ts = (n : ℕ) × Over n ts

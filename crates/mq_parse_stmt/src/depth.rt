@@ -7,11 +7,9 @@ ghost use Rattle.mq_parse_stmt.specs.Depth.{TooDeep, opens as spec_opens, closes
 use mq_ast::{Keyword, Symbol, Terminal};
 use mq_lexer::Token;
 use mq_parse_expr::{terminal_of, token_at};
+use mq_values::MAX_DEPTH;
 
-/// How many levels may be open at once.
-const MAX_DEPTH: usize = 64;
-
-/// Whether among some first tokens more than 64 levels are opened and not closed.
+/// Whether among some first tokens more levels than may be are opened and not closed.
 pub(crate) fn is_too_deep(t: &[Token<'_>]) -> bool
     ensures { IsTrue result ↔ TooDeep (from t.now 0) }
 {

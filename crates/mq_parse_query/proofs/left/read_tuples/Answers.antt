@@ -4,7 +4,7 @@ use Rattle.mq_ast.specs.Prelude.{ForListE, Tuple, for_rows, for_values}
 use Rattle.mq_ast.specs.Laws.{tuples_no_plain}
 use Rattle.mq_parse_expr.specs.Reading.{Anywhere}
 use Rattle.mq_parse_expr.proofs.Steps.{exit, here, there}
-use Rattle.mq_parse_query.proofs.RuleLemmas.{any_closed}
+use Rattle.mq_parse_query.proofs.RuleLemmas.{any_closed, for_no_open, for_no_rows, for_no_list}
 use Rattle.mq_parse_query.proofs.left.read_tuples.Goals as goal
 
 pub returns-in_err-open : goal.returns-in_err-open
