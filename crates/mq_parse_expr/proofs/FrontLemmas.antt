@@ -32,7 +32,7 @@ use Rattle.mq_parse_expr.specs.Reading.{from, Then, No, Anywhere}
 use Rattle.mq_parse_expr.specs.Names.{IntE, int}
 use Rattle.mq_parse_expr.specs.Forms.{FormInside, TailInside, form_of_word, form_of, tail_of, IsClosed, IsLeaf}
 use Rattle.mq_parse_expr.specs.Fronts.{Behind, Since, is_front, HeadsAll, NoAll, NoCells, AsKind, as_kind, ToScale, to_scale, NullOrPresent, asks_null, asks_present, IsTestE, asks_any, asks, asks_not, judged}
-use Rattle.mq_parse_expr.proofs.TokenLemmas.{next}
+use Rattle.mq_parse_expr.specs.TokenLemmas.{next}
 
 -- what stands at the front of a form
 abbrev pub FormFront : Form → List Tok → Type 0

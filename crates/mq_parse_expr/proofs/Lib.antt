@@ -1,8 +1,5 @@
-pub mod Arms
+pub mod ArmLemmas
 pub mod FrontLemmas
-pub mod Levels
-pub mod NameLemmas
+pub mod LevelLemmas
 pub mod PrimLemmas
 pub mod SpellingLemmas
-pub mod Steps
-pub mod TokenLemmas

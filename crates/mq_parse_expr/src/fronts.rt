@@ -37,7 +37,7 @@ pub(crate) fn tail_at(t: &[Token<'_>], at: usize) -> Tail
 }
 
 /// The sign with which a sum goes on at a place.
-#[tactic(auto, using(crate::proofs::TokenLemmas::sign_next))]
+#[tactic(auto, using(crate::specs::TokenLemmas::sign_next))]
 pub(crate) fn sum_op(t: &[Token<'_>], at: usize) -> Option<SumOp>
     ensures { MatchOption result ((op : SumOp) → Not (Terminal.Sign (Symbol.Sum op)) (from t.now at)) (λ op. Then (Sign (Symbol.Sum op)) t.now at (at + 1)) }
 {
@@ -48,7 +48,7 @@ pub(crate) fn sum_op(t: &[Token<'_>], at: usize) -> Option<SumOp>
 }
 
 /// The sign with which a product goes on at a place.
-#[tactic(auto, using(crate::proofs::TokenLemmas::sign_next))]
+#[tactic(auto, using(crate::specs::TokenLemmas::sign_next))]
 pub(crate) fn prod_op(t: &[Token<'_>], at: usize) -> Option<ProdOp>
     ensures { MatchOption result ((op : ProdOp) → Not (Terminal.Sign (Symbol.Prod op)) (from t.now at)) (λ op. Then (Sign (Symbol.Prod op)) t.now at (at + 1)) }
 {

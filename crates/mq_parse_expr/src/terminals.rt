@@ -88,7 +88,7 @@ fn same_word(a: Keyword, b: Keyword) -> bool
 }
 
 /// The place behind this reserved word, where it stands at a place.
-#[tactic(auto, using(crate::proofs::TokenLemmas::word_next))]
+#[tactic(auto, using(crate::specs::TokenLemmas::word_next))]
 pub fn behind_word(t: &[Token<'_>], at: usize, word: Keyword) -> Option<usize>
     ensures { MatchOption result (Not (Terminal.Word word) (from t.now at)) (Then (Word word) t.now at) }
 {
@@ -99,7 +99,7 @@ pub fn behind_word(t: &[Token<'_>], at: usize, word: Keyword) -> Option<usize>
 }
 
 /// The place behind this sign, where it stands at a place.
-#[tactic(auto, using(crate::proofs::TokenLemmas::sign_next))]
+#[tactic(auto, using(crate::specs::TokenLemmas::sign_next))]
 pub fn behind_sign(t: &[Token<'_>], at: usize, sign: Symbol) -> Option<usize>
     ensures { MatchOption result (Not (Terminal.Sign sign) (from t.now at)) (Then (Sign sign) t.now at) }
 {

@@ -1,6 +1,6 @@
 use Rattle.std.proofs.Common.{◌≡◌, ◌<◌, ◌≤◌, ◌+◌, ◌∷◌, refl, sym, ap, ◌∙◌, arith}
 use Rattle.std.proofs.lemmas.Result.{err_from_is_err_and}
-use Rattle.mq_parse_expr.proofs.Steps.{exit, here, there, as_value, gives_as, fronted}
+use Rattle.mq_parse_expr.specs.StepLemmas.{exit, here, there, as_value, gives_as, fronted}
 use Rattle.mq_parse_expr.specs.Reading.{from, Anywhere}
 use Rattle.mq_parse_expr.proofs.FrontLemmas.{asks_no_word}
 use Rattle.mq_parse_expr.specs.Fronts.{NullOrPresent, asks_null, asks_present}

@@ -1,11 +1,11 @@
 use Rattle.std.proofs.Common.{◌≡◌, ◌<◌, ◌≤◌, ◌+◌, ◌∷◌, refl, sym, ap, ◌∙◌, arith}
 use Rattle.std.proofs.lemmas.Result.{err_from_is_err_and}
-use Rattle.mq_parse_expr.proofs.Steps.{exit, here, there, as_value, gives_as, fronted}
+use Rattle.mq_parse_expr.specs.StepLemmas.{exit, here, there, as_value, gives_as, fronted}
 use Rattle.mq_parse_expr.specs.Reading.{from, Anywhere}
 use Rattle.mq_parse_expr.proofs.FrontLemmas.{as_no_as, as_no_kind, as_no_close}
 use Rattle.mq_lexer.specs.declared.keywords.Keyword.TheVariants as word
 use Rattle.mq_ast.specs.GrammarNames.{KindE}
-use Rattle.mq_parse_expr.proofs.Steps.{till}
+use Rattle.mq_parse_expr.specs.StepLemmas.{till}
 use Rattle.mq_parse_expr.specs.Fronts.{AsKind, as_kind}
 use Rattle.mq_parse_expr.proofs.fronts.read_as_kind.Goals as goal
 

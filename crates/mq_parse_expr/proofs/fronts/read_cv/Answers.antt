@@ -1,12 +1,12 @@
 use Rattle.std.proofs.Common.{◌≡◌, ◌<◌, ◌≤◌, ◌+◌, ◌∷◌, refl, sym, ap, ◌∙◌, arith}
 use Rattle.std.proofs.lemmas.Result.{err_from_is_err_and}
-use Rattle.mq_parse_expr.proofs.Steps.{exit, here, there, as_value, gives_as, fronted}
+use Rattle.mq_parse_expr.specs.StepLemmas.{exit, here, there, as_value, gives_as, fronted}
 use Rattle.mq_parse_expr.specs.Reading.{from, Anywhere}
 use Rattle.mq_parse_expr.proofs.FrontLemmas.{cv_no_open, cv_no_name, cv_no_close}
 use Rattle.mq_lexer.specs.declared.keywords.Keyword.TheVariants as word
 use Rattle.mq_ast.specs.Tokens.{Word, Name, opener}
 use Rattle.mq_ast.specs.GrammarExpression.{prim_cv, prim_cv_name}
-use Rattle.mq_parse_expr.proofs.NameLemmas.{named}
+use Rattle.mq_parse_expr.specs.NameLemmas.{named}
 use Rattle.mq_parse_expr.specs.Fronts.{Behind}
 use Rattle.mq_parse_expr.proofs.fronts.read_cv.Goals as goal
 

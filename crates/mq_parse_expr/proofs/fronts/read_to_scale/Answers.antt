@@ -1,10 +1,10 @@
 use Rattle.std.proofs.Common.{◌≡◌, ◌<◌, ◌≤◌, ◌+◌, ◌∷◌, refl, sym, ap, ◌∙◌, arith}
 use Rattle.std.proofs.lemmas.Result.{err_from_is_err_and}
-use Rattle.mq_parse_expr.proofs.Steps.{exit, here, there, as_value, gives_as, fronted}
+use Rattle.mq_parse_expr.specs.StepLemmas.{exit, here, there, as_value, gives_as, fronted}
 use Rattle.mq_parse_expr.specs.Reading.{from, Anywhere}
 use Rattle.mq_parse_expr.proofs.FrontLemmas.{scale_no_comma, scale_no_int, scale_no_close}
 use Rattle.mq_ast.specs.Tokens.{Num, comma}
-use Rattle.mq_parse_expr.proofs.NameLemmas.{numbered}
+use Rattle.mq_parse_expr.specs.NameLemmas.{numbered}
 use Rattle.mq_parse_expr.specs.Fronts.{ToScale, to_scale}
 use Rattle.mq_parse_expr.proofs.fronts.read_to_scale.Goals as goal
 

@@ -1,4 +1,4 @@
-use Rattle.mq_parse_expr.proofs.NameLemmas.{token_no_name}
+use Rattle.mq_parse_expr.specs.NameLemmas.{token_no_name}
 use Rattle.mq_parse_expr.proofs.names.name_at.Goals as goal
 
 pub returns-in_default : goal.returns-in_default

@@ -5,8 +5,8 @@ use Rattle.mq_lexer.specs.declared.keywords.Keyword.TheVariants as word
 use Rattle.mq_ast.specs.Tokens.{Word, Num, opener, closer}
 use Rattle.mq_ast.specs.GrammarNames.{KindE, kind_decimal}
 use Rattle.mq_parse_expr.specs.Reading.{from, Anywhere}
-use Rattle.mq_parse_expr.proofs.Steps.{exit, here, there, as_value}
-use Rattle.mq_parse_expr.proofs.NameLemmas.{kind_no_word, kind_no_open, kind_no_int, kind_no_close, numbered}
+use Rattle.mq_parse_expr.specs.StepLemmas.{exit, here, there, as_value}
+use Rattle.mq_parse_expr.specs.NameLemmas.{kind_no_word, kind_no_open, kind_no_int, kind_no_close, numbered}
 use Rattle.mq_parse_expr.proofs.names.read_decimal.Goals as goal
 
 pub returns-in_err-decimal : goal.returns-in_err-decimal

@@ -1,6 +1,6 @@
 use Rattle.std.proofs.Common.{◌≡◌, ◌<◌, ◌≤◌, ◌+◌, ◌∷◌, sym, ap, ◌∙◌, arith}
 use Rattle.mq_ast.specs.GrammarNames.{KindE, kind_int, kind_text}
-use Rattle.mq_parse_expr.proofs.Steps.{there}
+use Rattle.mq_parse_expr.specs.StepLemmas.{there}
 use Rattle.mq_parse_expr.proofs.names.read_kind.Goals as goal
 
 pub returns-in-Some : goal.returns-in-Some

@@ -5,8 +5,8 @@ use Rattle.mq_ast.specs.declared.levels.TheConstants as level
 use Rattle.mq_ast.specs.Continuing.{Stops}
 use Rattle.mq_ast.specs.GrammarNames.{PathE, path_one, path_two}
 use Rattle.mq_parse_expr.specs.Reading.{from}
-use Rattle.mq_parse_expr.proofs.Steps.{exit, here, there, as_value}
-use Rattle.mq_parse_expr.proofs.NameLemmas.{stops_path, path_no_name, path_no_second, path_no_end, named}
+use Rattle.mq_parse_expr.specs.StepLemmas.{exit, here, there, as_value}
+use Rattle.mq_parse_expr.specs.NameLemmas.{stops_path, path_no_name, path_no_second, path_no_end, named}
 use Rattle.mq_parse_expr.proofs.names.read_path.Goals as goal
 
 pub returns-in_err-first : goal.returns-in_err-first

@@ -1,6 +1,6 @@
 use Rattle.std.proofs.Common.{◌≡◌, ◌<◌, ◌≤◌, ◌+◌, sym, ap, ◌∙◌, arith}
 use Rattle.mq_parse_expr.specs.Names.{TextE, txt}
-use Rattle.mq_parse_expr.proofs.Steps.{there, as_value}
+use Rattle.mq_parse_expr.specs.StepLemmas.{there, as_value}
 use Rattle.mq_parse_expr.proofs.names.read_text.Goals as goal
 
 pub returns-in_ok-new-in-Some : goal.returns-in_ok-new-in-Some

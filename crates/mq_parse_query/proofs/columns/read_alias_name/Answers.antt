@@ -1,5 +1,5 @@
 use Rattle.std.proofs.lemmas.Result.{err_from_is_err_and}
-use Rattle.mq_parse_expr.proofs.Steps.{exit}
+use Rattle.mq_parse_expr.specs.StepLemmas.{exit}
 use Rattle.mq_parse_query.proofs.PlainLemmas.{some_no_name, some_no_end, some_named}
 use Rattle.mq_parse_query.proofs.columns.read_alias_name.Goals as goal
 

@@ -3,7 +3,7 @@ use Rattle.std.proofs.lemmas.Result.{err_from_is_err_and}
 use Rattle.mq_ast.specs.declared.levels.TheConstants as level
 use Rattle.mq_ast.specs.Prelude.{ConditionE, Stops, condition}
 use Rattle.mq_parse_expr.specs.Reading.{from}
-use Rattle.mq_parse_expr.proofs.Steps.{exit, here, there}
+use Rattle.mq_parse_expr.specs.StepLemmas.{exit, here, there}
 use Rattle.mq_parse_query.proofs.PlainLemmas.{condition_no_on, condition_no_expr, condition_no_end}
 use Rattle.mq_parse_query.proofs.froms.read_condition.Goals as goal
 

@@ -2,7 +2,7 @@ use Rattle.std.proofs.Common.{arith}
 use Rattle.std.proofs.lemmas.Result.{err_from_is_err_and}
 use Rattle.std.specs.Prelude.{None}
 use Rattle.mq_ast.specs.Prelude.{ItemE}
-use Rattle.mq_parse_expr.proofs.Steps.{exit, as_value}
+use Rattle.mq_parse_expr.specs.StepLemmas.{exit, as_value}
 use Rattle.mq_parse_query.proofs.PlainLemmas.{item_no_name, item_no_alias, item_named}
 use Rattle.mq_parse_query.proofs.froms.read_item.Goals as goal
 

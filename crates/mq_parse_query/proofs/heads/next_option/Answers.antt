@@ -4,7 +4,7 @@ use Rattle.mq_ast.specs.declared.clauses.TheConstants as clause
 use Rattle.mq_ast.specs.Prelude.{ManyOf, OptE, Past, Word}
 use Rattle.mq_parse_query.specs.Pieces.{first_word}
 use Rattle.mq_parse_expr.specs.Reading.{from}
-use Rattle.mq_parse_expr.proofs.Steps.{exit, here, there}
+use Rattle.mq_parse_expr.specs.StepLemmas.{exit, here, there}
 use Rattle.mq_parse_query.proofs.ModelLemmas.{option_no_second, option_whole}
 use Rattle.mq_parse_query.proofs.heads.next_option.Goals as goal
 

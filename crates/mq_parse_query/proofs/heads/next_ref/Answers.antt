@@ -2,7 +2,7 @@ use Rattle.std.proofs.Common.{arith}
 use Rattle.std.proofs.lemmas.Result.{err_from_is_err_and}
 use Rattle.mq_ast.specs.declared.clauses.TheConstants as clause
 use Rattle.mq_ast.specs.Prelude.{ManyOf, Past, RefE}
-use Rattle.mq_parse_expr.proofs.Steps.{exit, here, there}
+use Rattle.mq_parse_expr.specs.StepLemmas.{exit, here, there}
 use Rattle.mq_parse_query.proofs.ModelLemmas.{refs_no_ref, refs_no_end}
 use Rattle.mq_parse_query.proofs.heads.next_ref.Goals as goal
 

@@ -3,7 +3,7 @@ use Rattle.std.proofs.lemmas.Result.{err_from_is_err_and}
 use Rattle.mq_ast.specs.declared.clauses.TheConstants as clause
 use Rattle.mq_lexer.specs.declared.keywords.Keyword.TheVariants as word
 use Rattle.mq_ast.specs.Prelude.{IterateE, Past, Word, iterate_none}
-use Rattle.mq_parse_expr.proofs.Steps.{exit, fronted}
+use Rattle.mq_parse_expr.specs.StepLemmas.{exit, fronted}
 use Rattle.mq_parse_query.proofs.HeadLemmas.{turning_no_word}
 use Rattle.mq_parse_query.proofs.heads.read_iterate.Goals as goal
 

@@ -3,8 +3,8 @@ use Rattle.std.proofs.lemmas.Result.{err_from_is_err_and}
 use Rattle.mq_ast.specs.declared.clauses.TheConstants as clause
 use Rattle.mq_lexer.specs.declared.keywords.Keyword.TheVariants as word
 use Rattle.mq_ast.specs.Prelude.{MainE, Past, Word, main_none, main_some}
-use Rattle.mq_parse_expr.proofs.Steps.{exit, here, there}
-use Rattle.mq_parse_expr.proofs.NameLemmas.{named}
+use Rattle.mq_parse_expr.specs.StepLemmas.{exit, here, there}
+use Rattle.mq_parse_expr.specs.NameLemmas.{named}
 use Rattle.mq_parse_query.proofs.ModelLemmas.{main_no_name, main_no_end, main_no_word}
 use Rattle.mq_parse_query.proofs.heads.read_main.Goals as goal
 

@@ -4,7 +4,7 @@ use Rattle.mq_ast.specs.declared.clauses.TheConstants as clause
 use Rattle.mq_lexer.specs.declared.keywords.Keyword.TheVariants as word
 use Rattle.mq_ast.specs.Prelude.{PartsE, Past, Word, parts_none, parts_some}
 use Rattle.mq_parse_expr.specs.Reading.{from}
-use Rattle.mq_parse_expr.proofs.Steps.{exit, here, there, as_value}
+use Rattle.mq_parse_expr.specs.StepLemmas.{exit, here, there, as_value}
 use Rattle.mq_parse_query.proofs.ModelLemmas.{parts_no_by, parts_no_cols, parts_no_end, parts_no_word}
 use Rattle.mq_parse_query.proofs.heads.read_parts.Goals as goal
 

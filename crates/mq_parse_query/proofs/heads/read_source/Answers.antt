@@ -3,8 +3,8 @@ use Rattle.std.proofs.lemmas.Result.{err_from_is_err_and}
 use Rattle.mq_lexer.specs.declared.keywords.Keyword.TheVariants as word
 use Rattle.mq_ast.specs.Prelude.{Name, RefSourceE, Word, ref_source}
 use Rattle.mq_parse_expr.specs.Reading.{Anywhere}
-use Rattle.mq_parse_expr.proofs.Steps.{exit, here, there}
-use Rattle.mq_parse_expr.proofs.NameLemmas.{named}
+use Rattle.mq_parse_expr.specs.StepLemmas.{exit, here, there}
+use Rattle.mq_parse_expr.specs.NameLemmas.{named}
 use Rattle.mq_parse_query.proofs.ModelLemmas.{source_no_name, source_no_on, source_no_open, source_no_plain}
 use Rattle.mq_parse_query.proofs.heads.read_source.Goals as goal
 

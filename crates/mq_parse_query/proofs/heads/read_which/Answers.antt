@@ -1,7 +1,7 @@
 use Rattle.std.proofs.Common.{arith}
 use Rattle.std.proofs.lemmas.Result.{err_from_is_err_and}
 use Rattle.mq_ast.specs.Prelude.{WhichE, which_all, which_updated}
-use Rattle.mq_parse_expr.proofs.Steps.{exit, there}
+use Rattle.mq_parse_expr.specs.StepLemmas.{exit, there}
 use Rattle.mq_parse_query.proofs.ModelLemmas.{which_no_word}
 use Rattle.mq_parse_query.proofs.heads.read_which.Goals as goal
 

@@ -1,6 +1,6 @@
 use Rattle.std.proofs.lemmas.Result.{err_from_is_err_and}
 use Rattle.mq_ast.specs.Prelude.{AloneE, alone}
-use Rattle.mq_parse_expr.proofs.Steps.{exit, as_value}
+use Rattle.mq_parse_expr.specs.StepLemmas.{exit, as_value}
 use Rattle.mq_parse_query.proofs.RuleLemmas.{alone_no_expr}
 use Rattle.mq_parse_query.proofs.left.read_alone.Goals as goal
 

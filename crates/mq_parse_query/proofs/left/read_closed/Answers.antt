@@ -1,7 +1,7 @@
 use Rattle.std.proofs.Common.{arith}
 use Rattle.std.proofs.lemmas.Result.{err_from_is_err_and}
 use Rattle.mq_ast.specs.Prelude.{SomeOf}
-use Rattle.mq_parse_expr.proofs.Steps.{exit, till}
+use Rattle.mq_parse_expr.specs.StepLemmas.{exit, till}
 use Rattle.mq_parse_query.proofs.RuleLemmas.{closed_no_list, closed_no_close}
 use Rattle.mq_parse_query.proofs.left.read_closed.Goals as goal
 

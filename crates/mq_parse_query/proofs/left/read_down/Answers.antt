@@ -1,7 +1,7 @@
 use Rattle.std.proofs.Common.{arith}
 use Rattle.std.proofs.lemmas.Result.{err_from_is_err_and}
 use Rattle.mq_ast.specs.Prelude.{DownE, down_no, down_yes}
-use Rattle.mq_parse_expr.proofs.Steps.{exit, there}
+use Rattle.mq_parse_expr.specs.StepLemmas.{exit, there}
 use Rattle.mq_parse_query.proofs.RuleLemmas.{down_no_word}
 use Rattle.mq_parse_query.proofs.left.read_down.Goals as goal
 

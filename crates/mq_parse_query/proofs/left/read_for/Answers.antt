@@ -4,8 +4,8 @@ use Rattle.mq_ast.specs.declared.levels.TheConstants as level
 use Rattle.mq_ast.specs.Prelude.{Name, Stops, lit_in, lit_range}
 use Rattle.mq_parse_query.specs.Pieces.{ForPlace}
 use Rattle.mq_parse_expr.specs.Reading.{from}
-use Rattle.mq_parse_expr.proofs.Steps.{exit, here, there, as_value}
-use Rattle.mq_parse_expr.proofs.NameLemmas.{named}
+use Rattle.mq_parse_expr.specs.StepLemmas.{exit, here, there, as_value}
+use Rattle.mq_parse_expr.specs.NameLemmas.{named}
 use Rattle.mq_parse_query.proofs.RuleLemmas.{for_no_name, for_no_values, for_no_end, for_no_range}
 use Rattle.mq_parse_query.proofs.left.read_for.Goals as goal
 

@@ -4,7 +4,7 @@ use Rattle.mq_lexer.specs.declared.keywords.Keyword.TheVariants as word
 use Rattle.mq_ast.specs.Prelude.{Word, left_places, opener}
 use Rattle.mq_parse_query.specs.Pieces.{LeftEnd}
 use Rattle.mq_parse_expr.specs.Reading.{Anywhere}
-use Rattle.mq_parse_expr.proofs.Steps.{exit, fronted}
+use Rattle.mq_parse_expr.specs.StepLemmas.{exit, fronted}
 use Rattle.mq_parse_query.proofs.RuleLemmas.{left_no_places, ends_square}
 use Rattle.mq_parse_query.proofs.left.read_left.Goals as goal
 

@@ -1,6 +1,6 @@
 use Rattle.std.proofs.Common.{arith}
 use Rattle.std.proofs.lemmas.Result.{err_from_is_err_and}
-use Rattle.mq_parse_expr.proofs.Steps.{exit}
+use Rattle.mq_parse_expr.specs.StepLemmas.{exit}
 use Rattle.mq_parse_query.proofs.RuleLemmas.{left_no_names, left_no_in, left_no_list, left_no_close, tuples_left, any_closed}
 use Rattle.mq_parse_query.proofs.left.read_left_tuples.Goals as goal
 

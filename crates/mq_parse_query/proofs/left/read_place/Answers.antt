@@ -3,7 +3,7 @@ use Rattle.std.proofs.lemmas.Result.{err_from_is_err_and}
 use Rattle.mq_ast.specs.declared.levels.TheConstants as level
 use Rattle.mq_lexer.specs.declared.keywords.Keyword.TheVariants as word
 use Rattle.mq_ast.specs.Prelude.{LitE, Stops, Word, lit_any, lit_expr}
-use Rattle.mq_parse_expr.proofs.Steps.{exit, here, there, fronted}
+use Rattle.mq_parse_expr.specs.StepLemmas.{exit, here, there, fronted}
 use Rattle.mq_parse_query.proofs.RuleLemmas.{place_no_any, place_no_expr}
 use Rattle.mq_parse_query.proofs.left.read_place.Goals as goal
 

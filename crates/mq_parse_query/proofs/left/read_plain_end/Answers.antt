@@ -1,7 +1,7 @@
 use Rattle.std.proofs.Common.{arith}
 use Rattle.std.proofs.lemmas.Result.{err_from_is_err_and}
 use Rattle.mq_ast.specs.Prelude.{PlainE}
-use Rattle.mq_parse_expr.proofs.Steps.{exit, till}
+use Rattle.mq_parse_expr.specs.StepLemmas.{exit, till}
 use Rattle.mq_parse_query.proofs.RuleLemmas.{plain_no_plain, plain_no_close}
 use Rattle.mq_parse_query.proofs.left.read_plain_end.Goals as goal
 

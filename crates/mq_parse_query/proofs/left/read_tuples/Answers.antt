@@ -3,7 +3,7 @@ use Rattle.std.proofs.lemmas.Result.{err_from_is_err_and}
 use Rattle.mq_ast.specs.Prelude.{ForListE, Tuple, for_rows, for_values}
 use Rattle.mq_ast.specs.Laws.{tuples_no_plain}
 use Rattle.mq_parse_expr.specs.Reading.{Anywhere}
-use Rattle.mq_parse_expr.proofs.Steps.{exit, here, there}
+use Rattle.mq_parse_expr.specs.StepLemmas.{exit, here, there}
 use Rattle.mq_parse_query.proofs.RuleLemmas.{any_closed, for_no_open, for_no_rows, for_no_list}
 use Rattle.mq_parse_query.proofs.left.read_tuples.Goals as goal
 

@@ -1,7 +1,7 @@
 use Rattle.std.proofs.Common.{arith}
 use Rattle.std.proofs.lemmas.Result.{err_from_is_err_and}
 use Rattle.mq_ast.specs.Prelude.{SomeOf, some_of}
-use Rattle.mq_parse_expr.proofs.Steps.{exit, as_value}
+use Rattle.mq_parse_expr.specs.StepLemmas.{exit, as_value}
 use Rattle.mq_parse_query.proofs.ListLemmas.{list_no_first, list_no_others}
 use Rattle.mq_parse_query.proofs.lists.read_list.Goals as goal
 

@@ -1,7 +1,7 @@
 use Rattle.std.proofs.Common.{arith}
 use Rattle.std.proofs.lemmas.Result.{err_from_is_err_and}
 use Rattle.mq_ast.specs.Prelude.{body}
-use Rattle.mq_parse_expr.proofs.Steps.{exit}
+use Rattle.mq_parse_expr.specs.StepLemmas.{exit}
 use Rattle.mq_parse_query.proofs.QueryLemmas.{body_no_main, body_no_parts, body_no_axes}
 use Rattle.mq_parse_query.proofs.model.read_body.Goals as goal
 

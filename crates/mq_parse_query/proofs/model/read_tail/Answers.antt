@@ -1,7 +1,7 @@
 use Rattle.std.proofs.Common.{arith}
 use Rattle.std.proofs.lemmas.Result.{err_from_is_err_and}
 use Rattle.mq_ast.specs.Prelude.{tail}
-use Rattle.mq_parse_expr.proofs.Steps.{exit}
+use Rattle.mq_parse_expr.specs.StepLemmas.{exit}
 use Rattle.mq_parse_query.proofs.QueryLemmas.{tail_no_opts, tail_no_head, tail_no_rules}
 use Rattle.mq_parse_query.proofs.model.read_tail.Goals as goal
 

@@ -1,7 +1,7 @@
 use Rattle.std.proofs.Common.{arith}
 use Rattle.std.proofs.lemmas.Result.{err_from_is_err_and}
 use Rattle.mq_ast.specs.Prelude.{DirectionE, EndsKey, direction_asc, direction_desc, direction_none}
-use Rattle.mq_parse_expr.proofs.Steps.{exit, here, there}
+use Rattle.mq_parse_expr.specs.StepLemmas.{exit, here, there}
 use Rattle.mq_parse_query.proofs.OrderLemmas.{direction_no_asc}
 use Rattle.mq_parse_query.proofs.order.read_direction.Goals as goal
 

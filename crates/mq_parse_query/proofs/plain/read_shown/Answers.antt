@@ -2,7 +2,7 @@ use Rattle.std.proofs.Common.{◌∷◌, ap, ◌∙◌, arith}
 use Rattle.std.proofs.lemmas.Result.{err_from_is_err_and}
 use Rattle.mq_ast.specs.Prelude.{SelE, ShownE, SomeOf, shown_list, shown_star, star}
 use Rattle.mq_parse_expr.specs.Reading.{Anywhere}
-use Rattle.mq_parse_expr.proofs.Steps.{exit, here, there, till, as_value}
+use Rattle.mq_parse_expr.specs.StepLemmas.{exit, here, there, till, as_value}
 use Rattle.mq_parse_query.proofs.SourceLemmas.{shown_no_star, shown_no_from}
 use Rattle.mq_parse_query.proofs.plain.read_shown.Goals as goal
 

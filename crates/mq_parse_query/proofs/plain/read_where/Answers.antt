@@ -3,7 +3,7 @@ use Rattle.std.proofs.lemmas.Result.{err_from_is_err_and}
 use Rattle.mq_ast.specs.declared.levels.TheConstants as level
 use Rattle.mq_ast.specs.Prelude.{Stops, WhereE, where_none, where_some}
 use Rattle.mq_parse_expr.specs.Reading.{from}
-use Rattle.mq_parse_expr.proofs.Steps.{exit, here, there}
+use Rattle.mq_parse_expr.specs.StepLemmas.{exit, here, there}
 use Rattle.mq_parse_query.proofs.SourceLemmas.{where_no_where, where_no_expr, where_no_end}
 use Rattle.mq_parse_query.proofs.plain.read_where.Goals as goal
 

@@ -1,7 +1,7 @@
 use Rattle.std.proofs.Common.{arith}
 use Rattle.std.proofs.lemmas.Result.{err_from_is_err_and}
 use Rattle.mq_ast.specs.Prelude.{ending, model_none, model_some}
-use Rattle.mq_parse_expr.proofs.Steps.{exit}
+use Rattle.mq_parse_expr.specs.StepLemmas.{exit}
 use Rattle.mq_parse_query.proofs.QueryLemmas.{end_no_model, end_no_last, end_no_order}
 use Rattle.mq_parse_query.proofs.query.read_end.Goals as goal
 

@@ -1,6 +1,6 @@
 use Rattle.std.proofs.lemmas.Result.{err_from_is_err_and}
 use Rattle.mq_parse_expr.specs.Reading.{from}
-use Rattle.mq_parse_expr.proofs.Steps.{exit}
+use Rattle.mq_parse_expr.specs.StepLemmas.{exit}
 use Rattle.mq_parse_query.proofs.QueryLemmas.{last_no_order, last_no_end}
 use Rattle.mq_parse_query.proofs.query.read_last.Goals as goal
 

@@ -1,7 +1,7 @@
 use Rattle.std.proofs.Common.{arith}
 use Rattle.std.proofs.lemmas.Result.{err_from_is_err_and}
 use Rattle.mq_ast.specs.Prelude.{QueryE, query}
-use Rattle.mq_parse_expr.proofs.Steps.{exit, as_value}
+use Rattle.mq_parse_expr.specs.StepLemmas.{exit, as_value}
 use Rattle.mq_parse_query.proofs.QueryLemmas.{query_no_plain, query_no_end}
 use Rattle.mq_parse_query.proofs.query.read_query.Goals as goal
 

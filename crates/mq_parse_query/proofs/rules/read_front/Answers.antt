@@ -1,8 +1,8 @@
 use Rattle.std.proofs.Common.{◌∷◌, ap, ◌∙◌, arith}
 use Rattle.std.proofs.lemmas.Result.{err_from_is_err_and}
 use Rattle.mq_ast.specs.Prelude.{MaybeMode, Name, rule_front}
-use Rattle.mq_parse_expr.proofs.Steps.{exit, till}
-use Rattle.mq_parse_expr.proofs.NameLemmas.{named}
+use Rattle.mq_parse_expr.specs.StepLemmas.{exit, till}
+use Rattle.mq_parse_expr.specs.NameLemmas.{named}
 use Rattle.mq_parse_query.proofs.RuleLemmas.{front_no_mode, front_no_name, front_no_open}
 use Rattle.mq_parse_query.proofs.rules.read_front.Goals as goal
 

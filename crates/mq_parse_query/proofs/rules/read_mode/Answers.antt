@@ -3,7 +3,7 @@ use Rattle.std.proofs.lemmas.Result.{err_from_is_err_and}
 use Rattle.mq_ast.specs.declared.clauses.TheConstants as clause
 use Rattle.mq_lexer.specs.declared.keywords.Keyword.TheVariants as word
 use Rattle.mq_ast.specs.Prelude.{MaybeMode, Past, Word, mode_none, mode_some, mode_update}
-use Rattle.mq_parse_expr.proofs.Steps.{exit, here, there, fronted}
+use Rattle.mq_parse_expr.specs.StepLemmas.{exit, here, there, fronted}
 use Rattle.mq_parse_query.proofs.RuleLemmas.{mode_no_update, mode_no_word}
 use Rattle.mq_parse_query.proofs.rules.read_mode.Goals as goal
 

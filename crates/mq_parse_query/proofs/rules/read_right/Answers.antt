@@ -1,7 +1,7 @@
 use Rattle.std.proofs.Common.{arith}
 use Rattle.std.proofs.lemmas.Result.{err_from_is_err_and}
 use Rattle.mq_ast.specs.Prelude.{OrderE, rule_right}
-use Rattle.mq_parse_expr.proofs.Steps.{exit, till}
+use Rattle.mq_parse_expr.specs.StepLemmas.{exit, till}
 use Rattle.mq_parse_query.proofs.RuleLemmas.{right_no_order, right_no_equal, right_no_expr}
 use Rattle.mq_parse_query.proofs.rules.read_right.Goals as goal
 

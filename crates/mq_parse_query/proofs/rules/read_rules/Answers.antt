@@ -3,7 +3,7 @@ use Rattle.std.proofs.lemmas.Result.{err_from_is_err_and}
 use Rattle.mq_ast.specs.Prelude.{RuleE, RuleList, closer, opener, rules_none, rules_some}
 use Rattle.mq_parse_query.specs.Pieces.{Closed}
 use Rattle.mq_parse_expr.specs.Reading.{Anywhere}
-use Rattle.mq_parse_expr.proofs.Steps.{exit, here, there, as_value, gives_as}
+use Rattle.mq_parse_expr.specs.StepLemmas.{exit, here, there, as_value, gives_as}
 use Rattle.mq_parse_query.proofs.RuleLemmas.{rules_no_open, rules_no_list, ends_closed}
 use Rattle.mq_parse_query.proofs.rules.read_rules.Goals as goal
 

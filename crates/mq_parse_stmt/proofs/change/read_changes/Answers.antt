@@ -1,6 +1,6 @@
 use Rattle.std.proofs.Common.{arith}
 use Rattle.std.proofs.lemmas.Result.{err_from_is_err_and}
-use Rattle.mq_parse_expr.proofs.Steps.{exit}
+use Rattle.mq_parse_expr.specs.StepLemmas.{exit}
 use Rattle.mq_parse_stmt.specs.Pieces.{changes}
 use Rattle.mq_parse_stmt.proofs.PieceLemmas.{changes_no_sets, changes_no_where}
 use Rattle.mq_parse_stmt.proofs.change.read_changes.Goals as goal

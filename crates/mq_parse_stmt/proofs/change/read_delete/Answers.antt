@@ -2,7 +2,7 @@ use Rattle.std.proofs.Common.{◌∷◌, refl, ap}
 use Rattle.std.proofs.lemmas.Result.{err_from_is_err_and}
 use Rattle.mq_lexer.specs.declared.keywords.Keyword.TheVariants as word
 use Rattle.mq_ast.specs.Prelude.{WhereE, Word, stmt_delete}
-use Rattle.mq_parse_expr.proofs.Steps.{exit, till}
+use Rattle.mq_parse_expr.specs.StepLemmas.{exit, till}
 use Rattle.mq_parse_stmt.proofs.PieceLemmas.{word_named}
 use Rattle.mq_parse_stmt.proofs.StmtLemmas.{none_at, stmt_at, delete_no_name, delete_no_where, delete_no_end}
 use Rattle.mq_parse_stmt.proofs.change.read_delete.Goals as goal

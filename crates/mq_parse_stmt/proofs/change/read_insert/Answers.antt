@@ -2,7 +2,7 @@ use Rattle.std.proofs.Common.{◌∷◌, refl, ap}
 use Rattle.std.proofs.lemmas.Result.{err_from_is_err_and}
 use Rattle.mq_lexer.specs.declared.keywords.Keyword.TheVariants as word
 use Rattle.mq_ast.specs.Prelude.{SomeOf, Tuple, Word, stmt_insert}
-use Rattle.mq_parse_expr.proofs.Steps.{exit, till}
+use Rattle.mq_parse_expr.specs.StepLemmas.{exit, till}
 use Rattle.mq_parse_stmt.proofs.PieceLemmas.{word_named}
 use Rattle.mq_parse_stmt.proofs.StmtLemmas.{none_at, stmt_at, insert_no_name, insert_no_values, insert_no_rows, insert_no_end}
 use Rattle.mq_parse_stmt.proofs.change.read_insert.Goals as goal

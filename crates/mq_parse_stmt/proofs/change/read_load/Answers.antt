@@ -2,7 +2,7 @@ use Rattle.std.proofs.Common.{◌∷◌, refl, ap, ◌∙◌}
 use Rattle.std.proofs.lemmas.Result.{err_from_is_err_and}
 use Rattle.mq_lexer.specs.declared.keywords.Keyword.TheVariants as word
 use Rattle.mq_ast.specs.Prelude.{Name, Text, Word, stmt_load}
-use Rattle.mq_parse_expr.proofs.Steps.{exit}
+use Rattle.mq_parse_expr.specs.StepLemmas.{exit}
 use Rattle.mq_parse_stmt.proofs.PieceLemmas.{word_named, texted}
 use Rattle.mq_parse_stmt.proofs.StmtLemmas.{none_at, stmt_at, load_no_name, load_no_from, load_no_text, load_no_end}
 use Rattle.mq_parse_stmt.proofs.change.read_load.Goals as goal

@@ -1,7 +1,7 @@
 use Rattle.std.proofs.Common.{arith}
 use Rattle.std.proofs.lemmas.Result.{err_from_is_err_and}
 use Rattle.mq_ast.specs.Prelude.{NamesE, names_none, names_some}
-use Rattle.mq_parse_expr.proofs.Steps.{exit, there, till}
+use Rattle.mq_parse_expr.specs.StepLemmas.{exit, there, till}
 use Rattle.mq_parse_stmt.specs.Pieces.{NamesValues}
 use Rattle.mq_parse_stmt.proofs.PieceLemmas.{values_no_names, values_no_values}
 use Rattle.mq_parse_stmt.proofs.change.read_names_values.Goals as goal

@@ -2,8 +2,8 @@ use Rattle.std.proofs.Common.{◌∷◌, ap, ◌∙◌, arith}
 use Rattle.std.proofs.lemmas.Result.{err_from_is_err_and}
 use Rattle.mq_ast.specs.declared.levels.TheConstants as level
 use Rattle.mq_ast.specs.Prelude.{Name, SetE, Stops, set}
-use Rattle.mq_parse_expr.proofs.Steps.{exit, here, there}
-use Rattle.mq_parse_expr.proofs.NameLemmas.{named}
+use Rattle.mq_parse_expr.specs.StepLemmas.{exit, here, there}
+use Rattle.mq_parse_expr.specs.NameLemmas.{named}
 use Rattle.mq_parse_stmt.proofs.PieceLemmas.{set_no_name, set_no_equal, set_no_value}
 use Rattle.mq_parse_stmt.proofs.change.read_set.Goals as goal
 

@@ -2,8 +2,8 @@ use Rattle.std.proofs.Common.{◌∷◌, ap, ◌∙◌}
 use Rattle.std.proofs.lemmas.Result.{err_from_is_err_and}
 use Rattle.mq_lexer.specs.declared.keywords.Keyword.TheVariants as word
 use Rattle.mq_ast.specs.Prelude.{Name, Word}
-use Rattle.mq_parse_expr.proofs.Steps.{exit, till}
-use Rattle.mq_parse_expr.proofs.NameLemmas.{named}
+use Rattle.mq_parse_expr.specs.StepLemmas.{exit, till}
+use Rattle.mq_parse_expr.specs.NameLemmas.{named}
 use Rattle.mq_parse_stmt.specs.Pieces.{Changes}
 use Rattle.mq_parse_stmt.proofs.StmtLemmas.{none_at, stmt_at, update_no_name, update_no_set, update_no_changes, update_no_end, update_read}
 use Rattle.mq_parse_stmt.proofs.change.read_update.Goals as goal

@@ -1,7 +1,7 @@
 use Rattle.std.proofs.Common.{arith}
 use Rattle.std.proofs.lemmas.Result.{err_from_is_err_and}
 use Rattle.mq_parse_expr.specs.Reading.{Anywhere}
-use Rattle.mq_parse_expr.proofs.Steps.{exit, here, there}
+use Rattle.mq_parse_expr.specs.StepLemmas.{exit, here, there}
 use Rattle.mq_parse_stmt.specs.Pieces.{Body, body}
 use Rattle.mq_parse_stmt.proofs.PieceLemmas.{body_no_open, body_no_cols, body_no_key}
 use Rattle.mq_parse_stmt.proofs.create.read_body.Goals as goal

@@ -1,7 +1,7 @@
 use Rattle.std.proofs.Common.{arith}
 use Rattle.std.proofs.lemmas.Result.{err_from_is_err_and}
 use Rattle.mq_ast.specs.Prelude.{ColE, SomeOf, some_of}
-use Rattle.mq_parse_expr.proofs.Steps.{exit, as_value}
+use Rattle.mq_parse_expr.specs.StepLemmas.{exit, as_value}
 use Rattle.mq_parse_stmt.proofs.PieceLemmas.{cols_no_first, cols_no_others}
 use Rattle.mq_parse_stmt.proofs.create.read_cols.Goals as goal
 

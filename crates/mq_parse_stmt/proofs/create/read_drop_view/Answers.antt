@@ -2,7 +2,7 @@ use Rattle.std.proofs.Common.{◌∷◌, refl, ap, ◌∙◌}
 use Rattle.std.proofs.lemmas.Result.{err_from_is_err_and}
 use Rattle.mq_lexer.specs.declared.keywords.Keyword.TheVariants as word
 use Rattle.mq_ast.specs.Prelude.{Name, Word, stmt_drop_view}
-use Rattle.mq_parse_expr.proofs.Steps.{exit}
+use Rattle.mq_parse_expr.specs.StepLemmas.{exit}
 use Rattle.mq_parse_stmt.proofs.PieceLemmas.{word_named}
 use Rattle.mq_parse_stmt.proofs.StmtLemmas.{none_at, stmt_at, drop_view_no_name, drop_view_no_end}
 use Rattle.mq_parse_stmt.proofs.create.read_drop_view.Goals as goal

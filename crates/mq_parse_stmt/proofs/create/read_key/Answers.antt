@@ -3,7 +3,7 @@ use Rattle.std.proofs.lemmas.Result.{err_from_is_err_and}
 use Rattle.mq_lexer.specs.declared.keywords.Keyword.TheVariants as word
 use Rattle.mq_ast.specs.Prelude.{NamesE, Word, primary_some}
 use Rattle.mq_parse_expr.specs.Reading.{Anywhere}
-use Rattle.mq_parse_expr.proofs.Steps.{exit, here, there, till}
+use Rattle.mq_parse_expr.specs.StepLemmas.{exit, here, there, till}
 use Rattle.mq_parse_stmt.specs.Pieces.{KeyBehind}
 use Rattle.mq_parse_stmt.proofs.PieceLemmas.{key_no_primary, key_no_key, key_no_names, key_no_end}
 use Rattle.mq_parse_stmt.proofs.create.read_key.Goals as goal

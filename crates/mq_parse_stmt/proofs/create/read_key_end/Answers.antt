@@ -2,7 +2,7 @@ use Rattle.std.proofs.Common.{◌∷◌, arith}
 use Rattle.std.proofs.lemmas.Result.{err_from_is_err_and}
 use Rattle.mq_ast.specs.Prelude.{comma, primary_none}
 use Rattle.mq_parse_expr.specs.Reading.{Anywhere}
-use Rattle.mq_parse_expr.proofs.Steps.{exit, there, as_value, fronted}
+use Rattle.mq_parse_expr.specs.StepLemmas.{exit, there, as_value, fronted}
 use Rattle.mq_parse_stmt.specs.Pieces.{KeyEnd}
 use Rattle.mq_parse_stmt.proofs.PieceLemmas.{key_no_close}
 use Rattle.mq_parse_stmt.proofs.create.read_key_end.Goals as goal

@@ -1,7 +1,7 @@
 use Rattle.std.proofs.lemmas.Result.{err_from_is_err_and}
 use Rattle.mq_ast.specs.declared.levels.TheConstants as level
 use Rattle.mq_ast.specs.Prelude.{ColE, EndsCols, MoreOf, Stops, comma, more_comma, more_end}
-use Rattle.mq_parse_expr.proofs.Steps.{exit, one_more, cut_short, all_found}
+use Rattle.mq_parse_expr.specs.StepLemmas.{exit, one_more, cut_short, all_found}
 use Rattle.mq_parse_stmt.proofs.PieceLemmas.{cols_no_next, cols_no_more}
 use Rattle.mq_parse_stmt.proofs.create.read_more_cols.Goals as goal
 

@@ -3,7 +3,7 @@ use Rattle.std.proofs.lemmas.Result.{err_from_is_err_and}
 use Rattle.mq_ast.specs.declared.levels.TheConstants as level
 use Rattle.mq_lexer.specs.declared.keywords.Keyword.TheVariants as word
 use Rattle.mq_ast.specs.Prelude.{NotNullE, Stops, Word, null_may, null_not}
-use Rattle.mq_parse_expr.proofs.Steps.{exit, here, there}
+use Rattle.mq_parse_expr.specs.StepLemmas.{exit, here, there}
 use Rattle.mq_parse_stmt.proofs.PieceLemmas.{null_no_null, null_no_end, null_no_plain}
 use Rattle.mq_parse_stmt.proofs.create.read_not_null.Goals as goal
 

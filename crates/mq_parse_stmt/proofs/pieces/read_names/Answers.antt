@@ -2,7 +2,7 @@ use Rattle.std.proofs.Common.{arith}
 use Rattle.std.proofs.lemmas.Result.{err_from_is_err_and}
 use Rattle.mq_ast.specs.Prelude.{NameE, NamesE, SomeOf, names}
 use Rattle.mq_parse_expr.specs.Reading.{Anywhere}
-use Rattle.mq_parse_expr.proofs.Steps.{exit, here, there, till}
+use Rattle.mq_parse_expr.specs.StepLemmas.{exit, here, there, till}
 use Rattle.mq_parse_stmt.proofs.PieceLemmas.{names_no_open, names_no_list, names_no_close}
 use Rattle.mq_parse_stmt.proofs.pieces.read_names.Goals as goal
 

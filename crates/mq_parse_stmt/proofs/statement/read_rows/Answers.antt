@@ -2,7 +2,7 @@ use Rattle.std.proofs.Common.{refl, sym}
 use Rattle.std.proofs.lemmas.Result.{err_from_is_err_and}
 use Rattle.mq_ast.specs.declared.levels.TheConstants as level
 use Rattle.mq_ast.specs.Prelude.{QueryE, Stops, stmt_query}
-use Rattle.mq_parse_expr.proofs.Steps.{exit, here, there, till}
+use Rattle.mq_parse_expr.specs.StepLemmas.{exit, here, there, till}
 use Rattle.mq_parse_stmt.proofs.StmtLemmas.{none_at, stmt_at, query_no_query, query_no_end}
 use Rattle.mq_parse_stmt.proofs.statement.read_rows.Goals as goal
 

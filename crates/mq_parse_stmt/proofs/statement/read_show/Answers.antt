@@ -2,8 +2,8 @@ use Rattle.std.proofs.Common.{◌∷◌, refl, ap, ◌∙◌}
 use Rattle.std.proofs.lemmas.Result.{err_from_is_err_and}
 use Rattle.mq_lexer.specs.declared.keywords.Keyword.TheVariants as word
 use Rattle.mq_ast.specs.Prelude.{Name, Word, stmt_show}
-use Rattle.mq_parse_expr.proofs.Steps.{exit}
-use Rattle.mq_parse_expr.proofs.NameLemmas.{named}
+use Rattle.mq_parse_expr.specs.StepLemmas.{exit}
+use Rattle.mq_parse_expr.specs.NameLemmas.{named}
 use Rattle.mq_parse_stmt.proofs.StmtLemmas.{none_at, stmt_at, show_no_name, show_no_end}
 use Rattle.mq_parse_stmt.proofs.statement.read_show.Goals as goal
 

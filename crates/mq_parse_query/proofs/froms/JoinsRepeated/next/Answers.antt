@@ -1,7 +1,7 @@
 use Rattle.std.proofs.Common.{arith}
 use Rattle.std.proofs.lemmas.Result.{err_from_is_err_and}
 use Rattle.mq_ast.specs.Prelude.{join_bare, join_on}
-use Rattle.mq_parse_expr.proofs.Steps.{exit}
+use Rattle.mq_parse_expr.specs.StepLemmas.{exit}
 use Rattle.mq_parse_query.proofs.PlainLemmas.{joins_no_bare, joins_no_on, joins_no_front}
 use Rattle.mq_parse_query.proofs.froms.JoinsRepeated.next.Goals as goal
 

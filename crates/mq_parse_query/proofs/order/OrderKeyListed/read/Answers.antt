@@ -1,7 +1,7 @@
 use Rattle.std.proofs.Common.{arith}
 use Rattle.std.proofs.lemmas.Result.{err_from_is_err_and}
 use Rattle.mq_ast.specs.Prelude.{KeyE}
-use Rattle.mq_parse_expr.proofs.Steps.{exit, as_value}
+use Rattle.mq_parse_expr.specs.StepLemmas.{exit, as_value}
 use Rattle.mq_parse_query.proofs.OrderLemmas.{key_no_name, key_no_direction, key_whole}
 use Rattle.mq_parse_query.proofs.order.OrderKeyListed.read.Goals as goal
 
