@@ -123,7 +123,7 @@ fn long_path(first: Words, last: Words) -> Path
     }
 }
 
-/// The scale that a number without a point gives: 255 where it is larger (docs/LANGUAGE.md, "Kinds").
+/// The scale that a number without a point gives: 255 where it is larger (docs/LANGUAGE.md, "Values").
 pub fn scale_of(number: Num) -> u8
     ensures { result ≡ spec_scale number }
 {
@@ -137,7 +137,7 @@ pub fn scale_of(number: Num) -> u8
     }
 }
 
-/// INT, DECIMAL with its scale, or TEXT (docs/LANGUAGE.md, "Kinds").
+/// INT, DECIMAL with its scale, or TEXT (docs/LANGUAGE.md, "Values").
 pub fn read_kind(t: &[Token<'_>], at: usize) -> Result<(Kind, usize), Fail<Refused>>
     ensures { Gives KindE Anywhere t.now at result }
 {
