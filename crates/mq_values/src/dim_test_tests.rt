@@ -20,36 +20,37 @@ fn text(alloc: Global, letters: &str) -> Result<Value, Memory> {
     }
 }
 
-/// What a test and its copy say of 1, 1.0, 5, 'A' and null.
-fn told(
-    alloc: Global,
-    test: DimTest,
-) -> Result<([Option<bool>; 5], [Option<bool>; 5], bool), Memory> {
-    let copy = test.copy(alloc)?;
-    let (one, tenths, five) = (int(1), one_decimal(10), int(5));
+/// What a test says of 1, 1.0, 5, 'A' and null.
+fn told(alloc: Global, test: &DimTest) -> Result<[Option<bool>; 5], Memory> {
     let letter = text(alloc, "A")?;
-    let by_test = [
-        test.told(&one),
-        test.told(&tenths),
-        test.told(&five),
+    Ok([
+        test.told(&int(1)),
+        test.told(&one_decimal(10)),
+        test.told(&int(5)),
         test.told(&letter),
         test.told(&Value::Null),
-    ];
-    let by_copy = [
-        copy.told(&one),
-        copy.told(&tenths),
-        copy.told(&five),
-        copy.told(&letter),
-        copy.told(&Value::Null),
-    ];
-    Ok((by_test, by_copy, copy == test))
+    ])
 }
 
-fn two(alloc: Global, a: DimTest, b: DimTest) -> Result<Items<DimTest>, Memory> {
+/// Whether a test and its copy say this of them.
+fn tells(alloc: Global, test: &DimTest, want: [Option<bool>; 5]) -> Result<bool, Memory> {
+    let copy = test.copy(alloc)?;
+    Ok(told(alloc, test)? == want && told(alloc, &copy)? == want)
+}
+
+/// The test that asks for both of these, or for one of them.
+fn both(alloc: Global, a: DimTest, b: DimTest) -> Result<DimTest, Memory> {
     let mut tests = Items::new(alloc);
     tests.push(a)?;
     tests.push(b)?;
-    Ok(tests)
+    Ok(DimTest::And(tests))
+}
+
+fn either(alloc: Global, a: DimTest, b: DimTest) -> Result<DimTest, Memory> {
+    let mut tests = Items::new(alloc);
+    tests.push(a)?;
+    tests.push(b)?;
+    Ok(DimTest::Or(tests))
 }
 
 const YES: Option<bool> = Some(true);
@@ -57,38 +58,71 @@ const YES: Option<bool> = Some(true);
 const NO: Option<bool> = Some(false);
 
 #[test]
-fn each_form_of_a_test_tells(rt: HostRuntime) -> Result<(), Fail> {
+fn any_and_null(rt: HostRuntime) -> Result<(), Fail> {
+    let alloc = rt.alloc();
+    assert!(rt; tells(alloc, &DimTest::Any, [YES, YES, YES, YES, YES])?);
+    assert!(rt; tells(alloc, &DimTest::Null, [NO, NO, NO, NO, YES])?);
+    Ok(())
+}
+
+#[test]
+fn named_values_are_met_by_identity(rt: HostRuntime) -> Result<(), Fail> {
+    let alloc = rt.alloc();
+    assert!(rt; tells(alloc, &DimTest::At(int(1)), [YES, NO, NO, NO, NO])?);
+    assert!(rt; tells(alloc, &DimTest::At(Value::Null), [NO, NO, NO, NO, YES])?);
+    Ok(())
+}
+
+#[test]
+fn comparisons_go_by_worth(rt: HostRuntime) -> Result<(), Fail> {
+    let alloc = rt.alloc();
+    assert!(rt;
+        tells(
+            alloc,
+            &DimTest::Cmp(CmpOp::Eq, int(1)),
+            [YES, YES, NO, None, None]
+        )?
+    );
+    assert!(rt;
+        tells(
+            alloc,
+            &DimTest::Between(int(1), int(4)),
+            [YES, YES, NO, None, None]
+        )?
+    );
+    Ok(())
+}
+
+#[test]
+fn a_null_in_a_list_is_unknown(rt: HostRuntime) -> Result<(), Fail> {
     let alloc = rt.alloc();
     let mut members = Items::new(alloc);
     members.push(int(1))?;
     members.push(Value::Null)?;
-    let both = two(
+    assert!(rt; tells(alloc, &DimTest::In(members), [YES, YES, None, None, None])?);
+    Ok(())
+}
+
+#[test]
+fn tests_join(rt: HostRuntime) -> Result<(), Fail> {
+    let alloc = rt.alloc();
+    let range = both(
         alloc,
         DimTest::Cmp(CmpOp::Ge, int(1)),
         DimTest::Cmp(CmpOp::Lt, int(5)),
     )?;
-    let one = two(alloc, DimTest::Null, DimTest::Cmp(CmpOp::Ne, int(1)))?;
-    let cases = [
-        (DimTest::Any, [YES, YES, YES, YES, YES]),
-        (DimTest::At(int(1)), [YES, NO, NO, NO, NO]),
-        (DimTest::At(Value::Null), [NO, NO, NO, NO, YES]),
-        (DimTest::Cmp(CmpOp::Eq, int(1)), [YES, YES, NO, None, None]),
-        (DimTest::Between(int(1), int(4)), [YES, YES, NO, None, None]),
-        (DimTest::In(members), [YES, YES, None, None, None]),
-        (DimTest::Null, [NO, NO, NO, NO, YES]),
-        (DimTest::And(both), [YES, YES, NO, None, None]),
-        (DimTest::Or(one), [NO, NO, YES, None, YES]),
-        (
-            DimTest::Not(Boxed::new(alloc, DimTest::Cmp(CmpOp::Gt, int(4)))?),
-            [YES, YES, NO, None, None],
-        ),
-    ];
-    for (test, want) in cases {
-        let (by_test, by_copy, same) = told(alloc, test)?;
-        assert_eq!(rt; by_test, want);
-        assert_eq!(rt; by_copy, want);
-        assert!(rt; same);
-    }
+    assert!(rt; tells(alloc, &range, [YES, YES, NO, None, None])?);
+    let other = either(alloc, DimTest::Null, DimTest::Cmp(CmpOp::Ne, int(1)))?;
+    assert!(rt; tells(alloc, &other, [NO, NO, YES, None, YES])?);
+    Ok(())
+}
+
+#[test]
+fn a_test_is_turned(rt: HostRuntime) -> Result<(), Fail> {
+    let alloc = rt.alloc();
+    let above = DimTest::Cmp(CmpOp::Gt, int(4));
+    let turned = DimTest::Not(Boxed::new(alloc, above)?);
+    assert!(rt; tells(alloc, &turned, [YES, YES, NO, None, None])?);
     Ok(())
 }
 
