@@ -54,9 +54,8 @@ fn read_direction(t: &[Token<'_>], at: usize) -> Result<(bool, usize), Fail<Refu
 }
 
 impl Listed for OrderKey {
-    ghost use Rattle.mq_ast.specs.GrammarQuery.{KeyE};
+    ghost use Rattle.mq_ast.specs.Prelude.{EndsKey, KeyE};
     ghost use Rattle.mq_ast.specs.Laws.{key_same};
-    ghost use Rattle.mq_parse_query.specs.PlainPieces.{EndsKey};
     ghost use Rattle.std.proofs.Common.{arith, rules};
 
     type Tree = OrderKey;
