@@ -102,10 +102,11 @@ slot_cell model shape slots key =
 abbrev pub slot_cells : Model → PartShape → Slots → Result (List OutCell) Placed
 slot_cells model shape slots = option_map_or Err (first_fault shape slots) (Ok (map (slot_cell model shape slots) shape.cells))
 
--- what a model in automatic order makes of a partition: its shape, and its cells or the first fault
+-- the shape of a partition of which every assignment is levelled, or the first fault
 abbrev pub shape_found : Model → PartInput → Result PartShape Placed
 shape_found model p = option_map_or Err (input_fault p) (levelled_shape model (keys_of p.cells))
 
+-- what a model in automatic order makes of a partition: its shape, and its cells or the first fault
 abbrev pub automatic : Model → PartInput → PartShape × PartResult
 automatic model p =
     let found = shape_found model p in (

@@ -25,7 +25,7 @@ until_holds model input turn before cells e =
     let site : Site = record { model = model; target = []; turn = turn; set = keys_of cells } in
     marked (value_fault 0 []) (holds (read_until site input (measure_at cells) (measure_at before)) e) >>= (λ truth. Ok (is_true truth))
 
--- whether this turn was the last
+-- whether UNTIL ends the turns after this one
 abbrev pub is_last : Model → List Tuple → ℕ → Cells → Cells → Result Bool Placed
 is_last model input turn before cells =
     option_map_or (until_holds model input turn before cells) (option_and_then (λ iterate. iterate.until) model.part.iterate) (Ok false)

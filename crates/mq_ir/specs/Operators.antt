@@ -49,7 +49,8 @@ applied (func.Round k) (value.Num n) = number_at n k
 applied (func.Round k) _ = Ok value.Null
 applied func.Nvl v = Ok v
 
--- NVL evaluates its second argument only where the first is null. A call with another number of arguments, which no statement has, is null.
+-- NVL evaluates its second argument only where the first is null. A function with another number of arguments, which no statement has, has no
+-- meaning: of one argument it is applied to that one, and else it is null.
 abbrev pub called : Func → List Found → Outcome
 called func.Nvl (a ∷ b ∷ []) = as_value a >>= (λ v. if is_null v then as_value b else Ok v)
 called f (a ∷ []) = as_value a >>= applied f

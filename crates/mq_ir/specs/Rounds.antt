@@ -3,7 +3,7 @@
 use Rattle.std.specs.Prelude.{ℕ, zero, suc, Bool, true, false, ◌||◌, List, Option, Some, None, is_none}
 use Rattle.std.specs.List.{list_all, list_any}
 
--- a test of each look of a node, and of some look; a node with no looks to speak of is not assigned
+-- a test of each look of a node, and of some look; None is a node that is not assigned, and such a one passes
 abbrev pub every_look : {N : Type 0} → (N → Bool) → Option (List N) → Bool
 every_look test None = true
 every_look test (Some looks) = list_all test looks

@@ -66,6 +66,6 @@ shape_over model keys =
     each_in_turn (shape_rule model) (enumerate_from 1 model.part.rules) (record { set = keys; assigned = [] }) >>= (λ g.
     Ok (record { base = keys; cells = g.set; assigned = ascending cmp_assignment g.assigned }))
 
--- the shape that stands where there is a fault of the shape or a cycle: nothing is assigned
+-- the shape that is handed back where the input or the shape has a fault, or there is a cycle: nothing is assigned
 abbrev pub bare_shape : List Tuple → PartShape
 bare_shape keys = record { base = each_first keys; cells = each_first keys; assigned = [] }

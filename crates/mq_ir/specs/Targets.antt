@@ -59,11 +59,12 @@ value_at (Sym test, w) = w
 abbrev pub projected : SingleLeft → Tuple → Tuple
 projected left key = map value_at (zip left.places key)
 
--- the tuple that positional places name
+-- the value that a positional place names
 abbrev pub value_of : SinglePlace → Value
 value_of (At v) = v
 value_of (Sym test) = Null
 
+-- the tuple that positional places name
 abbrev pub named : SingleLeft → Tuple
 named left = map value_of left.places
 

@@ -34,7 +34,7 @@ amount n = value.Num (record { mant = pos n; scale = 2 })
 abbrev pub number : ℕ → Expr
 number n = e.Lit (whole n)
 
--- the first measure at this place, and the amount itself less a number, and twice that
+-- the first measure of the cell at this place
 abbrev pub cell : Expr → Expr
 cell place = e.Leaf (leaf.Cell 0 (place ∷ []))
 
