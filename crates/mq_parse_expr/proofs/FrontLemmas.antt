@@ -80,6 +80,12 @@ its_front (Word k ∷ ts) = its_word (call_of k) k ts
 pub form_front : (f : Form) (ts : List Tok) → f ≡ form_of (terminal_at ts) → FormFront f ts
 form_front f ts e = let P : Form → Type 0 = λ x. FormFront x ts in subst P (sym e) (its_front ts)
 
+-- the word of a call calls, wherever it stands
+pub call_form : (k : Keyword) (ts : List Tok) → form.Call k ≡ form_of (terminal_at ts) → form_of (terminal.Word k) ≡ form.Call k
+call_form k ts e =
+    let f = form_front (form.Call k) ts e in
+    let P : Terminal → Type 0 = λ x. form_of x ≡ form.Call k in subst P (ap terminal_at f) (sym e)
+
 -- the same at a place, with the tokens behind it
 pub at_front : (k : Tok) (t : List Token) (at : ℕ) → from t at ≡ k ∷ rest_of (from t at) → from t at ≡ k ∷ from t (at + 1)
 at_front k t at e = e ∙ ap (λ r. k ∷ r) (next t at)
