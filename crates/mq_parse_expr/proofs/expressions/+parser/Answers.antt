@@ -376,10 +376,8 @@ read_closed-returns-in-Round t c =
 
 pub read_closed-read_call-requires : goal.read_closed-read_call-requires
 read_closed-read_call-requires t c =
-    record {
-      in_range = c.requires.in_range;
-      calls = call_form c.in-Call.word (from c.args.t.now c.args.at) (sym c.in-Call.is ∙ c.requires.begins);
-    }
+    let i = c.requires.in_range in
+    (omega (arith, i), (i, call_form c.in-Call.word (from c.args.t.now c.args.at) (sym c.in-Call.is ∙ c.requires.begins)))
 
 pub read_closed-returns-in-Call : goal.read_closed-returns-in-Call
 read_closed-returns-in-Call t c =
