@@ -19,7 +19,7 @@ use Rattle.mq_ast.specs.Calls.{call_of}
 use Rattle.mq_ast.specs.Continuing.{loose, Stops, Not}
 use Rattle.mq_ast.specs.GrammarLists.{NameE, name}
 use Rattle.mq_ast.specs.GrammarNames.{KindE}
-use Rattle.mq_ast.specs.GrammarExpression.{TestTail, tail_none, tail_null, tail_not_null, tail_present, tail_not_present, tail_any, PrimE, prim_call, prim_num, prim_text, prim_null, prim_cv, prim_cv_name, prim_turn}
+use Rattle.mq_ast.specs.GrammarExpression.{TestTail, tail_none, tail_null, tail_not_null, tail_present, tail_not_present, tail_any, prim_call, prim_cv, prim_cv_name}
 use Rattle.mq_ast.specs.Laws.{cut, none_some}
 use Rattle.mq_ast.specs.Laws.{kind_same}
 use Rattle.mq_parse_expr.specs.declared.forms.Form.{Form}

@@ -1,27 +1,21 @@
 -- Where a part of the grammar of expressions reads nothing, by its parts. All of it is about lists of tokens.
-use Rattle.std.proofs.Common.{◌≡◌, ◌≢◌, ℕ, ◌+◌, ◌<◌, ◌≤◌, Bool, true, false, List, [], ◌∷◌, refl, sym, ap, ◌∙◌, subst, arith}
-use Rattle.std.specs.Prelude.{Option, Some, None}
-use Rattle.mq_values.specs.Number.{Number}
+use Rattle.std.proofs.Common.{◌≢◌, ◌<◌, ◌≤◌, Bool, true, false, List, [], ◌∷◌, refl, ap, arith}
 use Rattle.mq_values.specs.declared.operators.SumOp.{SumOp}
 use Rattle.mq_values.specs.declared.operators.ProdOp.{ProdOp}
 use Rattle.mq_values.specs.declared.operators.CmpOp.{CmpOp}
 use Rattle.mq_ast.specs.declared.expressions.E.{E}
 use Rattle.mq_ast.specs.declared.expressions.E.TheVariants as tree
 use Rattle.mq_ast.specs.declared.expressions.Place.{Place}
-use Rattle.mq_ast.specs.declared.expressions.SumTerm.{SumTerm}
-use Rattle.mq_ast.specs.declared.expressions.ProdTerm.{ProdTerm}
-use Rattle.mq_ast.specs.declared.expressions.Arm.{Arm}
 use Rattle.mq_lexer.specs.declared.keywords.Keyword.TheVariants as word
 use Rattle.mq_ast.specs.declared.terminals.Symbol.TheVariants as sign
 use Rattle.mq_ast.specs.declared.terminals.Terminal.{Terminal}
 use Rattle.mq_ast.specs.declared.terminals.Terminal.TheVariants as terminal
-use Rattle.mq_ast.specs.Tokens.{Tok, Word, Sign, Name, Num, terminal_at, rest_of, opener, closer, open_square, close_square, comma, minus}
+use Rattle.mq_ast.specs.Tokens.{Tok, Word, Sign, terminal_at, opener, open_square, comma, minus}
 use Rattle.mq_ast.specs.declared.levels.TheConstants as level
 use Rattle.mq_ast.specs.Continuing.{loose, Stops, Not, Ends}
-use Rattle.mq_ast.specs.Chains.{arm, sum_term, prod_term}
-use Rattle.mq_ast.specs.GrammarExpression.{Expr, MoreOr, AndE, MoreAnd, NotE, TestE, TestTail, Tuple, Exprs, MoreExprs, SumE, MoreSum, ProdE, MoreProd, SignE, PrimE, Brackets, MorePlaces, PlaceE, expr, or_end, or_more, and, and_end, and_more, not_plain, not_not, test, tail_none, tail_cmp, tail_between, tail_not_between, tail_in, tail_not_in, tail_null, tail_not_null, tail_present, tail_not_present, tail_any, tuple, exprs, exprs_end, exprs_more, sum, sum_end, sum_more, prod, prod_end, prod_more, sign_plain, sign_minus, brackets, places_end, places_more, place_any, place_expr}
+use Rattle.mq_ast.specs.GrammarExpression.{Expr, MoreOr, AndE, MoreAnd, NotE, TestE, TestTail, Tuple, Exprs, MoreExprs, SumE, MoreSum, ProdE, MoreProd, SignE, PrimE, Brackets, MorePlaces, PlaceE, expr, or_end, or_more, and, and_end, and_more, not_plain, not_not, test, tail_none, tail_cmp, tail_between, tail_not_between, tail_in, tail_not_in, tuple, exprs, exprs_end, exprs_more, sum, sum_end, sum_more, prod, prod_end, prod_more, sign_plain, sign_minus, brackets, places_end, places_more, place_any, place_expr}
 use Rattle.mq_ast.specs.Laws.{begin, cut}
-use Rattle.mq_ast.specs.Laws.{begin_tail, or_stop, and_stop, tail_stop, sum_stop, prod_stop, exprs_stop, places_stop, prim_no_minus, test_no_not, expr_no_any, expr_same, and_same, not_same, test_same, sum_same, prod_same, sign_same, tuple_same, exprs_same, place_same, places_same}
+use Rattle.mq_ast.specs.Laws.{begin_tail, or_stop, and_stop, tail_stop, sum_stop, prod_stop, exprs_stop, places_stop, prim_no_minus, test_no_not, expr_no_any, expr_same, and_same, not_same, sum_same, prod_same, sign_same, tuple_same, exprs_same, place_same, places_same}
 use Rattle.mq_parse_expr.specs.Reading.{No, Anywhere}
 use Rattle.mq_parse_expr.specs.Fronts.{Since, cmp_front, between_front, in_front, not_front}
 

@@ -1,7 +1,6 @@
 -- Where a name, a path, a kind or a number reads nothing, by its parts.
-use Rattle.std.proofs.Common.{◌≡◌, ◌≢◌, ℕ, ◌<◌, ◌≤◌, List, [], ◌∷◌, refl, sym, ap, ◌∙◌, subst, arith}
-use Rattle.std.specs.Prelude.{Bool, true, false, ◌&&◌, nat_le, if◌then◌else◌, pos, Option, Some, None}
-use Rattle.std.specs.List.{fold}
+use Rattle.std.proofs.Common.{◌≡◌, ◌≢◌, ℕ, ◌<◌, ◌≤◌, List, ◌∷◌, refl, sym, ap, ◌∙◌, arith}
+use Rattle.std.specs.Prelude.{Bool, true, false, if◌then◌else◌, Option, Some, None}
 use Rattle.mq_values.specs.Number.{Number}
 use Rattle.mq_values.specs.Text.{is_text}
 use Rattle.mq_lexer.specs.declared.sorts.Sort.{Sort}
@@ -19,13 +18,13 @@ use Rattle.mq_lexer.specs.declared.keywords.Keyword.TheVariants as word
 use Rattle.mq_ast.specs.declared.terminals.Symbol.TheVariants as sign
 use Rattle.mq_ast.specs.declared.terminals.Terminal.{Terminal}
 use Rattle.mq_ast.specs.declared.terminals.Terminal.TheVariants as terminal
-use Rattle.mq_ast.specs.Tokens.{Tok, Word, Name, Num, Text, Bad, terminal_at, opener, closer, point}
+use Rattle.mq_ast.specs.Tokens.{Tok, Word, Name, Num, Text, Bad, terminal_at, opener, point}
 use Rattle.mq_ast.specs.declared.levels.TheConstants as level
 use Rattle.mq_ast.specs.Continuing.{loose, Stops, Not}
 use Rattle.mq_ast.specs.GrammarLists.{NameE, name}
 use Rattle.mq_ast.specs.GrammarNames.{PathE, path_one, path_two, KindE, kind_int, kind_decimal, kind_text, IsInt}
 use Rattle.mq_parse_expr.specs.Reading.{No, Anywhere}
-use Rattle.mq_parse_expr.specs.Names.{IntE, int, TextE, txt}
+use Rattle.mq_parse_expr.specs.Names.{IntE, int}
 
 -- a path
 pub stops_path : (s : Terminal) → s ≢ terminal.Sign sign.Point → level.PATH < loose s

@@ -1,5 +1,6 @@
 -- What the exits and the ends of the readers share.
-use Rattle.std.proofs.Common.{◌≡◌, ◌≢◌, ℕ, ◌+◌, ◌<◌, ◌≤◌, List, [], ◌∷◌, ◌++◌, length, Result, Ok, Err, refl, sym, ap, ◌∙◌, subst, arith}
+use Rattle.std.proofs.Common.{◌≡◌, ℕ, ◌≤◌, List, [], ◌∷◌, ◌++◌, length, Result, Ok, Err, refl, sym, ap, ◌∙◌, subst, arith}
+use Rattle.std.specs.Result.{IsErrAnd}
 use Rattle.mq_values.specs.declared.memory.Fail.{Fail}
 use Rattle.mq_values.specs.declared.memory.Fail.TheVariants as fail
 use Rattle.mq_values.specs.declared.faults.Refused.{Refused}
@@ -13,6 +14,11 @@ pub exit : {P Q : Type 0} (f : Fail Refused) → Fails f P → (P → Q) → Fai
 exit fail.Memory g h = tt
 exit (fail.Cause refused.Syntax) g h = h g
 exit (fail.Cause _) g h = g
+
+-- an exit by `?` of a reader: the error of the part, and why there is then no whole
+pub quit : {A P : Type 0} (R : A → List Tok → List Tok → Type 0) {Stop : List Tok → Type 0} (t : List Token) (at : ℕ) (r : Result (A × ℕ) (Fail Refused)) (f : Fail Refused) → IsErrAnd r (λ y. y ≡ f) → Fails f P → (P → No R Stop (from t at)) → Gives R Stop t at r
+quit R t at (Ok _) f e g h = absurd e
+quit R {Stop} t at (Err y) f e g h = let Q : Fail Refused → Type 0 = λ z. Fails z (No R Stop (from t at)) in subst Q (sym e) (exit f g h)
 
 -- a fact about tokens that are these
 pub here : {A : Type 0} (R : A → List Tok → List Tok → Type 0) (Stop : List Tok → Type 0) {ts us : List Tok} → ts ≡ us → No R Stop us → No R Stop ts

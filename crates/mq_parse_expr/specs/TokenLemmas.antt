@@ -1,12 +1,11 @@
 -- The tokens from a place on, one by one.
-use Rattle.std.proofs.Common.{◌≡◌, ◌≢◌, ℕ, zero, suc, add-one, ◌+◌, ◌<◌, ◌≤◌, List, [], ◌∷◌, length, map, drop, refl, sym, ap, ◌∙◌, subst, arith}
+use Rattle.std.proofs.Common.{◌≡◌, ℕ, zero, suc, add-one, ◌+◌, List, [], ◌∷◌, refl, ap, ◌∙◌}
 use Rattle.mq_lexer.specs.declared.sorts.Token.{Token}
 use Rattle.mq_lexer.specs.declared.keywords.Keyword.{Keyword}
 use Rattle.mq_ast.specs.declared.terminals.Symbol.{Symbol}
 use Rattle.mq_ast.specs.declared.terminals.Terminal.TheVariants as terminal
-use Rattle.mq_ast.specs.Tokens.{Tok, Word, Sign, Name, Num, Text, Bad, terminal_at, rest_of}
-use Rattle.mq_ast.specs.Spelling.{tok_of}
-use Rattle.mq_parse_expr.specs.Reading.{from, Then}
+use Rattle.mq_ast.specs.Tokens.{Tok, Word, Sign, terminal_at, rest_of}
+use Rattle.mq_parse_expr.specs.Reading.{from}
 
 pub next : (t : List Token) (at : ℕ) → rest_of (from t at) ≡ from t (at + 1)
 next [] zero = refl

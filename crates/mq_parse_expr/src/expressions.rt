@@ -16,23 +16,40 @@ use crate::fronts::{
 use crate::names::{read_path, scale_of};
 use crate::terminals::{behind_sign, behind_word, pass_sign, pass_word, settled};
 use crate::trees::{
-    aggregate, all_of, any_of, between, called, cast, comparison, in_list, negation, product,
-    rounded, signed, sum,
+    Tree, aggregate, all_of, any_of, any_place, between, called, case, cast, cell, comparison,
+    counted, in_list, named, negation, place_of, product, put, put_arm, put_before, put_prod,
+    put_sum, range, rounded, signed, sum,
 };
 use mq_ast::{Arm, E, Keyword, Place, ProdTerm, SumTerm, Symbol, Terminal, levels};
 use mq_lexer::Token;
 use mq_values::{Agg, Boxed, CmpOp, Fail, Items, Refused, SumOp, Words};
 use std::alloc::Global;
 
-/// An expression, up to a place where no token stands that goes on. SYNTAX exactly where there is no such expression.
-#[cycle(parser)]
+/// An expression, up to a place where no token stands that goes on. SYNTAX exactly where there is no such expression,
+/// also behind the last token.
 pub fn read_expr(alloc: Global, t: &[Token<'_>], at: usize) -> Result<(E, usize), Fail<Refused>>
-    requires { at ≤ length t.now }
+    ensures { Gives Expr (Stops level.EXPRESSION) t.now at result }
+{
+    let (e, to) = read_or(alloc, t, at)?;
+    Ok((e.into_inner(), to))
+}
+
+/// An expression between brackets.
+pub fn read_round(alloc: Global, t: &[Token<'_>], at: usize) -> Result<(E, usize), Fail<Refused>>
+    ensures { Gives RoundE Anywhere t.now at result }
+{
+    let (e, to) = read_inner(alloc, t, at)?;
+    Ok((e.into_inner(), to))
+}
+
+// The tree of an expression.
+#[cycle(parser)]
+fn read_or(alloc: Global, t: &[Token<'_>], at: usize) -> Result<(Tree, usize), Fail<Refused>>
     ensures { Gives Expr (Stops level.EXPRESSION) t.now at result }
 {
     let (first, mid) = read_and(alloc, t, at)?;
     let (others, to) = read_ors(alloc, t, mid)?;
-    Ok((any_of(first, others)?, to))
+    Ok((any_of(alloc, first, others)?, to))
 }
 
 #[cycle(parser)]
@@ -45,20 +62,19 @@ fn read_ors(alloc: Global, t: &[Token<'_>], at: usize) -> Result<(Items<E>, usiz
     let mut to = at;
     while let Some(behind) = behind_word(t, to, Keyword::Or) {
         let (e, next) = read_and(alloc, t, behind)?;
-        found.push(e)?;
+        put(&mut found, e)?;
         to = next;
     }
     Ok((found, to))
 }
 
 #[cycle(parser)]
-fn read_and(alloc: Global, t: &[Token<'_>], at: usize) -> Result<(E, usize), Fail<Refused>>
-    requires { at ≤ length t.now }
+fn read_and(alloc: Global, t: &[Token<'_>], at: usize) -> Result<(Tree, usize), Fail<Refused>>
     ensures { Gives AndE (Stops level.CONJUNCTION) t.now at result }
 {
     let (first, mid) = read_not(alloc, t, at)?;
     let (others, to) = read_ands(alloc, t, mid)?;
-    Ok((all_of(first, others)?, to))
+    Ok((all_of(alloc, first, others)?, to))
 }
 
 #[cycle(parser)]
@@ -71,15 +87,14 @@ fn read_ands(alloc: Global, t: &[Token<'_>], at: usize) -> Result<(Items<E>, usi
     let mut to = at;
     while let Some(behind) = behind_word(t, to, Keyword::And) {
         let (e, next) = read_not(alloc, t, behind)?;
-        found.push(e)?;
+        put(&mut found, e)?;
         to = next;
     }
     Ok((found, to))
 }
 
 #[cycle(parser)]
-fn read_not(alloc: Global, t: &[Token<'_>], at: usize) -> Result<(E, usize), Fail<Refused>>
-    requires { at ≤ length t.now }
+fn read_not(alloc: Global, t: &[Token<'_>], at: usize) -> Result<(Tree, usize), Fail<Refused>>
     ensures { Gives NotE (Stops level.TEST) t.now at result }
 {
     match behind_word(t, at, Keyword::Not) {
@@ -92,8 +107,7 @@ fn read_not(alloc: Global, t: &[Token<'_>], at: usize) -> Result<(E, usize), Fai
 }
 
 #[cycle(parser)]
-fn read_test(alloc: Global, t: &[Token<'_>], at: usize) -> Result<(E, usize), Fail<Refused>>
-    requires { at ≤ length t.now }
+fn read_test(alloc: Global, t: &[Token<'_>], at: usize) -> Result<(Tree, usize), Fail<Refused>>
     ensures { Gives TestE (Stops level.TEST) t.now at result }
 {
     let (a, mid) = read_sum(alloc, t, at)?;
@@ -102,7 +116,12 @@ fn read_test(alloc: Global, t: &[Token<'_>], at: usize) -> Result<(E, usize), Fa
 
 // What follows the first sum of a test.
 #[cycle(parser)]
-fn read_tail(alloc: Global, t: &[Token<'_>], at: usize, a: E) -> Result<(E, usize), Fail<Refused>>
+fn read_tail(
+    alloc: Global,
+    t: &[Token<'_>],
+    at: usize,
+    a: Tree,
+) -> Result<(Tree, usize), Fail<Refused>>
     requires in_range { at ≤ length t.now }
     requires stops { Stops level.SUM (from t.now at) }
     ensures { Gives (TestTail a) (Stops level.TEST) t.now at result }
@@ -123,9 +142,8 @@ fn read_negated(
     alloc: Global,
     t: &[Token<'_>],
     at: usize,
-    a: E,
-) -> Result<(E, usize), Fail<Refused>>
-    requires { at ≤ length t.now }
+    a: Tree,
+) -> Result<(Tree, usize), Fail<Refused>>
     ensures { Gives (Since not_front a) (Stops level.TEST) t.now at result }
 {
     match tail_at(t, at) {
@@ -141,10 +159,9 @@ fn read_cmp(
     alloc: Global,
     t: &[Token<'_>],
     at: usize,
-    a: E,
+    a: Tree,
     op: CmpOp,
-) -> Result<(E, usize), Fail<Refused>>
-    requires { at ≤ length t.now }
+) -> Result<(Tree, usize), Fail<Refused>>
     ensures { Gives (Since (cmp_front op) a) (Stops level.TEST) t.now at result }
 {
     let (b, to) = read_sum(alloc, t, at)?;
@@ -158,10 +175,9 @@ fn read_between(
     alloc: Global,
     t: &[Token<'_>],
     at: usize,
-    a: E,
+    a: Tree,
     not: bool,
-) -> Result<(E, usize), Fail<Refused>>
-    requires { at ≤ length t.now }
+) -> Result<(Tree, usize), Fail<Refused>>
     ensures { Gives (Since (between_front not) a) (Stops level.TEST) t.now at result }
 {
     let (low, end) = read_sum(alloc, t, at)?;
@@ -177,10 +193,9 @@ fn read_in(
     alloc: Global,
     t: &[Token<'_>],
     at: usize,
-    a: E,
+    a: Tree,
     not: bool,
-) -> Result<(E, usize), Fail<Refused>>
-    requires { at ≤ length t.now }
+) -> Result<(Tree, usize), Fail<Refused>>
     ensures { Gives (Since (in_front not) a) (Stops level.TEST) t.now at result }
 {
     let (members, to) = read_tuple(alloc, t, at)?;
@@ -195,7 +210,6 @@ pub fn read_tuple(
     t: &[Token<'_>],
     at: usize,
 ) -> Result<(Items<E>, usize), Fail<Refused>>
-    requires { at ≤ length t.now }
     ensures { Gives Tuple Anywhere t.now at result }
 {
     let open = pass_sign(t, at, Symbol::Open)?;
@@ -211,12 +225,11 @@ pub fn read_exprs(
     t: &[Token<'_>],
     at: usize,
 ) -> Result<(Items<E>, usize), Fail<Refused>>
-    requires { at ≤ length t.now }
     ensures { Gives Exprs (Ends (Terminal.Sign Symbol.Comma)) t.now at result }
 {
-    let (first, mid) = read_expr(alloc, t, at)?;
+    let (first, mid) = read_or(alloc, t, at)?;
     let (mut all, to) = read_more_exprs(alloc, t, mid)?;
-    all.put_first(first)?;
+    put_before(&mut all, first)?;
     Ok((all, to))
 }
 
@@ -233,16 +246,15 @@ fn read_more_exprs(
     let mut found = Items::new(alloc);
     let mut to = at;
     while let Some(behind) = behind_sign(t, to, Symbol::Comma) {
-        let (e, next) = read_expr(alloc, t, behind)?;
-        found.push(e)?;
+        let (e, next) = read_or(alloc, t, behind)?;
+        put(&mut found, e)?;
         to = next;
     }
     Ok((found, to))
 }
 
 #[cycle(parser)]
-fn read_sum(alloc: Global, t: &[Token<'_>], at: usize) -> Result<(E, usize), Fail<Refused>>
-    requires { at ≤ length t.now }
+fn read_sum(alloc: Global, t: &[Token<'_>], at: usize) -> Result<(Tree, usize), Fail<Refused>>
     ensures { Gives SumE (Stops level.SUM) t.now at result }
 {
     let (first, mid) = read_prod(alloc, t, at)?;
@@ -264,15 +276,14 @@ fn read_sums(
     let mut to = at;
     while let Some(op) = sum_op(t, to) {
         let (e, next) = read_prod(alloc, t, to + 1)?;
-        found.push(SumTerm { op, e })?;
+        put_sum(&mut found, op, e)?;
         to = next;
     }
     Ok((found, to))
 }
 
 #[cycle(parser)]
-fn read_prod(alloc: Global, t: &[Token<'_>], at: usize) -> Result<(E, usize), Fail<Refused>>
-    requires { at ≤ length t.now }
+fn read_prod(alloc: Global, t: &[Token<'_>], at: usize) -> Result<(Tree, usize), Fail<Refused>>
     ensures { Gives ProdE (Stops level.PRODUCT) t.now at result }
 {
     let (first, mid) = read_sign(alloc, t, at)?;
@@ -294,15 +305,14 @@ fn read_prods(
     let mut to = at;
     while let Some(op) = prod_op(t, to) {
         let (e, next) = read_sign(alloc, t, to + 1)?;
-        found.push(ProdTerm { op, e })?;
+        put_prod(&mut found, op, e)?;
         to = next;
     }
     Ok((found, to))
 }
 
 #[cycle(parser)]
-fn read_sign(alloc: Global, t: &[Token<'_>], at: usize) -> Result<(E, usize), Fail<Refused>>
-    requires { at ≤ length t.now }
+fn read_sign(alloc: Global, t: &[Token<'_>], at: usize) -> Result<(Tree, usize), Fail<Refused>>
     ensures { Gives SignE (Stops level.PRIMARY) t.now at result }
 {
     match behind_sign(t, at, Symbol::Sum(SumOp::Sub)) {
@@ -315,8 +325,7 @@ fn read_sign(alloc: Global, t: &[Token<'_>], at: usize) -> Result<(E, usize), Fa
 }
 
 #[cycle(parser)]
-fn read_prim(alloc: Global, t: &[Token<'_>], at: usize) -> Result<(E, usize), Fail<Refused>>
-    requires { at ≤ length t.now }
+fn read_prim(alloc: Global, t: &[Token<'_>], at: usize) -> Result<(Tree, usize), Fail<Refused>>
     ensures { Gives PrimE (Stops level.PRIMARY) t.now at result }
 {
     match form_at(t, at) {
@@ -338,14 +347,14 @@ fn read_closed(
     t: &[Token<'_>],
     at: usize,
     form: Form,
-) -> Result<(E, usize), Fail<Refused>>
+) -> Result<(Tree, usize), Fail<Refused>>
     requires in_range { at + 1 ≤ length t.now }
     requires begins { form ≡ spec_form (terminal_at (from t.now at)) }
     requires closed { IsClosed form }
     ensures { Gives PrimE Anywhere t.now at result }
 {
     match form {
-        Form::Brackets => read_round(alloc, t, at),
+        Form::Brackets => read_inner(alloc, t, at),
         Form::Case => read_case(alloc, t, at + 1),
         Form::Cast => read_cast(alloc, t, at + 1),
         Form::Round => read_rounded(alloc, t, at + 1),
@@ -356,7 +365,7 @@ fn read_closed(
 
 // A column, or a cell by its places.
 #[cycle(parser)]
-fn read_name(alloc: Global, t: &[Token<'_>], at: usize) -> Result<(E, usize), Fail<Refused>>
+fn read_name(alloc: Global, t: &[Token<'_>], at: usize) -> Result<(Tree, usize), Fail<Refused>>
     requires in_range { at ≤ length t.now }
     requires begins { terminal_at (from t.now at) ≡ Terminal.Name }
     ensures { Gives PrimE (Stops level.PRIMARY) t.now at result }
@@ -364,11 +373,11 @@ fn read_name(alloc: Global, t: &[Token<'_>], at: usize) -> Result<(E, usize), Fa
     let (path, mid) = read_path(alloc, t, at)?;
     let Some(_) = behind_sign(t, mid, Symbol::OpenSquare) else {
         settled(t, mid, levels::PRIMARY)?;
-        return Ok((E::Name(path), mid));
+        return Ok((named(alloc, path)?, mid));
     };
     let (places, to) = read_brackets(alloc, t, mid)?;
     settled(t, to, levels::PRIMARY)?;
-    Ok((E::Cell(path, places), to))
+    Ok((cell(alloc, path, places)?, to))
 }
 
 // An aggregate, behind its word.
@@ -378,21 +387,20 @@ fn read_agg(
     t: &[Token<'_>],
     at: usize,
     agg: Agg,
-) -> Result<(E, usize), Fail<Refused>>
-    requires { at ≤ length t.now }
+) -> Result<(Tree, usize), Fail<Refused>>
     ensures { Gives (Behind (Aggregate agg)) (Stops level.PRIMARY) t.now at result }
 {
     match agg_head(t, at, agg) {
         AggHead::All(to) => {
             settled(t, to, levels::PRIMARY)?;
-            Ok((E::CountAll, to))
+            Ok((counted(alloc)?, to))
         }
         AggHead::Cells(measure, cells) => {
             let measure = Words::new(alloc, measure)?;
             read_range(alloc, t, cells, agg, measure)
         }
         AggHead::Values => {
-            let (e, to) = read_round(alloc, t, at)?;
+            let (e, to) = read_inner(alloc, t, at)?;
             settled(t, to, levels::PRIMARY)?;
             Ok((aggregate(alloc, agg, e)?, to))
         }
@@ -407,48 +415,45 @@ fn read_range(
     at: usize,
     agg: Agg,
     measure: Words,
-) -> Result<(E, usize), Fail<Refused>>
+) -> Result<(Tree, usize), Fail<Refused>>
     requires in_range { at ≤ length t.now }
     requires begins { terminal_at (from t.now at) ≡ Terminal.Sign Symbol.OpenSquare }
     ensures { Gives (CellsOf agg measure) (Stops level.PRIMARY) t.now at result }
 {
     let (places, to) = read_brackets(alloc, t, at)?;
     settled(t, to, levels::PRIMARY)?;
-    Ok((E::RangeAgg(agg, measure, places), to))
+    Ok((range(alloc, agg, measure, places)?, to))
 }
 
-/// An expression between brackets.
+// The tree of an expression between brackets.
 #[cycle(parser)]
-pub fn read_round(alloc: Global, t: &[Token<'_>], at: usize) -> Result<(E, usize), Fail<Refused>>
-    requires { at ≤ length t.now }
+fn read_inner(alloc: Global, t: &[Token<'_>], at: usize) -> Result<(Tree, usize), Fail<Refused>>
     ensures { Gives RoundE Anywhere t.now at result }
 {
     let open = pass_sign(t, at, Symbol::Open)?;
-    let (e, end) = read_expr(alloc, t, open)?;
+    let (e, end) = read_or(alloc, t, open)?;
     let to = pass_sign(t, end, Symbol::Close)?;
     Ok((e, to))
 }
 
 // A CAST, behind its word.
 #[cycle(parser)]
-fn read_cast(alloc: Global, t: &[Token<'_>], at: usize) -> Result<(E, usize), Fail<Refused>>
-    requires { at ≤ length t.now }
+fn read_cast(alloc: Global, t: &[Token<'_>], at: usize) -> Result<(Tree, usize), Fail<Refused>>
     ensures { Gives (Behind (Word Keyword.Cast)) Anywhere t.now at result }
 {
     let open = pass_sign(t, at, Symbol::Open)?;
-    let (e, end) = read_expr(alloc, t, open)?;
+    let (e, end) = read_or(alloc, t, open)?;
     let (kind, to) = read_as_kind(t, end)?;
     Ok((cast(alloc, e, kind)?, to))
 }
 
 // A ROUND, behind its word.
 #[cycle(parser)]
-fn read_rounded(alloc: Global, t: &[Token<'_>], at: usize) -> Result<(E, usize), Fail<Refused>>
-    requires { at ≤ length t.now }
+fn read_rounded(alloc: Global, t: &[Token<'_>], at: usize) -> Result<(Tree, usize), Fail<Refused>>
     ensures { Gives (Behind (Word Keyword.Round)) Anywhere t.now at result }
 {
     let open = pass_sign(t, at, Symbol::Open)?;
-    let (e, end) = read_expr(alloc, t, open)?;
+    let (e, end) = read_or(alloc, t, open)?;
     let (places, to) = read_to_scale(t, end)?;
     Ok((rounded(alloc, e, scale_of(places))?, to))
 }
@@ -460,9 +465,8 @@ fn read_call(
     t: &[Token<'_>],
     at: usize,
     word: Keyword,
-) -> Result<(E, usize), Fail<Refused>>
-    requires in_range { at ≤ length t.now }
-    requires calls { spec_form (Terminal.Word word) ≡ Form.Call word }
+) -> Result<(Tree, usize), Fail<Refused>>
+    requires { spec_form (Terminal.Word word) ≡ Form.Call word }
     ensures { Gives (Behind (Word word)) Anywhere t.now at result }
 {
     let (args, to) = read_tuple(alloc, t, at)?;
@@ -474,14 +478,13 @@ fn read_call(
 
 // A CASE, behind its word.
 #[cycle(parser)]
-fn read_case(alloc: Global, t: &[Token<'_>], at: usize) -> Result<(E, usize), Fail<Refused>>
-    requires { at ≤ length t.now }
+fn read_case(alloc: Global, t: &[Token<'_>], at: usize) -> Result<(Tree, usize), Fail<Refused>>
     ensures { Gives (Behind (Word Keyword.Case)) Anywhere t.now at result }
 {
     let (subject, start) = read_subject(alloc, t, at)?;
     let (arms, mid) = read_whens(alloc, t, start)?;
     let (other, to) = read_else(alloc, t, mid)?;
-    Ok((E::Case(subject, arms, other), to))
+    Ok((case(alloc, subject, arms, other)?, to))
 }
 
 // What stands between CASE and its first WHEN.
@@ -490,16 +493,15 @@ fn read_subject(
     alloc: Global,
     t: &[Token<'_>],
     at: usize,
-) -> Result<(Option<Boxed<E>>, usize), Fail<Refused>>
-    requires { at ≤ length t.now }
+) -> Result<(Option<Tree>, usize), Fail<Refused>>
     ensures { Gives CaseE AtWhen t.now at result }
 {
     match behind_word(t, at, Keyword::When) {
         Some(_) => Ok((None, at)),
         None => {
-            let (e, to) = read_expr(alloc, t, at)?;
+            let (e, to) = read_or(alloc, t, at)?;
             pass_word(t, to, Keyword::When)?;
-            Ok((Some(Boxed::new(alloc, e)?), to))
+            Ok((Some(e), to))
         }
     }
 }
@@ -510,16 +512,15 @@ fn read_whens(
     t: &[Token<'_>],
     at: usize,
 ) -> Result<(Items<Arm>, usize), Fail<Refused>>
-    requires { at ≤ length t.now }
     ensures { Gives SomeWhens (Ends (Terminal.Word Keyword.When)) t.now at result }
 {
     let mut found = Items::new(alloc);
     let mut to = pass_word(t, at, Keyword::When)?;
     loop {
-        let (test, end) = read_expr(alloc, t, to)?;
+        let (test, end) = read_or(alloc, t, to)?;
         let mid = pass_word(t, end, Keyword::Then)?;
-        let (value, next) = read_expr(alloc, t, mid)?;
-        found.push(Arm { test, value })?;
+        let (value, next) = read_or(alloc, t, mid)?;
+        put_arm(&mut found, test, value)?;
         match behind_word(t, next, Keyword::When) {
             Some(behind) => to = behind,
             None => return Ok((found, next)),
@@ -533,15 +534,14 @@ fn read_else(
     alloc: Global,
     t: &[Token<'_>],
     at: usize,
-) -> Result<(Option<Boxed<E>>, usize), Fail<Refused>>
-    requires { at ≤ length t.now }
+) -> Result<(Option<Tree>, usize), Fail<Refused>>
     ensures { Gives ElseEnd Anywhere t.now at result }
 {
     match behind_word(t, at, Keyword::Else) {
         Some(behind) => {
-            let (e, end) = read_expr(alloc, t, behind)?;
+            let (e, end) = read_or(alloc, t, behind)?;
             let to = pass_word(t, end, Keyword::End)?;
-            Ok((Some(Boxed::new(alloc, e)?), to))
+            Ok((Some(e), to))
         }
         None => {
             let to = pass_word(t, at, Keyword::End)?;
@@ -557,14 +557,13 @@ fn read_brackets(
     t: &[Token<'_>],
     at: usize,
 ) -> Result<(Items<Place>, usize), Fail<Refused>>
-    requires { at ≤ length t.now }
     ensures { Gives Brackets Anywhere t.now at result }
 {
     let open = pass_sign(t, at, Symbol::OpenSquare)?;
     let (first, mid) = read_place(alloc, t, open)?;
     let (mut all, end) = read_places(alloc, t, mid)?;
     let to = pass_sign(t, end, Symbol::CloseSquare)?;
-    all.put_first(first)?;
+    put_before(&mut all, first)?;
     Ok((all, to))
 }
 
@@ -582,25 +581,28 @@ fn read_places(
     let mut to = at;
     while let Some(behind) = behind_sign(t, to, Symbol::Comma) {
         let (place, next) = read_place(alloc, t, behind)?;
-        found.push(place)?;
+        put(&mut found, place)?;
         to = next;
     }
     Ok((found, to))
 }
 
 #[cycle(parser)]
-fn read_place(alloc: Global, t: &[Token<'_>], at: usize) -> Result<(Place, usize), Fail<Refused>>
-    requires { at ≤ length t.now }
+fn read_place(
+    alloc: Global,
+    t: &[Token<'_>],
+    at: usize,
+) -> Result<(Boxed<Place>, usize), Fail<Refused>>
     ensures { Gives PlaceE (Stops level.EXPRESSION) t.now at result }
 {
     match behind_word(t, at, Keyword::Any) {
         Some(to) => {
             settled(t, to, levels::EXPRESSION)?;
-            Ok((Place::Any, to))
+            Ok((any_place(alloc)?, to))
         }
         None => {
-            let (e, to) = read_expr(alloc, t, at)?;
-            Ok((Place::Expr(e), to))
+            let (e, to) = read_or(alloc, t, at)?;
+            Ok((place_of(alloc, e)?, to))
         }
     }
 }

@@ -14,10 +14,10 @@ ghost use Rattle.mq_parse_expr.specs.Fronts.{AsKind, Behind, Heads, HeadsAll, He
 use crate::forms::{AggHead, Form, IsTest, Tail, form_of, tail_of};
 use crate::names::{name_at, number_at, read_int, read_kind, read_name, text_at};
 use crate::terminals::{behind_sign, behind_word, pass_sign, pass_word, settled, terminal};
-use crate::trees::judged;
+use crate::trees::{Tree, judged};
 use mq_ast::{E, Keyword, Symbol, Terminal, levels};
 use mq_lexer::Token;
-use mq_values::{Agg, Fail, Kind, Num, ProdOp, Refused, SumOp, Value};
+use mq_values::{Agg, Boxed, Fail, Kind, Num, ProdOp, Refused, SumOp, Value};
 use std::alloc::Global;
 
 /// The kind of primary expression that begins at a place.
@@ -149,6 +149,21 @@ pub(crate) fn read_leaf(
     t: &[Token<'_>],
     at: usize,
     form: Form,
+) -> Result<(Tree, usize), Fail<Refused>>
+    requires in_range { at + 1 ≤ length t.now }
+    requires begins { form ≡ spec_form (terminal_at (from t.now at)) }
+    requires leaf { IsLeaf form }
+    ensures { Gives PrimE Anywhere t.now at result }
+{
+    let (e, to) = read_small(alloc, t, at, form)?;
+    Ok((Boxed::new(alloc, e)?, to))
+}
+
+fn read_small(
+    alloc: Global,
+    t: &[Token<'_>],
+    at: usize,
+    form: Form,
 ) -> Result<(E, usize), Fail<Refused>>
     requires in_range { at + 1 ≤ length t.now }
     requires begins { form ≡ spec_form (terminal_at (from t.now at)) }
@@ -215,8 +230,8 @@ pub(crate) fn read_is(
     alloc: Global,
     t: &[Token<'_>],
     at: usize,
-    a: E,
-) -> Result<(E, usize), Fail<Refused>>
+    a: Tree,
+) -> Result<(Tree, usize), Fail<Refused>>
     ensures { Gives (Since is_front a) (Stops level.TEST) t.now at result }
 {
     let (test, to) = is_test(t, at)?;

@@ -1,158 +1,272 @@
-//! The trees, made of their parts.
+//! The trees, made of their parts. Where one tree is handed on it stands on the heap, as it will stand in the tree above
+//! it: so it is moved as one word, and proofs see a value in place of 26 variants.
 
-ghost use Rattle.std.specs.Prelude.{◌≡◌, ◌∷◌, [], List, Some, None, IfOk};
+ghost use Rattle.std.specs.Prelude.{◌≡◌, ◌∷◌, ◌++◌, [], List, Some, None, IfOk, OnOk};
 ghost use Rattle.mq_ast.specs.declared.expressions.E.{E};
-ghost use Rattle.mq_ast.specs.Chains.{or_of, and_of, sum_of, prod_of};
+ghost use Rattle.mq_ast.specs.declared.expressions.Place.{Place};
+ghost use Rattle.mq_ast.specs.Chains.{and_of, arm, or_of, prod_of, prod_term, sum_of, sum_term};
 ghost use Rattle.mq_parse_expr.specs.Forms as spec;
 ghost use Rattle.mq_parse_expr.specs.Fronts.{judged as tested};
 
 use crate::calls::call_of;
 use crate::forms::IsTest;
-use mq_ast::{E, Keyword, Place, ProdTerm, SumTerm};
-use mq_values::{Agg, Boxed, CmpOp, Func, Items, Kind, Memory};
+use mq_ast::{Arm, E, Keyword, Path, Place, ProdTerm, SumTerm};
+use mq_values::{Agg, Boxed, CmpOp, Func, Items, Kind, Memory, ProdOp, SumOp, Words};
 use std::alloc::Global;
 
+/// A tree on the heap.
+pub(crate) type Tree = Boxed<E>;
+
+/// Puts an item behind the others.
+pub(crate) fn put<T: Drop>(found: &mut Items<T>, item: Boxed<T>) -> Result<(), Memory>
+    ensures { OnOk result (found.new ≡ found.old ++ item ∷ []) }
+{
+    found.push(item.into_inner())
+}
+
+/// Puts an item before the others.
+pub(crate) fn put_before<T: Drop>(found: &mut Items<T>, item: Boxed<T>) -> Result<(), Memory>
+    ensures { OnOk result (found.new ≡ item ∷ found.old) }
+{
+    found.put_first(item.into_inner())
+}
+
+/// Puts a term behind those of a sum.
+pub(crate) fn put_sum(found: &mut Items<SumTerm>, op: SumOp, e: Tree) -> Result<(), Memory>
+    ensures { OnOk result (found.new ≡ found.old ++ (sum_term op e) ∷ []) }
+{
+    let e = e.into_inner();
+    found.push(SumTerm { op, e })
+}
+
+/// Puts a term behind those of a product.
+pub(crate) fn put_prod(found: &mut Items<ProdTerm>, op: ProdOp, e: Tree) -> Result<(), Memory>
+    ensures { OnOk result (found.new ≡ found.old ++ (prod_term op e) ∷ []) }
+{
+    let e = e.into_inner();
+    found.push(ProdTerm { op, e })
+}
+
+/// Puts an arm behind those of a CASE.
+pub(crate) fn put_arm(found: &mut Items<Arm>, test: Tree, value: Tree) -> Result<(), Memory>
+    ensures { OnOk result (found.new ≡ found.old ++ (arm test value) ∷ []) }
+{
+    let test = test.into_inner();
+    let value = value.into_inner();
+    found.push(Arm { test, value })
+}
+
 /// The members with OR between them; one alone is itself.
-pub(crate) fn any_of(first: E, others: Items<E>) -> Result<E, Memory>
+pub(crate) fn any_of(alloc: Global, first: Tree, others: Items<E>) -> Result<Tree, Memory>
     ensures { IfOk result (λ e. e ≡ or_of first others) }
 {
     let mut all = others;
     if all.is_empty() {
         return Ok(first);
     }
-    all.put_first(first)?;
-    Ok(E::Or(all))
+    put_before(&mut all, first)?;
+    Boxed::new(alloc, E::Or(all))
 }
 
 /// The members with AND between them; one alone is itself.
-pub(crate) fn all_of(first: E, others: Items<E>) -> Result<E, Memory>
+pub(crate) fn all_of(alloc: Global, first: Tree, others: Items<E>) -> Result<Tree, Memory>
     ensures { IfOk result (λ e. e ≡ and_of first others) }
 {
     let mut all = others;
     if all.is_empty() {
         return Ok(first);
     }
-    all.put_first(first)?;
-    Ok(E::And(all))
+    put_before(&mut all, first)?;
+    Boxed::new(alloc, E::And(all))
 }
 
-pub(crate) fn negation(alloc: Global, e: E) -> Result<E, Memory>
+pub(crate) fn negation(alloc: Global, e: Tree) -> Result<Tree, Memory>
     ensures { IfOk result (λ r. r ≡ E.Not e) }
 {
-    Ok(E::Not(Boxed::new(alloc, e)?))
+    Boxed::new(alloc, E::Not(e))
 }
 
-pub(crate) fn comparison(alloc: Global, a: E, op: CmpOp, b: E) -> Result<E, Memory>
+pub(crate) fn comparison(alloc: Global, a: Tree, op: CmpOp, b: Tree) -> Result<Tree, Memory>
     ensures { IfOk result (λ e. e ≡ E.Cmp a op b) }
 {
-    let left = Boxed::new(alloc, a)?;
-    Ok(E::Cmp(left, op, Boxed::new(alloc, b)?))
+    Boxed::new(alloc, E::Cmp(a, op, b))
 }
 
-pub(crate) fn between(alloc: Global, a: E, not: bool, low: E, high: E) -> Result<E, Memory>
+pub(crate) fn between(
+    alloc: Global,
+    a: Tree,
+    not: bool,
+    low: Tree,
+    high: Tree,
+) -> Result<Tree, Memory>
     ensures { IfOk result (λ e. e ≡ E.Between a not low high) }
 {
-    let a = Boxed::new(alloc, a)?;
-    let low = Boxed::new(alloc, low)?;
-    Ok(E::Between(a, not, low, Boxed::new(alloc, high)?))
+    Boxed::new(alloc, E::Between(a, not, low, high))
 }
 
-pub(crate) fn in_list(alloc: Global, a: E, not: bool, members: Items<E>) -> Result<E, Memory>
+pub(crate) fn in_list(alloc: Global, a: Tree, not: bool, members: Items<E>) -> Result<Tree, Memory>
     ensures { IfOk result (λ e. e ≡ E.InList a not members) }
 {
-    Ok(E::InList(Boxed::new(alloc, a)?, not, members))
+    Boxed::new(alloc, E::InList(a, not, members))
 }
 
 /// The test by IS of an expression.
-pub(crate) fn judged(alloc: Global, a: E, test: IsTest) -> Result<E, Memory>
+pub(crate) fn judged(alloc: Global, a: Tree, test: IsTest) -> Result<Tree, Memory>
     ensures { IfOk result (λ e. e ≡ tested test a) }
 {
-    let a = Boxed::new(alloc, a)?;
-    Ok(match test {
-        IsTest::Null(not) => E::IsNull(a, not),
-        IsTest::Present(not) => E::IsPresent(a, not),
-        IsTest::Any => E::IsAny(a),
-    })
+    match test {
+        IsTest::Null(not) => Boxed::new(alloc, E::IsNull(a, not)),
+        IsTest::Present(not) => Boxed::new(alloc, E::IsPresent(a, not)),
+        IsTest::Any => Boxed::new(alloc, E::IsAny(a)),
+    }
 }
 
 /// The sum of the terms; one alone is itself.
-pub(crate) fn sum(alloc: Global, first: E, others: Items<SumTerm>) -> Result<E, Memory>
+pub(crate) fn sum(alloc: Global, first: Tree, others: Items<SumTerm>) -> Result<Tree, Memory>
     ensures { IfOk result (λ e. e ≡ sum_of first others) }
 {
     if others.is_empty() {
         return Ok(first);
     }
-    Ok(E::Sum(Boxed::new(alloc, first)?, others))
+    Boxed::new(alloc, E::Sum(first, others))
 }
 
 /// The product of the terms; one alone is itself.
-pub(crate) fn product(alloc: Global, first: E, others: Items<ProdTerm>) -> Result<E, Memory>
+pub(crate) fn product(alloc: Global, first: Tree, others: Items<ProdTerm>) -> Result<Tree, Memory>
     ensures { IfOk result (λ e. e ≡ prod_of first others) }
 {
     if others.is_empty() {
         return Ok(first);
     }
-    Ok(E::Prod(Boxed::new(alloc, first)?, others))
+    Boxed::new(alloc, E::Prod(first, others))
 }
 
-pub(crate) fn signed(alloc: Global, e: E) -> Result<E, Memory>
+pub(crate) fn signed(alloc: Global, e: Tree) -> Result<Tree, Memory>
     ensures { IfOk result (λ r. r ≡ E.Neg e) }
 {
-    Ok(E::Neg(Boxed::new(alloc, e)?))
+    Boxed::new(alloc, E::Neg(e))
 }
 
-pub(crate) fn aggregate(alloc: Global, agg: Agg, e: E) -> Result<E, Memory>
+/// A column.
+pub(crate) fn named(alloc: Global, path: Path) -> Result<Tree, Memory>
+    ensures { IfOk result (λ r. r ≡ E.Name path) }
+{
+    Boxed::new(alloc, E::Name(path))
+}
+
+/// A cell.
+pub(crate) fn cell(alloc: Global, path: Path, places: Items<Place>) -> Result<Tree, Memory>
+    ensures { IfOk result (λ r. r ≡ E.Cell path places) }
+{
+    Boxed::new(alloc, E::Cell(path, places))
+}
+
+/// COUNT(*).
+pub(crate) fn counted(alloc: Global) -> Result<Tree, Memory>
+    ensures { IfOk result (λ r. r ≡ E.CountAll) }
+{
+    Boxed::new(alloc, E::CountAll)
+}
+
+/// An aggregate of cells.
+pub(crate) fn range(
+    alloc: Global,
+    agg: Agg,
+    measure: Words,
+    places: Items<Place>,
+) -> Result<Tree, Memory>
+    ensures { IfOk result (λ r. r ≡ E.RangeAgg agg measure places) }
+{
+    Boxed::new(alloc, E::RangeAgg(agg, measure, places))
+}
+
+pub(crate) fn aggregate(alloc: Global, agg: Agg, e: Tree) -> Result<Tree, Memory>
     ensures { IfOk result (λ r. r ≡ E.Agg agg e) }
 {
-    Ok(E::Agg(agg, Boxed::new(alloc, e)?))
+    Boxed::new(alloc, E::Agg(agg, e))
 }
 
-pub(crate) fn cast(alloc: Global, e: E, kind: Kind) -> Result<E, Memory>
+pub(crate) fn case(
+    alloc: Global,
+    subject: Option<Tree>,
+    arms: Items<Arm>,
+    other: Option<Tree>,
+) -> Result<Tree, Memory>
+    ensures { IfOk result (λ r. r ≡ E.Case subject arms other) }
+{
+    Boxed::new(alloc, E::Case(subject, arms, other))
+}
+
+pub(crate) fn cast(alloc: Global, e: Tree, kind: Kind) -> Result<Tree, Memory>
     ensures { IfOk result (λ r. r ≡ E.Cast e kind) }
 {
-    Ok(E::Cast(Boxed::new(alloc, e)?, kind))
+    Boxed::new(alloc, E::Cast(e, kind))
 }
 
 /// ROUND to a scale.
-pub(crate) fn rounded(alloc: Global, e: E, scale: u8) -> Result<E, Memory>
+pub(crate) fn rounded(alloc: Global, e: Tree, scale: u8) -> Result<Tree, Memory>
     ensures { IfOk result (λ r. r ≡ E.Call (Func.Round scale) (e ∷ [])) }
 {
     let mut args = Items::new(alloc);
-    args.push(e)?;
-    Ok(E::Call(Func::Round(scale), args))
+    put(&mut args, e)?;
+    Boxed::new(alloc, E::Call(Func::Round(scale), args))
+}
+
+/// The place ANY between square brackets.
+pub(crate) fn any_place(alloc: Global) -> Result<Boxed<Place>, Memory>
+    ensures { IfOk result (λ p. p ≡ Place.Any) }
+{
+    Boxed::new(alloc, Place::Any)
+}
+
+/// A place between square brackets.
+pub(crate) fn place_of(alloc: Global, e: Tree) -> Result<Boxed<Place>, Memory>
+    ensures { IfOk result (λ p. p ≡ Place.Expr e) }
+{
+    Boxed::new(alloc, Place::Expr(e.into_inner()))
 }
 
 /// A call of its arguments; none where it takes another number of them.
-pub(crate) fn called(alloc: Global, word: Keyword, args: Items<E>) -> Result<Option<E>, Memory>
+pub(crate) fn called(alloc: Global, word: Keyword, args: Items<E>) -> Result<Option<Tree>, Memory>
     ensures { IfOk result (λ o. o ≡ spec.called word args) }
 {
     match call_of(word) {
-        Some((func, count)) if args.len() == count => Ok(Some(E::Call(func, args))),
+        Some((func, count)) if args.len() == count => function(alloc, func, args),
         Some(_) => Ok(None),
         None => asked(alloc, word, args),
     }
 }
 
 // What PREVIOUS, PRESENTV and PRESENTNNV ask of their arguments.
-fn asked(alloc: Global, word: Keyword, args: Items<E>) -> Result<Option<E>, Memory>
+fn asked(alloc: Global, word: Keyword, args: Items<E>) -> Result<Option<Tree>, Memory>
     ensures { IfOk result (λ o. o ≡ spec.asked word args) }
 {
     let count = args.len();
     match word {
         Keyword::Previous => previous(alloc, args),
-        Keyword::Presentv if count == 3 => Ok(Some(E::PresentV(args))),
-        Keyword::Presentnnv if count == 3 => Ok(Some(E::PresentNnv(args))),
+        Keyword::Presentv if count == 3 => Ok(Some(Boxed::new(alloc, E::PresentV(args))?)),
+        Keyword::Presentnnv if count == 3 => Ok(Some(Boxed::new(alloc, E::PresentNnv(args))?)),
         _ => Ok(None),
     }
 }
 
+// A function of these arguments.
+fn function(alloc: Global, func: Func, args: Items<E>) -> Result<Option<Tree>, Memory>
+    ensures { IfOk result (λ o. o ≡ Some (E.Call func args)) }
+{
+    Ok(Some(Boxed::new(alloc, E::Call(func, args))?))
+}
+
 // PREVIOUS of its one argument.
-fn previous(alloc: Global, args: Items<E>) -> Result<Option<E>, Memory>
+fn previous(alloc: Global, args: Items<E>) -> Result<Option<Tree>, Memory>
     ensures { IfOk result (λ o. o ≡ spec.asked Keyword.Previous args) }
 {
     let mut args = args.into_vec();
     match args.pop() {
-        Some(e) if args.is_empty() => Ok(Some(E::Previous(Boxed::new(alloc, e)?))),
+        Some(e) if args.is_empty() => {
+            let e = Boxed::new(alloc, e)?;
+            Ok(Some(Boxed::new(alloc, E::Previous(e))?))
+        }
         _ => Ok(None),
     }
 }

@@ -1,5 +1,4 @@
-use Rattle.std.proofs.Common.{◌≡◌, ◌≢◌, ℕ, ◌+◌, ◌-◌, ◌<◌, ◌≤◌, true, false, List, [], ◌∷◌, length, refl, sym, ap, ◌∙◌, subst, arith, Some, None}
-use Rattle.std.proofs.lemmas.Result.{err_from_is_err_and}
+use Rattle.std.proofs.Common.{◌+◌, false, [], ◌∷◌, sym, ap, ◌∙◌, arith}
 use Rattle.mq_values.specs.declared.operators.Func.TheVariants as func
 use Rattle.mq_ast.specs.declared.expressions.E.TheVariants as tree
 use Rattle.mq_lexer.specs.declared.keywords.Keyword.TheVariants as word
@@ -7,7 +6,7 @@ use Rattle.mq_ast.specs.declared.terminals.Symbol.TheVariants as sign
 use Rattle.mq_ast.specs.declared.terminals.Terminal.TheVariants as terminal
 use Rattle.mq_ast.specs.Tokens.{Word, Aggregate, Sign, Name, terminal_at, opener, closer, comma}
 use Rattle.mq_ast.specs.declared.levels.TheConstants as level
-use Rattle.mq_ast.specs.Continuing.{loose, Stops, Ends}
+use Rattle.mq_ast.specs.Continuing.{Stops, Ends}
 use Rattle.mq_ast.specs.Chains.{sum_term, prod_term}
 use Rattle.mq_ast.specs.GrammarNames.{PathE}
 use Rattle.mq_ast.specs.GrammarExpression.{Expr, MoreOr, AndE, MoreAnd, NotE, TestE, TestTail, Tuple, Exprs, MoreExprs, SumE, MoreSum, ProdE, MoreProd, SignE, PrimE, Brackets, MorePlaces, PlaceE, CaseE, expr, or_end, or_more, and, and_end, and_more, not_plain, not_not, test, tail_none, tail_cmp, tuple, exprs, exprs_end, exprs_more, sum, sum_end, sum_more, prod, prod_end, prod_more, sign_plain, sign_minus, prim_path, prim_cell, prim_range, brackets, places_end, places_more, place_any, place_expr, case_none, case_some, else_none, else_some}
@@ -15,39 +14,36 @@ use Rattle.mq_parse_expr.specs.declared.forms.Form.TheVariants as form
 use Rattle.mq_parse_expr.specs.declared.forms.Tail.TheVariants as tail
 use Rattle.mq_parse_expr.specs.Reading.{from, Anywhere}
 use Rattle.mq_parse_expr.specs.Forms.{form_of, tail_of}
-use Rattle.mq_parse_expr.specs.Fronts.{RoundE, round, Behind, Since, cmp_front, not_front, is_front, between_front, in_front, CellsOf, ElseEnd}
-use Rattle.mq_parse_expr.specs.StepLemmas.{exit, here, there, till, as_value, gives_as, fronted, one_more, cut_short, all_found}
+use Rattle.mq_parse_expr.specs.Fronts.{RoundE, round, Behind, Since, cmp_front, not_front, is_front, between_front, in_front, CellsOf, ElseEnd, SomeWhens}
+use Rattle.mq_parse_expr.specs.StepLemmas.{quit, here, there, till, as_value, gives_as, fronted, one_more, cut_short, all_found}
 use Rattle.mq_parse_expr.proofs.FrontLemmas.{call_form, form_front, tail_front, at_front, leaf_left}
 use Rattle.mq_parse_expr.proofs.LevelLemmas.{or_no_first, or_no_others, or_no_next, or_no_more, and_no_first, and_no_others, and_no_next, and_no_more, sum_no_first, sum_no_others, sum_no_next, sum_no_more, prod_no_first, prod_no_others, prod_no_next, prod_no_more, exprs_no_first, exprs_no_others, exprs_no_next, exprs_no_more, places_no_next, places_no_more, not_no_not, not_no_plain, sign_no_minus, sign_no_plain, test_no_first, test_no_tail, cmp_no_sum, cmp_no_end, between_no_low, between_no_and, between_no_high, between_no_end, between_tail, in_no_tuple, in_no_end, in_tail, not_no_other, tuple_no_open, tuple_no_list, tuple_no_close, brackets_no_open, brackets_no_first, brackets_no_others, brackets_no_close, place_no_end, place_no_expr, stops_or, stops_and, stops_sum, stops_prod}
 use Rattle.mq_parse_expr.proofs.PrimLemmas.{prim_form, prim_rounded, prim_no_round, prim_no_closed, prim_no_end, closed_form, split_name, prim_no_path, path_no_end, cell_no_places, cell_no_end, round_no_open, round_no_inner, round_no_close, all_no_end, all_prim, agg_no_value, agg_no_end, agg_prim, measured, range_no_places, range_no_end, cast_no_open, cast_no_expr, cast_no_kind, cast_prim, rounded_no_open, rounded_no_expr, rounded_no_scale, rounded_prim, call_no_tuple, call_no_count, call_prim, case_no_subject, case_no_whens, case_no_else, case_prim, subject_no_expr, subject_no_when, else_no_expr, else_no_end, else_no_word}
 use Rattle.mq_parse_expr.proofs.ArmLemmas.{whens_init, whens_none, whens_no_test_at, whens_no_then_at, whens_no_value_at, whens_kept, whens_done}
 use Rattle.mq_parse_expr.proofs.expressions.+parser.Goals as goal
 
-pub read_expr-returns-in_err-first : goal.read_expr-returns-in_err-first
-read_expr-returns-in_err-first t c =
-    let p = err_from_is_err_and c.from_residual.result c.from_residual.ensures.1 in
-    rw (p.1, p.2) (exit c.in_err-first.field-0.0 c.in_err-first.ensures (or_no_first))
+pub read_or-returns-in_err-first : goal.read_or-returns-in_err-first
+read_or-returns-in_err-first t c =
+    quit Expr c.args.t.now c.args.at c.from_residual.result c.in_err-first.field-0.0 c.from_residual.ensures.1 c.in_err-first.ensures (or_no_first)
 
-pub read_expr-returns-in_err-others : goal.read_expr-returns-in_err-others
-read_expr-returns-in_err-others t c =
-    let p = err_from_is_err_and c.from_residual-in_err-others.result c.from_residual-in_err-others.ensures.1 in
-    rw (p.1, p.2) (exit c.in_err-others.field-0.0 c.in_err-others.ensures (or_no_others c.in_ok-first.ensures.2 c.in_ok-first.ensures.3))
+pub read_or-returns-in_err-others : goal.read_or-returns-in_err-others
+read_or-returns-in_err-others t c =
+    quit Expr c.args.t.now c.args.at c.from_residual-in_err-others.result c.in_err-others.field-0.0 c.from_residual-in_err-others.ensures.1 c.in_err-others.ensures (or_no_others c.in_ok-first.ensures.2 c.in_ok-first.ensures.3)
 
-pub read_expr-returns : goal.read_expr-returns
-read_expr-returns t c =
+pub read_or-returns : goal.read_or-returns
+read_or-returns t c =
     let f = c.in_ok-first.ensures in
     let o = c.in_ok-others.ensures in
     (omega (arith, f.0, o.0), o.1, as_value Expr c.in_ok-any_of.ensures (expr f.2 o.2), o.3)
 
 pub read_ors-returns-in_err-e : goal.read_ors-returns-in_err-e
 read_ors-returns-in_err-e t c =
-    let p = err_from_is_err_and c.from_residual.result c.from_residual.ensures.1 in
-    rw (p.1, p.2) (exit c.in_err-e.field-0.0 c.in_err-e.ensures (λ h. cut_short MoreOr (Stops level.CONJUNCTION) (Stops level.EXPRESSION) c.args.t.now c.args.at c.loop-behind.to c.loop-behind.found c.loop-behind.invariant (Word word.Or) c.in-Some.behind c.in-Some.ensures (or_no_next h)))
+    quit MoreOr c.args.t.now c.args.at c.from_residual.result c.in_err-e.field-0.0 c.from_residual.ensures.1 c.in_err-e.ensures (λ h. cut_short MoreOr (Stops level.CONJUNCTION) (Stops level.EXPRESSION) c.args.t.now c.args.at c.loop-behind.to c.loop-behind.found c.loop-behind.invariant (Word word.Or) c.in-Some.behind c.in-Some.ensures (or_no_next h))
 
 pub read_ors-loop-behind-preserved : goal.read_ors-loop-behind-preserved
 read_ors-loop-behind-preserved t c =
     let d = c.in_ok-e.ensures in
-    one_more MoreOr (Stops level.CONJUNCTION) (Stops level.EXPRESSION) c.args.t.now c.args.at c.loop-behind.to c.loop-behind.found c.loop-behind.invariant (Word word.Or) c.in-Some.behind c.in-Some.ensures c.in_ok-e.e c.in_ok-e.next c.push.new.self (λ rest last ds. or_more d.2 ds) (λ h. or_no_more d.2 d.3 h) d.3 d.0 d.1 c.in_ok-push.ensures.ok
+    one_more MoreOr (Stops level.CONJUNCTION) (Stops level.EXPRESSION) c.args.t.now c.args.at c.loop-behind.to c.loop-behind.found c.loop-behind.invariant (Word word.Or) c.in-Some.behind c.in-Some.ensures c.in_ok-e.e c.in_ok-e.next c.put.new.found (λ rest last ds. or_more d.2 ds) (λ h. or_no_more d.2 d.3 h) d.3 d.0 d.1 c.in_ok-put.ensures
 
 pub read_ors-returns : goal.read_ors-returns
 read_ors-returns t c =
@@ -55,13 +51,11 @@ read_ors-returns t c =
 
 pub read_and-returns-in_err-first : goal.read_and-returns-in_err-first
 read_and-returns-in_err-first t c =
-    let p = err_from_is_err_and c.from_residual.result c.from_residual.ensures.1 in
-    rw (p.1, p.2) (exit c.in_err-first.field-0.0 c.in_err-first.ensures (and_no_first))
+    quit AndE c.args.t.now c.args.at c.from_residual.result c.in_err-first.field-0.0 c.from_residual.ensures.1 c.in_err-first.ensures (and_no_first)
 
 pub read_and-returns-in_err-others : goal.read_and-returns-in_err-others
 read_and-returns-in_err-others t c =
-    let p = err_from_is_err_and c.from_residual-in_err-others.result c.from_residual-in_err-others.ensures.1 in
-    rw (p.1, p.2) (exit c.in_err-others.field-0.0 c.in_err-others.ensures (and_no_others c.in_ok-first.ensures.2 c.in_ok-first.ensures.3))
+    quit AndE c.args.t.now c.args.at c.from_residual-in_err-others.result c.in_err-others.field-0.0 c.from_residual-in_err-others.ensures.1 c.in_err-others.ensures (and_no_others c.in_ok-first.ensures.2 c.in_ok-first.ensures.3)
 
 pub read_and-returns : goal.read_and-returns
 read_and-returns t c =
@@ -71,13 +65,12 @@ read_and-returns t c =
 
 pub read_ands-returns-in_err-e : goal.read_ands-returns-in_err-e
 read_ands-returns-in_err-e t c =
-    let p = err_from_is_err_and c.from_residual.result c.from_residual.ensures.1 in
-    rw (p.1, p.2) (exit c.in_err-e.field-0.0 c.in_err-e.ensures (λ h. cut_short MoreAnd (Stops level.TEST) (Stops level.CONJUNCTION) c.args.t.now c.args.at c.loop-behind.to c.loop-behind.found c.loop-behind.invariant (Word word.And) c.in-Some.behind c.in-Some.ensures (and_no_next h)))
+    quit MoreAnd c.args.t.now c.args.at c.from_residual.result c.in_err-e.field-0.0 c.from_residual.ensures.1 c.in_err-e.ensures (λ h. cut_short MoreAnd (Stops level.TEST) (Stops level.CONJUNCTION) c.args.t.now c.args.at c.loop-behind.to c.loop-behind.found c.loop-behind.invariant (Word word.And) c.in-Some.behind c.in-Some.ensures (and_no_next h))
 
 pub read_ands-loop-behind-preserved : goal.read_ands-loop-behind-preserved
 read_ands-loop-behind-preserved t c =
     let d = c.in_ok-e.ensures in
-    one_more MoreAnd (Stops level.TEST) (Stops level.CONJUNCTION) c.args.t.now c.args.at c.loop-behind.to c.loop-behind.found c.loop-behind.invariant (Word word.And) c.in-Some.behind c.in-Some.ensures c.in_ok-e.e c.in_ok-e.next c.push.new.self (λ rest last ds. and_more d.2 ds) (λ h. and_no_more d.2 d.3 h) d.3 d.0 d.1 c.in_ok-push.ensures.ok
+    one_more MoreAnd (Stops level.TEST) (Stops level.CONJUNCTION) c.args.t.now c.args.at c.loop-behind.to c.loop-behind.found c.loop-behind.invariant (Word word.And) c.in-Some.behind c.in-Some.ensures c.in_ok-e.e c.in_ok-e.next c.put.new.found (λ rest last ds. and_more d.2 ds) (λ h. and_no_more d.2 d.3 h) d.3 d.0 d.1 c.in_ok-put.ensures
 
 pub read_ands-returns : goal.read_ands-returns
 read_ands-returns t c =
@@ -85,8 +78,7 @@ read_ands-returns t c =
 
 pub read_not-returns-in_err-e-in-Some : goal.read_not-returns-in_err-e-in-Some
 read_not-returns-in_err-e-in-Some t c =
-    let p = err_from_is_err_and c.from_residual.result c.from_residual.ensures.1 in
-    rw (p.1, p.2) (exit c.in_err-e-in-Some.field-0.0 c.in_err-e-in-Some.ensures (λ h. here NotE (Stops level.TEST) c.in-Some.ensures.2 (not_no_not h)))
+    quit NotE c.args.t.now c.args.at c.from_residual.result c.in_err-e-in-Some.field-0.0 c.from_residual.ensures.1 c.in_err-e-in-Some.ensures (λ h. here NotE (Stops level.TEST) c.in-Some.ensures.2 (not_no_not h))
 
 pub read_not-returns-in_ok-negation-in-Some : goal.read_not-returns-in_ok-negation-in-Some
 read_not-returns-in_ok-negation-in-Some t c =
@@ -100,8 +92,7 @@ read_not-returns-in-None t c =
 
 pub read_test-returns-in_err-a : goal.read_test-returns-in_err-a
 read_test-returns-in_err-a t c =
-    let p = err_from_is_err_and c.from_residual.result c.from_residual.ensures.1 in
-    rw (p.1, p.2) (exit c.in_err-a.field-0.0 c.in_err-a.ensures (test_no_first))
+    quit TestE c.args.t.now c.args.at c.from_residual.result c.in_err-a.field-0.0 c.from_residual.ensures.1 c.in_err-a.ensures (test_no_first)
 
 pub read_test-returns : goal.read_test-returns
 read_test-returns t c =
@@ -153,13 +144,11 @@ read_negated-returns-in_default t c =
 
 pub read_cmp-returns-in_err-b : goal.read_cmp-returns-in_err-b
 read_cmp-returns-in_err-b t c =
-    let p = err_from_is_err_and c.from_residual.result c.from_residual.ensures.1 in
-    rw (p.1, p.2) (exit c.in_err-b.field-0.0 c.in_err-b.ensures (cmp_no_sum))
+    quit (Since (cmp_front c.args.op) c.args.a) c.args.t.now c.args.at c.from_residual.result c.in_err-b.field-0.0 c.from_residual.ensures.1 c.in_err-b.ensures (cmp_no_sum)
 
 pub read_cmp-returns-in_err-settled : goal.read_cmp-returns-in_err-settled
 read_cmp-returns-in_err-settled t c =
-    let p = err_from_is_err_and c.from_residual-in_err-settled.result c.from_residual-in_err-settled.ensures.1 in
-    rw (p.1, p.2) (exit c.in_err-settled.field-0.0 c.in_err-settled.ensures (λ h. cmp_no_end (from c.args.t.now c.in_ok-b.to) c.in_ok-b.ensures.2 c.in_ok-b.ensures.3 h))
+    quit (Since (cmp_front c.args.op) c.args.a) c.args.t.now c.args.at c.from_residual-in_err-settled.result c.in_err-settled.field-0.0 c.from_residual-in_err-settled.ensures.1 c.in_err-settled.ensures (λ h. cmp_no_end (from c.args.t.now c.in_ok-b.to) c.in_ok-b.ensures.2 c.in_ok-b.ensures.3 h)
 
 pub read_cmp-returns : goal.read_cmp-returns
 read_cmp-returns t c =
@@ -168,23 +157,19 @@ read_cmp-returns t c =
 
 pub read_between-returns-in_err-low : goal.read_between-returns-in_err-low
 read_between-returns-in_err-low t c =
-    let p = err_from_is_err_and c.from_residual.result c.from_residual.ensures.1 in
-    rw (p.1, p.2) (exit c.in_err-low.field-0.0 c.in_err-low.ensures (between_no_low c.args.not))
+    quit (Since (between_front c.args.not) c.args.a) c.args.t.now c.args.at c.from_residual.result c.in_err-low.field-0.0 c.from_residual.ensures.1 c.in_err-low.ensures (between_no_low c.args.not)
 
 pub read_between-returns-in_err-mid : goal.read_between-returns-in_err-mid
 read_between-returns-in_err-mid t c =
-    let p = err_from_is_err_and c.from_residual-in_err-mid.result c.from_residual-in_err-mid.ensures.1 in
-    rw (p.1, p.2) (exit c.in_err-mid.field-0.0 c.in_err-mid.ensures (λ h. between_no_and c.args.not c.in_ok-low.ensures.2 c.in_ok-low.ensures.3 h))
+    quit (Since (between_front c.args.not) c.args.a) c.args.t.now c.args.at c.from_residual-in_err-mid.result c.in_err-mid.field-0.0 c.from_residual-in_err-mid.ensures.1 c.in_err-mid.ensures (λ h. between_no_and c.args.not c.in_ok-low.ensures.2 c.in_ok-low.ensures.3 h)
 
 pub read_between-returns-in_err-high : goal.read_between-returns-in_err-high
 read_between-returns-in_err-high t c =
-    let p = err_from_is_err_and c.from_residual-in_err-high.result c.from_residual-in_err-high.ensures.1 in
-    rw (p.1, p.2) (exit c.in_err-high.field-0.0 c.in_err-high.ensures (λ h. between_no_high c.args.not (till SumE c.in_ok-mid.ensures.2 c.in_ok-low.ensures.2) h))
+    quit (Since (between_front c.args.not) c.args.a) c.args.t.now c.args.at c.from_residual-in_err-high.result c.in_err-high.field-0.0 c.from_residual-in_err-high.ensures.1 c.in_err-high.ensures (λ h. between_no_high c.args.not (till SumE c.in_ok-mid.ensures.2 c.in_ok-low.ensures.2) h)
 
 pub read_between-returns-in_err-settled : goal.read_between-returns-in_err-settled
 read_between-returns-in_err-settled t c =
-    let p = err_from_is_err_and c.from_residual-in_err-settled.result c.from_residual-in_err-settled.ensures.1 in
-    rw (p.1, p.2) (exit c.in_err-settled.field-0.0 c.in_err-settled.ensures (λ h. between_no_end c.args.not (from c.args.t.now c.in_ok-high.to) (till SumE c.in_ok-mid.ensures.2 c.in_ok-low.ensures.2) c.in_ok-high.ensures.2 c.in_ok-high.ensures.3 h))
+    quit (Since (between_front c.args.not) c.args.a) c.args.t.now c.args.at c.from_residual-in_err-settled.result c.in_err-settled.field-0.0 c.from_residual-in_err-settled.ensures.1 c.in_err-settled.ensures (λ h. between_no_end c.args.not (from c.args.t.now c.in_ok-high.to) (till SumE c.in_ok-mid.ensures.2 c.in_ok-low.ensures.2) c.in_ok-high.ensures.2 c.in_ok-high.ensures.3 h)
 
 pub read_between-returns : goal.read_between-returns
 read_between-returns t c =
@@ -195,13 +180,11 @@ read_between-returns t c =
 
 pub read_in-returns-in_err-members : goal.read_in-returns-in_err-members
 read_in-returns-in_err-members t c =
-    let p = err_from_is_err_and c.from_residual.result c.from_residual.ensures.1 in
-    rw (p.1, p.2) (exit c.in_err-members.field-0.0 c.in_err-members.ensures (in_no_tuple c.args.not))
+    quit (Since (in_front c.args.not) c.args.a) c.args.t.now c.args.at c.from_residual.result c.in_err-members.field-0.0 c.from_residual.ensures.1 c.in_err-members.ensures (in_no_tuple c.args.not)
 
 pub read_in-returns-in_err-settled : goal.read_in-returns-in_err-settled
 read_in-returns-in_err-settled t c =
-    let p = err_from_is_err_and c.from_residual-in_err-settled.result c.from_residual-in_err-settled.ensures.1 in
-    rw (p.1, p.2) (exit c.in_err-settled.field-0.0 c.in_err-settled.ensures (λ h. in_no_end c.args.not (from c.args.t.now c.in_ok-members.to) c.in_ok-members.ensures.2 h))
+    quit (Since (in_front c.args.not) c.args.a) c.args.t.now c.args.at c.from_residual-in_err-settled.result c.in_err-settled.field-0.0 c.from_residual-in_err-settled.ensures.1 c.in_err-settled.ensures (λ h. in_no_end c.args.not (from c.args.t.now c.in_ok-members.to) c.in_ok-members.ensures.2 h)
 
 pub read_in-returns : goal.read_in-returns
 read_in-returns t c =
@@ -210,18 +193,15 @@ read_in-returns t c =
 
 pub read_tuple-returns-in_err-open : goal.read_tuple-returns-in_err-open
 read_tuple-returns-in_err-open t c =
-    let p = err_from_is_err_and c.from_residual.result c.from_residual.ensures.1 in
-    rw (p.1, p.2) (exit c.in_err-open.field-0.0 c.in_err-open.ensures (tuple_no_open))
+    quit Tuple c.args.t.now c.args.at c.from_residual.result c.in_err-open.field-0.0 c.from_residual.ensures.1 c.in_err-open.ensures (tuple_no_open)
 
 pub read_tuple-returns-in_err-list : goal.read_tuple-returns-in_err-list
 read_tuple-returns-in_err-list t c =
-    let p = err_from_is_err_and c.from_residual-in_err-list.result c.from_residual-in_err-list.ensures.1 in
-    rw (p.1, p.2) (exit c.in_err-list.field-0.0 c.in_err-list.ensures (λ h. here Tuple Anywhere c.in_ok-open.ensures.2 (tuple_no_list h)))
+    quit Tuple c.args.t.now c.args.at c.from_residual-in_err-list.result c.in_err-list.field-0.0 c.from_residual-in_err-list.ensures.1 c.in_err-list.ensures (λ h. here Tuple Anywhere c.in_ok-open.ensures.2 (tuple_no_list h))
 
 pub read_tuple-returns-in_err-to : goal.read_tuple-returns-in_err-to
 read_tuple-returns-in_err-to t c =
-    let p = err_from_is_err_and c.from_residual-in_err-to.result c.from_residual-in_err-to.ensures.1 in
-    rw (p.1, p.2) (exit c.in_err-to.field-0.0 c.in_err-to.ensures (λ h. here Tuple Anywhere c.in_ok-open.ensures.2 (tuple_no_close c.in_ok-list.ensures.2 c.in_ok-list.ensures.3 h)))
+    quit Tuple c.args.t.now c.args.at c.from_residual-in_err-to.result c.in_err-to.field-0.0 c.from_residual-in_err-to.ensures.1 c.in_err-to.ensures (λ h. here Tuple Anywhere c.in_ok-open.ensures.2 (tuple_no_close c.in_ok-list.ensures.2 c.in_ok-list.ensures.3 h))
 
 pub read_tuple-returns : goal.read_tuple-returns
 read_tuple-returns t c =
@@ -232,29 +212,26 @@ read_tuple-returns t c =
 
 pub read_exprs-returns-in_err-first : goal.read_exprs-returns-in_err-first
 read_exprs-returns-in_err-first t c =
-    let p = err_from_is_err_and c.from_residual.result c.from_residual.ensures.1 in
-    rw (p.1, p.2) (exit c.in_err-first.field-0.0 c.in_err-first.ensures (exprs_no_first))
+    quit Exprs c.args.t.now c.args.at c.from_residual.result c.in_err-first.field-0.0 c.from_residual.ensures.1 c.in_err-first.ensures (exprs_no_first)
 
 pub read_exprs-returns-in_err-all : goal.read_exprs-returns-in_err-all
 read_exprs-returns-in_err-all t c =
-    let p = err_from_is_err_and c.from_residual-in_err-all.result c.from_residual-in_err-all.ensures.1 in
-    rw (p.1, p.2) (exit c.in_err-all.field-0.0 c.in_err-all.ensures (exprs_no_others c.in_ok-first.ensures.2 c.in_ok-first.ensures.3))
+    quit Exprs c.args.t.now c.args.at c.from_residual-in_err-all.result c.in_err-all.field-0.0 c.from_residual-in_err-all.ensures.1 c.in_err-all.ensures (exprs_no_others c.in_ok-first.ensures.2 c.in_ok-first.ensures.3)
 
 pub read_exprs-returns : goal.read_exprs-returns
 read_exprs-returns t c =
     let f = c.in_ok-first.ensures in
     let o = c.in_ok-all.ensures in
-    (omega (arith, f.0, o.0), o.1, as_value Exprs c.in_ok-put_first.ensures.ok (exprs f.2 o.2), o.3)
+    (omega (arith, f.0, o.0), o.1, as_value Exprs c.in_ok-put_before.ensures (exprs f.2 o.2), o.3)
 
 pub read_more_exprs-returns-in_err-e : goal.read_more_exprs-returns-in_err-e
 read_more_exprs-returns-in_err-e t c =
-    let p = err_from_is_err_and c.from_residual.result c.from_residual.ensures.1 in
-    rw (p.1, p.2) (exit c.in_err-e.field-0.0 c.in_err-e.ensures (λ h. cut_short MoreExprs (Stops level.EXPRESSION) (Ends (terminal.Sign sign.Comma)) c.args.t.now c.args.at c.loop-behind.to c.loop-behind.found c.loop-behind.invariant comma c.in-Some.behind c.in-Some.ensures (exprs_no_next h)))
+    quit MoreExprs c.args.t.now c.args.at c.from_residual.result c.in_err-e.field-0.0 c.from_residual.ensures.1 c.in_err-e.ensures (λ h. cut_short MoreExprs (Stops level.EXPRESSION) (Ends (terminal.Sign sign.Comma)) c.args.t.now c.args.at c.loop-behind.to c.loop-behind.found c.loop-behind.invariant comma c.in-Some.behind c.in-Some.ensures (exprs_no_next h))
 
 pub read_more_exprs-loop-behind-preserved : goal.read_more_exprs-loop-behind-preserved
 read_more_exprs-loop-behind-preserved t c =
     let d = c.in_ok-e.ensures in
-    one_more MoreExprs (Stops level.EXPRESSION) (Ends (terminal.Sign sign.Comma)) c.args.t.now c.args.at c.loop-behind.to c.loop-behind.found c.loop-behind.invariant comma c.in-Some.behind c.in-Some.ensures c.in_ok-e.e c.in_ok-e.next c.push.new.self (λ rest last ds. exprs_more d.2 ds) (λ h. exprs_no_more d.2 d.3 h) d.3 d.0 d.1 c.in_ok-push.ensures.ok
+    one_more MoreExprs (Stops level.EXPRESSION) (Ends (terminal.Sign sign.Comma)) c.args.t.now c.args.at c.loop-behind.to c.loop-behind.found c.loop-behind.invariant comma c.in-Some.behind c.in-Some.ensures c.in_ok-e.e c.in_ok-e.next c.put.new.found (λ rest last ds. exprs_more d.2 ds) (λ h. exprs_no_more d.2 d.3 h) d.3 d.0 d.1 c.in_ok-put.ensures
 
 pub read_more_exprs-returns : goal.read_more_exprs-returns
 read_more_exprs-returns t c =
@@ -262,13 +239,11 @@ read_more_exprs-returns t c =
 
 pub read_sum-returns-in_err-first : goal.read_sum-returns-in_err-first
 read_sum-returns-in_err-first t c =
-    let p = err_from_is_err_and c.from_residual.result c.from_residual.ensures.1 in
-    rw (p.1, p.2) (exit c.in_err-first.field-0.0 c.in_err-first.ensures (sum_no_first))
+    quit SumE c.args.t.now c.args.at c.from_residual.result c.in_err-first.field-0.0 c.from_residual.ensures.1 c.in_err-first.ensures (sum_no_first)
 
 pub read_sum-returns-in_err-others : goal.read_sum-returns-in_err-others
 read_sum-returns-in_err-others t c =
-    let p = err_from_is_err_and c.from_residual-in_err-others.result c.from_residual-in_err-others.ensures.1 in
-    rw (p.1, p.2) (exit c.in_err-others.field-0.0 c.in_err-others.ensures (sum_no_others c.in_ok-first.ensures.2 c.in_ok-first.ensures.3))
+    quit SumE c.args.t.now c.args.at c.from_residual-in_err-others.result c.in_err-others.field-0.0 c.from_residual-in_err-others.ensures.1 c.in_err-others.ensures (sum_no_others c.in_ok-first.ensures.2 c.in_ok-first.ensures.3)
 
 pub read_sum-returns : goal.read_sum-returns
 read_sum-returns t c =
@@ -278,13 +253,12 @@ read_sum-returns t c =
 
 pub read_sums-returns-in_err-e : goal.read_sums-returns-in_err-e
 read_sums-returns-in_err-e t c =
-    let p = err_from_is_err_and c.from_residual.result c.from_residual.ensures.1 in
-    rw (p.1, p.2) (exit c.in_err-e.field-0.0 c.in_err-e.ensures (λ h. cut_short MoreSum (Stops level.PRODUCT) (Stops level.SUM) c.args.t.now c.args.at c.loop-op.to c.loop-op.found c.loop-op.invariant (Sign (sign.Sum c.in-Some.op)) (c.loop-op.to + 1) c.in-Some.ensures (sum_no_next h)))
+    quit MoreSum c.args.t.now c.args.at c.from_residual.result c.in_err-e.field-0.0 c.from_residual.ensures.1 c.in_err-e.ensures (λ h. cut_short MoreSum (Stops level.PRODUCT) (Stops level.SUM) c.args.t.now c.args.at c.loop-op.to c.loop-op.found c.loop-op.invariant (Sign (sign.Sum c.in-Some.op)) (c.loop-op.to + 1) c.in-Some.ensures (sum_no_next h))
 
 pub read_sums-loop-op-preserved : goal.read_sums-loop-op-preserved
 read_sums-loop-op-preserved t c =
     let d = c.in_ok-e.ensures in
-    one_more MoreSum (Stops level.PRODUCT) (Stops level.SUM) c.args.t.now c.args.at c.loop-op.to c.loop-op.found c.loop-op.invariant (Sign (sign.Sum c.in-Some.op)) (c.loop-op.to + 1) c.in-Some.ensures (sum_term c.in-Some.op c.in_ok-e.e) c.in_ok-e.next c.push.new.self (λ rest last ds. sum_more d.2 ds) (λ h. sum_no_more d.2 d.3 h) d.3 d.0 d.1 c.in_ok-push.ensures.ok
+    one_more MoreSum (Stops level.PRODUCT) (Stops level.SUM) c.args.t.now c.args.at c.loop-op.to c.loop-op.found c.loop-op.invariant (Sign (sign.Sum c.in-Some.op)) (c.loop-op.to + 1) c.in-Some.ensures (sum_term c.in-Some.op c.in_ok-e.e) c.in_ok-e.next c.put_sum.new.found (λ rest last ds. sum_more d.2 ds) (λ h. sum_no_more d.2 d.3 h) d.3 d.0 d.1 c.in_ok-put_sum.ensures
 
 pub read_sums-returns : goal.read_sums-returns
 read_sums-returns t c =
@@ -292,13 +266,11 @@ read_sums-returns t c =
 
 pub read_prod-returns-in_err-first : goal.read_prod-returns-in_err-first
 read_prod-returns-in_err-first t c =
-    let p = err_from_is_err_and c.from_residual.result c.from_residual.ensures.1 in
-    rw (p.1, p.2) (exit c.in_err-first.field-0.0 c.in_err-first.ensures (prod_no_first))
+    quit ProdE c.args.t.now c.args.at c.from_residual.result c.in_err-first.field-0.0 c.from_residual.ensures.1 c.in_err-first.ensures (prod_no_first)
 
 pub read_prod-returns-in_err-others : goal.read_prod-returns-in_err-others
 read_prod-returns-in_err-others t c =
-    let p = err_from_is_err_and c.from_residual-in_err-others.result c.from_residual-in_err-others.ensures.1 in
-    rw (p.1, p.2) (exit c.in_err-others.field-0.0 c.in_err-others.ensures (prod_no_others c.in_ok-first.ensures.2 c.in_ok-first.ensures.3))
+    quit ProdE c.args.t.now c.args.at c.from_residual-in_err-others.result c.in_err-others.field-0.0 c.from_residual-in_err-others.ensures.1 c.in_err-others.ensures (prod_no_others c.in_ok-first.ensures.2 c.in_ok-first.ensures.3)
 
 pub read_prod-returns : goal.read_prod-returns
 read_prod-returns t c =
@@ -308,13 +280,12 @@ read_prod-returns t c =
 
 pub read_prods-returns-in_err-e : goal.read_prods-returns-in_err-e
 read_prods-returns-in_err-e t c =
-    let p = err_from_is_err_and c.from_residual.result c.from_residual.ensures.1 in
-    rw (p.1, p.2) (exit c.in_err-e.field-0.0 c.in_err-e.ensures (λ h. cut_short MoreProd (Stops level.PRIMARY) (Stops level.PRODUCT) c.args.t.now c.args.at c.loop-op.to c.loop-op.found c.loop-op.invariant (Sign (sign.Prod c.in-Some.op)) (c.loop-op.to + 1) c.in-Some.ensures (prod_no_next h)))
+    quit MoreProd c.args.t.now c.args.at c.from_residual.result c.in_err-e.field-0.0 c.from_residual.ensures.1 c.in_err-e.ensures (λ h. cut_short MoreProd (Stops level.PRIMARY) (Stops level.PRODUCT) c.args.t.now c.args.at c.loop-op.to c.loop-op.found c.loop-op.invariant (Sign (sign.Prod c.in-Some.op)) (c.loop-op.to + 1) c.in-Some.ensures (prod_no_next h))
 
 pub read_prods-loop-op-preserved : goal.read_prods-loop-op-preserved
 read_prods-loop-op-preserved t c =
     let d = c.in_ok-e.ensures in
-    one_more MoreProd (Stops level.PRIMARY) (Stops level.PRODUCT) c.args.t.now c.args.at c.loop-op.to c.loop-op.found c.loop-op.invariant (Sign (sign.Prod c.in-Some.op)) (c.loop-op.to + 1) c.in-Some.ensures (prod_term c.in-Some.op c.in_ok-e.e) c.in_ok-e.next c.push.new.self (λ rest last ds. prod_more d.2 ds) (λ h. prod_no_more d.2 d.3 h) d.3 d.0 d.1 c.in_ok-push.ensures.ok
+    one_more MoreProd (Stops level.PRIMARY) (Stops level.PRODUCT) c.args.t.now c.args.at c.loop-op.to c.loop-op.found c.loop-op.invariant (Sign (sign.Prod c.in-Some.op)) (c.loop-op.to + 1) c.in-Some.ensures (prod_term c.in-Some.op c.in_ok-e.e) c.in_ok-e.next c.put_prod.new.found (λ rest last ds. prod_more d.2 ds) (λ h. prod_no_more d.2 d.3 h) d.3 d.0 d.1 c.in_ok-put_prod.ensures
 
 pub read_prods-returns : goal.read_prods-returns
 read_prods-returns t c =
@@ -322,8 +293,7 @@ read_prods-returns t c =
 
 pub read_sign-returns-in_err-e-in-Some : goal.read_sign-returns-in_err-e-in-Some
 read_sign-returns-in_err-e-in-Some t c =
-    let p = err_from_is_err_and c.from_residual.result c.from_residual.ensures.1 in
-    rw (p.1, p.2) (exit c.in_err-e-in-Some.field-0.0 c.in_err-e-in-Some.ensures (λ h. here SignE (Stops level.PRIMARY) c.in-Some.ensures.2 (sign_no_minus h)))
+    quit SignE c.args.t.now c.args.at c.from_residual.result c.in_err-e-in-Some.field-0.0 c.from_residual.ensures.1 c.in_err-e-in-Some.ensures (λ h. here SignE (Stops level.PRIMARY) c.in-Some.ensures.2 (sign_no_minus h))
 
 pub read_sign-returns-in_ok-signed-in-Some : goal.read_sign-returns-in_ok-signed-in-Some
 read_sign-returns-in_ok-signed-in-Some t c =
@@ -346,18 +316,16 @@ read_prim-returns-in-Other t c =
 
 pub read_prim-returns-in_err-e-in_default : goal.read_prim-returns-in_err-e-in_default
 read_prim-returns-in_err-e-in_default t c =
-    let p = err_from_is_err_and c.from_residual.result c.from_residual.ensures.1 in
-    rw (p.1, p.2) (exit c.in_err-e-in_default.field-0.0 c.in_err-e-in_default.ensures (prim_no_closed))
+    quit PrimE c.args.t.now c.args.at c.from_residual.result c.in_err-e-in_default.field-0.0 c.from_residual.ensures.1 c.in_err-e-in_default.ensures (prim_no_closed)
 
 pub read_prim-returns-in_err-settled-in_default : goal.read_prim-returns-in_err-settled-in_default
 read_prim-returns-in_err-settled-in_default t c =
-    let p = err_from_is_err_and c.from_residual-in_err-settled-in_default.result c.from_residual-in_err-settled-in_default.ensures.1 in
-    rw (p.1, p.2) (exit c.in_err-settled-in_default.field-0.0 c.in_err-settled-in_default.ensures (λ h. prim_no_end (from c.args.t.now c.in_ok-e-in_default.to) (closed_form c.form_at.result (terminal_at (from c.args.t.now c.args.at)) c.form_at.ensures.form c.in_default.not-Name c.in_default.not-Aggregate c.in_default.not-Other) c.in_ok-e-in_default.ensures.2 h))
+    quit PrimE c.args.t.now c.args.at c.from_residual-in_err-settled-in_default.result c.in_err-settled-in_default.field-0.0 c.from_residual-in_err-settled-in_default.ensures.1 c.in_err-settled-in_default.ensures (λ h. prim_no_end (from c.args.t.now c.in_ok-e-in_default.to) (closed_form c.form_at.result (terminal_at (from c.args.t.now c.args.at)) c.form_at.ensures.form c.in_default.not-Name c.in_default.not-Aggregate c.in_default.not-Other) c.in_ok-e-in_default.ensures.2 h)
 
 pub read_closed-returns-in-Brackets : goal.read_closed-returns-in-Brackets
 read_closed-returns-in-Brackets t c =
     let f = form_front form.Brackets (from c.args.t.now c.args.at) (sym c.in-Brackets.is ∙ c.requires.begins) in
-    gives_as PrimE RoundE Anywhere Anywhere c.args.t.now c.args.at c.args.at c.read_round.result (omega arith) (λ a to d s. (prim_rounded d, tt)) (λ h. here PrimE Anywhere f (prim_no_round (here RoundE Anywhere (sym f) h))) c.read_round.ensures
+    gives_as PrimE RoundE Anywhere Anywhere c.args.t.now c.args.at c.args.at c.read_inner.result (omega arith) (λ a to d s. (prim_rounded d, tt)) (λ h. here PrimE Anywhere f (prim_no_round (here RoundE Anywhere (sym f) h))) c.read_inner.ensures
 
 pub read_closed-returns-in-Case : goal.read_closed-returns-in-Case
 read_closed-returns-in-Case t c =
@@ -376,8 +344,7 @@ read_closed-returns-in-Round t c =
 
 pub read_closed-read_call-requires : goal.read_closed-read_call-requires
 read_closed-read_call-requires t c =
-    let i = c.requires.in_range in
-    (omega (arith, i), (i, call_form c.in-Call.word (from c.args.t.now c.args.at) (sym c.in-Call.is ∙ c.requires.begins)))
+    (omega (arith, c.requires.in_range), call_form c.in-Call.word (from c.args.t.now c.args.at) (sym c.in-Call.is ∙ c.requires.begins))
 
 pub read_closed-returns-in-Call : goal.read_closed-returns-in-Call
 read_closed-returns-in-Call t c =
@@ -394,46 +361,41 @@ read_closed-read_leaf-requires t c =
 
 pub read_name-returns-in_err-path : goal.read_name-returns-in_err-path
 read_name-returns-in_err-path t c =
-    let p = err_from_is_err_and c.from_residual.result c.from_residual.ensures.1 in
-    rw (p.1, p.2) (exit c.in_err-path.field-0.0 c.in_err-path.ensures (λ h. let n = (split_name (from c.args.t.now c.args.at) c.requires.begins) in here PrimE (Stops level.PRIMARY) n.1 (prim_no_path (here PathE (Stops level.PATH) (sym n.1) h))))
+    quit PrimE c.args.t.now c.args.at c.from_residual.result c.in_err-path.field-0.0 c.from_residual.ensures.1 c.in_err-path.ensures (λ h. let n = (split_name (from c.args.t.now c.args.at) c.requires.begins) in here PrimE (Stops level.PRIMARY) n.1 (prim_no_path (here PathE (Stops level.PATH) (sym n.1) h)))
 
 pub read_name-returns-in_err-settled : goal.read_name-returns-in_err-settled
 read_name-returns-in_err-settled t c =
-    let p = err_from_is_err_and c.from_residual-in_err-settled.result c.from_residual-in_err-settled.ensures.1 in
-    rw (p.1, p.2) (exit c.in_err-settled.field-0.0 c.in_err-settled.ensures (λ h. let n = (split_name (from c.args.t.now c.args.at) c.requires.begins) in here PrimE (Stops level.PRIMARY) n.1 (path_no_end (from c.args.t.now c.in_ok-path.mid) (there PathE (sym n.1) c.in_ok-path.ensures.2) c.in_ok-path.ensures.3 c.in_default.ensures h)))
+    quit PrimE c.args.t.now c.args.at c.from_residual-in_err-settled.result c.in_err-settled.field-0.0 c.from_residual-in_err-settled.ensures.1 c.in_err-settled.ensures (λ h. let n = (split_name (from c.args.t.now c.args.at) c.requires.begins) in here PrimE (Stops level.PRIMARY) n.1 (path_no_end (from c.args.t.now c.in_ok-path.mid) (there PathE (sym n.1) c.in_ok-path.ensures.2) c.in_ok-path.ensures.3 c.in_default.ensures h))
 
 pub read_name-returns-in_default : goal.read_name-returns-in_default
 read_name-returns-in_default t c =
     let n = (split_name (from c.args.t.now c.args.at) c.requires.begins) in
     let p = c.in_ok-path.ensures in
-    (p.0, p.1, there PrimE n.1 (prim_path (there PathE (sym n.1) p.2)), c.in_ok-settled.ensures)
+    (p.0, p.1, as_value PrimE c.in_ok-named.ensures (there PrimE n.1 (prim_path (there PathE (sym n.1) p.2))), c.in_ok-settled.ensures)
 
 pub read_name-returns-in_err-places : goal.read_name-returns-in_err-places
 read_name-returns-in_err-places t c =
-    let p = err_from_is_err_and c.from_residual-in_err-places.result c.from_residual-in_err-places.ensures.1 in
-    rw (p.1, p.2) (exit c.in_err-places.field-0.0 c.in_err-places.ensures (λ h. let n = (split_name (from c.args.t.now c.args.at) c.requires.begins) in here PrimE (Stops level.PRIMARY) n.1 (cell_no_places (there PathE (sym n.1) c.in_ok-path.ensures.2) c.in_ok-path.ensures.3 (ap terminal_at c.in-Some.ensures.2) h)))
+    quit PrimE c.args.t.now c.args.at c.from_residual-in_err-places.result c.in_err-places.field-0.0 c.from_residual-in_err-places.ensures.1 c.in_err-places.ensures (λ h. let n = (split_name (from c.args.t.now c.args.at) c.requires.begins) in here PrimE (Stops level.PRIMARY) n.1 (cell_no_places (there PathE (sym n.1) c.in_ok-path.ensures.2) c.in_ok-path.ensures.3 (ap terminal_at c.in-Some.ensures.2) h))
 
 pub read_name-returns-in_err-settled-2 : goal.read_name-returns-in_err-settled-2
 read_name-returns-in_err-settled-2 t c =
-    let p = err_from_is_err_and c.from_residual-in_err-settled-2.result c.from_residual-in_err-settled-2.ensures.1 in
-    rw (p.1, p.2) (exit c.in_err-settled-2.field-0.0 c.in_err-settled-2.ensures (λ h. let n = (split_name (from c.args.t.now c.args.at) c.requires.begins) in here PrimE (Stops level.PRIMARY) n.1 (cell_no_end (from c.args.t.now c.in_ok-places.to) (there PathE (sym n.1) c.in_ok-path.ensures.2) c.in_ok-path.ensures.3 c.in_ok-places.ensures.2 h)))
+    quit PrimE c.args.t.now c.args.at c.from_residual-in_err-settled-2.result c.in_err-settled-2.field-0.0 c.from_residual-in_err-settled-2.ensures.1 c.in_err-settled-2.ensures (λ h. let n = (split_name (from c.args.t.now c.args.at) c.requires.begins) in here PrimE (Stops level.PRIMARY) n.1 (cell_no_end (from c.args.t.now c.in_ok-places.to) (there PathE (sym n.1) c.in_ok-path.ensures.2) c.in_ok-path.ensures.3 c.in_ok-places.ensures.2 h))
 
 pub read_name-returns : goal.read_name-returns
 read_name-returns t c =
     let n = (split_name (from c.args.t.now c.args.at) c.requires.begins) in
     let p = c.in_ok-path.ensures in
     let b = c.in_ok-places.ensures in
-    (omega (arith, p.0, b.0), b.1, there PrimE n.1 (prim_cell (there PathE (sym n.1) p.2) b.2), c.in_ok-settled-2.ensures)
+    (omega (arith, p.0, b.0), b.1, as_value PrimE c.in_ok-cell.ensures (there PrimE n.1 (prim_cell (there PathE (sym n.1) p.2) b.2)), c.in_ok-settled-2.ensures)
 
 pub read_agg-returns-in_err-settled-in-All : goal.read_agg-returns-in_err-settled-in-All
 read_agg-returns-in_err-settled-in-All t c =
-    let p = err_from_is_err_and c.from_residual.result c.from_residual.ensures.1 in
-    rw (p.1, p.2) (exit c.in_err-settled-in-All.field-0.0 c.in_err-settled-in-All.ensures (λ h. here (Behind (Aggregate c.args.agg)) (Stops level.PRIMARY) c.in-All.ensures.3 (all_no_end h)))
+    quit (Behind (Aggregate c.args.agg)) c.args.t.now c.args.at c.from_residual.result c.in_err-settled-in-All.field-0.0 c.from_residual.ensures.1 c.in_err-settled-in-All.ensures (λ h. here (Behind (Aggregate c.args.agg)) (Stops level.PRIMARY) c.in-All.ensures.3 (all_no_end h))
 
-pub read_agg-returns-in_ok-settled-in-All : goal.read_agg-returns-in_ok-settled-in-All
-read_agg-returns-in_ok-settled-in-All t c =
+pub read_agg-returns-in_ok-counted-in-All : goal.read_agg-returns-in_ok-counted-in-All
+read_agg-returns-in_ok-counted-in-All t c =
     let a = c.in-All.ensures in
-    (a.1, a.2, all_prim a.0 a.3, c.in_ok-settled-in-All.ensures)
+    (a.1, a.2, as_value (Behind (Aggregate c.args.agg)) c.in_ok-counted-in-All.ensures (all_prim a.0 a.3), c.in_ok-settled-in-All.ensures)
 
 pub read_agg-returns-in_ok-measure-in-Cells : goal.read_agg-returns-in_ok-measure-in-Cells
 read_agg-returns-in_ok-measure-in-Cells t c =
@@ -442,13 +404,11 @@ read_agg-returns-in_ok-measure-in-Cells t c =
 
 pub read_agg-returns-in_err-e-in-Values : goal.read_agg-returns-in_err-e-in-Values
 read_agg-returns-in_err-e-in-Values t c =
-    let p = err_from_is_err_and c.from_residual-in_err-e-in-Values.result c.from_residual-in_err-e-in-Values.ensures.1 in
-    rw (p.1, p.2) (exit c.in_err-e-in-Values.field-0.0 c.in_err-e-in-Values.ensures (λ h. agg_no_value c.in-Values.ensures.0 c.in-Values.ensures.1 h))
+    quit (Behind (Aggregate c.args.agg)) c.args.t.now c.args.at c.from_residual-in_err-e-in-Values.result c.in_err-e-in-Values.field-0.0 c.from_residual-in_err-e-in-Values.ensures.1 c.in_err-e-in-Values.ensures (λ h. agg_no_value c.in-Values.ensures.0 c.in-Values.ensures.1 h)
 
 pub read_agg-returns-in_err-settled-in-Values : goal.read_agg-returns-in_err-settled-in-Values
 read_agg-returns-in_err-settled-in-Values t c =
-    let p = err_from_is_err_and c.from_residual-in_err-settled-in-Values.result c.from_residual-in_err-settled-in-Values.ensures.1 in
-    rw (p.1, p.2) (exit c.in_err-settled-in-Values.field-0.0 c.in_err-settled-in-Values.ensures (λ h. agg_no_end (from c.args.t.now c.in_ok-e-in-Values.to) c.in-Values.ensures.0 c.in-Values.ensures.1 c.in_ok-e-in-Values.ensures.2 h))
+    quit (Behind (Aggregate c.args.agg)) c.args.t.now c.args.at c.from_residual-in_err-settled-in-Values.result c.in_err-settled-in-Values.field-0.0 c.from_residual-in_err-settled-in-Values.ensures.1 c.in_err-settled-in-Values.ensures (λ h. agg_no_end (from c.args.t.now c.in_ok-e-in-Values.to) c.in-Values.ensures.0 c.in-Values.ensures.1 c.in_ok-e-in-Values.ensures.2 h)
 
 pub read_agg-returns-in_ok-aggregate-in-Values : goal.read_agg-returns-in_ok-aggregate-in-Values
 read_agg-returns-in_ok-aggregate-in-Values t c =
@@ -457,36 +417,31 @@ read_agg-returns-in_ok-aggregate-in-Values t c =
 
 pub read_range-returns-in_err-places : goal.read_range-returns-in_err-places
 read_range-returns-in_err-places t c =
-    let p = err_from_is_err_and c.from_residual.result c.from_residual.ensures.1 in
-    rw (p.1, p.2) (exit c.in_err-places.field-0.0 c.in_err-places.ensures (range_no_places c.requires.begins))
+    quit (CellsOf c.args.agg c.args.measure) c.args.t.now c.args.at c.from_residual.result c.in_err-places.field-0.0 c.from_residual.ensures.1 c.in_err-places.ensures (range_no_places c.requires.begins)
 
 pub read_range-returns-in_err-settled : goal.read_range-returns-in_err-settled
 read_range-returns-in_err-settled t c =
-    let p = err_from_is_err_and c.from_residual-in_err-settled.result c.from_residual-in_err-settled.ensures.1 in
-    rw (p.1, p.2) (exit c.in_err-settled.field-0.0 c.in_err-settled.ensures (λ h. range_no_end (from c.args.t.now c.in_ok-places.to) c.in_ok-places.ensures.2 h))
+    quit (CellsOf c.args.agg c.args.measure) c.args.t.now c.args.at c.from_residual-in_err-settled.result c.in_err-settled.field-0.0 c.from_residual-in_err-settled.ensures.1 c.in_err-settled.ensures (λ h. range_no_end (from c.args.t.now c.in_ok-places.to) c.in_ok-places.ensures.2 h)
 
 pub read_range-returns : goal.read_range-returns
 read_range-returns t c =
     let b = c.in_ok-places.ensures in
-    (b.0, b.1, prim_range b.2, c.in_ok-settled.ensures)
+    (b.0, b.1, as_value (CellsOf c.args.agg c.args.measure) c.in_ok-range.ensures (prim_range b.2), c.in_ok-settled.ensures)
 
-pub read_round-returns-in_err-open : goal.read_round-returns-in_err-open
-read_round-returns-in_err-open t c =
-    let p = err_from_is_err_and c.from_residual.result c.from_residual.ensures.1 in
-    rw (p.1, p.2) (exit c.in_err-open.field-0.0 c.in_err-open.ensures (round_no_open))
+pub read_inner-returns-in_err-open : goal.read_inner-returns-in_err-open
+read_inner-returns-in_err-open t c =
+    quit RoundE c.args.t.now c.args.at c.from_residual.result c.in_err-open.field-0.0 c.from_residual.ensures.1 c.in_err-open.ensures (round_no_open)
 
-pub read_round-returns-in_err-e : goal.read_round-returns-in_err-e
-read_round-returns-in_err-e t c =
-    let p = err_from_is_err_and c.from_residual-in_err-e.result c.from_residual-in_err-e.ensures.1 in
-    rw (p.1, p.2) (exit c.in_err-e.field-0.0 c.in_err-e.ensures (λ h. here RoundE Anywhere c.in_ok-open.ensures.2 (round_no_inner h)))
+pub read_inner-returns-in_err-e : goal.read_inner-returns-in_err-e
+read_inner-returns-in_err-e t c =
+    quit RoundE c.args.t.now c.args.at c.from_residual-in_err-e.result c.in_err-e.field-0.0 c.from_residual-in_err-e.ensures.1 c.in_err-e.ensures (λ h. here RoundE Anywhere c.in_ok-open.ensures.2 (round_no_inner h))
 
-pub read_round-returns-in_err-to : goal.read_round-returns-in_err-to
-read_round-returns-in_err-to t c =
-    let p = err_from_is_err_and c.from_residual-in_err-to.result c.from_residual-in_err-to.ensures.1 in
-    rw (p.1, p.2) (exit c.in_err-to.field-0.0 c.in_err-to.ensures (λ h. here RoundE Anywhere c.in_ok-open.ensures.2 (round_no_close c.in_ok-e.ensures.2 c.in_ok-e.ensures.3 h)))
+pub read_inner-returns-in_err-to : goal.read_inner-returns-in_err-to
+read_inner-returns-in_err-to t c =
+    quit RoundE c.args.t.now c.args.at c.from_residual-in_err-to.result c.in_err-to.field-0.0 c.from_residual-in_err-to.ensures.1 c.in_err-to.ensures (λ h. here RoundE Anywhere c.in_ok-open.ensures.2 (round_no_close c.in_ok-e.ensures.2 c.in_ok-e.ensures.3 h))
 
-pub read_round-returns : goal.read_round-returns
-read_round-returns t c =
+pub read_inner-returns : goal.read_inner-returns
+read_inner-returns t c =
     let o = c.in_ok-open.ensures in
     let e = c.in_ok-e.ensures in
     let k = c.in_ok-to.ensures in
@@ -494,18 +449,15 @@ read_round-returns t c =
 
 pub read_cast-returns-in_err-open : goal.read_cast-returns-in_err-open
 read_cast-returns-in_err-open t c =
-    let p = err_from_is_err_and c.from_residual.result c.from_residual.ensures.1 in
-    rw (p.1, p.2) (exit c.in_err-open.field-0.0 c.in_err-open.ensures (cast_no_open))
+    quit (Behind (Word word.Cast)) c.args.t.now c.args.at c.from_residual.result c.in_err-open.field-0.0 c.from_residual.ensures.1 c.in_err-open.ensures (cast_no_open)
 
 pub read_cast-returns-in_err-e : goal.read_cast-returns-in_err-e
 read_cast-returns-in_err-e t c =
-    let p = err_from_is_err_and c.from_residual-in_err-e.result c.from_residual-in_err-e.ensures.1 in
-    rw (p.1, p.2) (exit c.in_err-e.field-0.0 c.in_err-e.ensures (λ h. here (Behind (Word word.Cast)) Anywhere c.in_ok-open.ensures.2 (cast_no_expr h)))
+    quit (Behind (Word word.Cast)) c.args.t.now c.args.at c.from_residual-in_err-e.result c.in_err-e.field-0.0 c.from_residual-in_err-e.ensures.1 c.in_err-e.ensures (λ h. here (Behind (Word word.Cast)) Anywhere c.in_ok-open.ensures.2 (cast_no_expr h))
 
 pub read_cast-returns-in_err-kind : goal.read_cast-returns-in_err-kind
 read_cast-returns-in_err-kind t c =
-    let p = err_from_is_err_and c.from_residual-in_err-kind.result c.from_residual-in_err-kind.ensures.1 in
-    rw (p.1, p.2) (exit c.in_err-kind.field-0.0 c.in_err-kind.ensures (λ h. here (Behind (Word word.Cast)) Anywhere c.in_ok-open.ensures.2 (cast_no_kind c.in_ok-e.ensures.2 c.in_ok-e.ensures.3 h)))
+    quit (Behind (Word word.Cast)) c.args.t.now c.args.at c.from_residual-in_err-kind.result c.in_err-kind.field-0.0 c.from_residual-in_err-kind.ensures.1 c.in_err-kind.ensures (λ h. here (Behind (Word word.Cast)) Anywhere c.in_ok-open.ensures.2 (cast_no_kind c.in_ok-e.ensures.2 c.in_ok-e.ensures.3 h))
 
 pub read_cast-returns : goal.read_cast-returns
 read_cast-returns t c =
@@ -516,18 +468,15 @@ read_cast-returns t c =
 
 pub read_rounded-returns-in_err-open : goal.read_rounded-returns-in_err-open
 read_rounded-returns-in_err-open t c =
-    let p = err_from_is_err_and c.from_residual.result c.from_residual.ensures.1 in
-    rw (p.1, p.2) (exit c.in_err-open.field-0.0 c.in_err-open.ensures (rounded_no_open))
+    quit (Behind (Word word.Round)) c.args.t.now c.args.at c.from_residual.result c.in_err-open.field-0.0 c.from_residual.ensures.1 c.in_err-open.ensures (rounded_no_open)
 
 pub read_rounded-returns-in_err-e : goal.read_rounded-returns-in_err-e
 read_rounded-returns-in_err-e t c =
-    let p = err_from_is_err_and c.from_residual-in_err-e.result c.from_residual-in_err-e.ensures.1 in
-    rw (p.1, p.2) (exit c.in_err-e.field-0.0 c.in_err-e.ensures (λ h. here (Behind (Word word.Round)) Anywhere c.in_ok-open.ensures.2 (rounded_no_expr h)))
+    quit (Behind (Word word.Round)) c.args.t.now c.args.at c.from_residual-in_err-e.result c.in_err-e.field-0.0 c.from_residual-in_err-e.ensures.1 c.in_err-e.ensures (λ h. here (Behind (Word word.Round)) Anywhere c.in_ok-open.ensures.2 (rounded_no_expr h))
 
 pub read_rounded-returns-in_err-places : goal.read_rounded-returns-in_err-places
 read_rounded-returns-in_err-places t c =
-    let p = err_from_is_err_and c.from_residual-in_err-places.result c.from_residual-in_err-places.ensures.1 in
-    rw (p.1, p.2) (exit c.in_err-places.field-0.0 c.in_err-places.ensures (λ h. here (Behind (Word word.Round)) Anywhere c.in_ok-open.ensures.2 (rounded_no_scale c.in_ok-e.ensures.2 c.in_ok-e.ensures.3 h)))
+    quit (Behind (Word word.Round)) c.args.t.now c.args.at c.from_residual-in_err-places.result c.in_err-places.field-0.0 c.from_residual-in_err-places.ensures.1 c.in_err-places.ensures (λ h. here (Behind (Word word.Round)) Anywhere c.in_ok-open.ensures.2 (rounded_no_scale c.in_ok-e.ensures.2 c.in_ok-e.ensures.3 h))
 
 pub read_rounded-returns : goal.read_rounded-returns
 read_rounded-returns t c =
@@ -538,8 +487,7 @@ read_rounded-returns t c =
 
 pub read_call-returns-in_err-args : goal.read_call-returns-in_err-args
 read_call-returns-in_err-args t c =
-    let p = err_from_is_err_and c.from_residual.result c.from_residual.ensures.1 in
-    rw (p.1, p.2) (exit c.in_err-args.field-0.0 c.in_err-args.ensures (call_no_tuple c.args.word c.requires.calls))
+    quit (Behind (Word c.args.word)) c.args.t.now c.args.at c.from_residual.result c.in_err-args.field-0.0 c.from_residual.ensures.1 c.in_err-args.ensures (call_no_tuple c.args.word c.requires)
 
 pub read_call-returns-in-Some : goal.read_call-returns-in-Some
 read_call-returns-in-Some t c =
@@ -548,70 +496,62 @@ read_call-returns-in-Some t c =
 
 pub read_call-returns-in-None : goal.read_call-returns-in-None
 read_call-returns-in-None t c =
-    call_no_count c.args.word c.requires.calls c.in_ok-args.ensures.2 (sym c.in-None.is ∙ c.in_ok-e.ensures)
+    call_no_count c.args.word c.requires c.in_ok-args.ensures.2 (sym c.in-None.is ∙ c.in_ok-e.ensures)
 
 pub read_case-returns-in_err-subject : goal.read_case-returns-in_err-subject
 read_case-returns-in_err-subject t c =
-    let p = err_from_is_err_and c.from_residual.result c.from_residual.ensures.1 in
-    rw (p.1, p.2) (exit c.in_err-subject.field-0.0 c.in_err-subject.ensures (case_no_subject))
+    quit (Behind (Word word.Case)) c.args.t.now c.args.at c.from_residual.result c.in_err-subject.field-0.0 c.from_residual.ensures.1 c.in_err-subject.ensures (case_no_subject)
 
 pub read_case-returns-in_err-arms : goal.read_case-returns-in_err-arms
 read_case-returns-in_err-arms t c =
-    let p = err_from_is_err_and c.from_residual-in_err-arms.result c.from_residual-in_err-arms.ensures.1 in
-    rw (p.1, p.2) (exit c.in_err-arms.field-0.0 c.in_err-arms.ensures (λ h. case_no_whens c.in_ok-subject.ensures.2 c.in_ok-subject.ensures.3 h))
+    quit (Behind (Word word.Case)) c.args.t.now c.args.at c.from_residual-in_err-arms.result c.in_err-arms.field-0.0 c.from_residual-in_err-arms.ensures.1 c.in_err-arms.ensures (λ h. case_no_whens c.in_ok-subject.ensures.2 c.in_ok-subject.ensures.3 h)
 
 pub read_case-returns-in_err-other : goal.read_case-returns-in_err-other
 read_case-returns-in_err-other t c =
-    let p = err_from_is_err_and c.from_residual-in_err-other.result c.from_residual-in_err-other.ensures.1 in
-    rw (p.1, p.2) (exit c.in_err-other.field-0.0 c.in_err-other.ensures (λ h. case_no_else c.in_ok-subject.ensures.2 c.in_ok-subject.ensures.3 c.in_ok-arms.ensures.2 c.in_ok-arms.ensures.3 h))
+    quit (Behind (Word word.Case)) c.args.t.now c.args.at c.from_residual-in_err-other.result c.in_err-other.field-0.0 c.from_residual-in_err-other.ensures.1 c.in_err-other.ensures (λ h. case_no_else c.in_ok-subject.ensures.2 c.in_ok-subject.ensures.3 c.in_ok-arms.ensures.2 c.in_ok-arms.ensures.3 h)
 
 pub read_case-returns : goal.read_case-returns
 read_case-returns t c =
     let s = c.in_ok-subject.ensures in
     let a = c.in_ok-arms.ensures in
     let o = c.in_ok-other.ensures in
-    (omega (arith, s.0, a.0, o.0), o.1, case_prim c.in_ok-arms.arms s.2 a.2 o.2, tt)
+    (omega (arith, s.0, a.0, o.0), o.1, as_value (Behind (Word word.Case)) c.in_ok-case.ensures (case_prim c.in_ok-arms.arms s.2 a.2 o.2), tt)
 
 pub read_subject-returns-in-Some : goal.read_subject-returns-in-Some
 read_subject-returns-in-Some t c =
-    (omega arith, c.requires, case_none, ap terminal_at c.in-Some.ensures.2)
+    (omega arith, omega (arith, c.in-Some.ensures.0, c.in-Some.ensures.1), case_none, ap terminal_at c.in-Some.ensures.2)
 
 pub read_subject-returns-in_err-e-in-None : goal.read_subject-returns-in_err-e-in-None
 read_subject-returns-in_err-e-in-None t c =
-    let p = err_from_is_err_and c.from_residual.result c.from_residual.ensures.1 in
-    rw (p.1, p.2) (exit c.in_err-e-in-None.field-0.0 c.in_err-e-in-None.ensures (λ h. subject_no_expr c.in-None.ensures h))
+    quit CaseE c.args.t.now c.args.at c.from_residual.result c.in_err-e-in-None.field-0.0 c.from_residual.ensures.1 c.in_err-e-in-None.ensures (λ h. subject_no_expr c.in-None.ensures h)
 
 pub read_subject-returns-in_err-pass_word-in-None : goal.read_subject-returns-in_err-pass_word-in-None
 read_subject-returns-in_err-pass_word-in-None t c =
-    let p = err_from_is_err_and c.from_residual-in_err-pass_word-in-None.result c.from_residual-in_err-pass_word-in-None.ensures.1 in
-    rw (p.1, p.2) (exit c.in_err-pass_word-in-None.field-0.0 c.in_err-pass_word-in-None.ensures (λ h. subject_no_when c.in-None.ensures c.in_ok-e-in-None.ensures.2 c.in_ok-e-in-None.ensures.3 h))
+    quit CaseE c.args.t.now c.args.at c.from_residual-in_err-pass_word-in-None.result c.in_err-pass_word-in-None.field-0.0 c.from_residual-in_err-pass_word-in-None.ensures.1 c.in_err-pass_word-in-None.ensures (λ h. subject_no_when c.in-None.ensures c.in_ok-e-in-None.ensures.2 c.in_ok-e-in-None.ensures.3 h)
 
-pub read_subject-returns-in_ok-new-in-None : goal.read_subject-returns-in_ok-new-in-None
-read_subject-returns-in_ok-new-in-None t c =
+pub read_subject-returns-in_ok-pass_word-in-None : goal.read_subject-returns-in_ok-pass_word-in-None
+read_subject-returns-in_ok-pass_word-in-None t c =
     let e = c.in_ok-e-in-None.ensures in
-    (e.0, e.1, as_value CaseE (ap Some c.in_ok-new-in-None.ensures) (case_some e.2), ap terminal_at c.in_ok-pass_word-in-None.ensures.2)
+    (e.0, e.1, case_some e.2, ap terminal_at c.in_ok-pass_word-in-None.ensures.2)
 
 pub read_else-returns-in_err-e-in-Some : goal.read_else-returns-in_err-e-in-Some
 read_else-returns-in_err-e-in-Some t c =
-    let p = err_from_is_err_and c.from_residual.result c.from_residual.ensures.1 in
-    rw (p.1, p.2) (exit c.in_err-e-in-Some.field-0.0 c.in_err-e-in-Some.ensures (λ h. here ElseEnd Anywhere c.in-Some.ensures.2 (else_no_expr h)))
+    quit ElseEnd c.args.t.now c.args.at c.from_residual.result c.in_err-e-in-Some.field-0.0 c.from_residual.ensures.1 c.in_err-e-in-Some.ensures (λ h. here ElseEnd Anywhere c.in-Some.ensures.2 (else_no_expr h))
 
 pub read_else-returns-in_err-to-in-Some : goal.read_else-returns-in_err-to-in-Some
 read_else-returns-in_err-to-in-Some t c =
-    let p = err_from_is_err_and c.from_residual-in_err-to-in-Some.result c.from_residual-in_err-to-in-Some.ensures.1 in
-    rw (p.1, p.2) (exit c.in_err-to-in-Some.field-0.0 c.in_err-to-in-Some.ensures (λ h. here ElseEnd Anywhere c.in-Some.ensures.2 (else_no_end c.in_ok-e-in-Some.ensures.2 c.in_ok-e-in-Some.ensures.3 h)))
+    quit ElseEnd c.args.t.now c.args.at c.from_residual-in_err-to-in-Some.result c.in_err-to-in-Some.field-0.0 c.from_residual-in_err-to-in-Some.ensures.1 c.in_err-to-in-Some.ensures (λ h. here ElseEnd Anywhere c.in-Some.ensures.2 (else_no_end c.in_ok-e-in-Some.ensures.2 c.in_ok-e-in-Some.ensures.3 h))
 
-pub read_else-returns-in_ok-new-in-Some : goal.read_else-returns-in_ok-new-in-Some
-read_else-returns-in_ok-new-in-Some t c =
+pub read_else-returns-in_ok-to-in-Some : goal.read_else-returns-in_ok-to-in-Some
+read_else-returns-in_ok-to-in-Some t c =
     let b = c.in-Some.ensures in
     let e = c.in_ok-e-in-Some.ensures in
     let k = c.in_ok-to-in-Some.ensures in
-    (omega (arith, b.0, e.0, k.0), k.1, as_value ElseEnd (ap Some c.in_ok-new-in-Some.ensures) (there ElseEnd b.2 (else_some (till Expr k.2 e.2))), tt)
+    (omega (arith, b.0, e.0, k.0), k.1, there ElseEnd b.2 (else_some (till Expr k.2 e.2)), tt)
 
 pub read_else-returns-in_err-to-in-None : goal.read_else-returns-in_err-to-in-None
 read_else-returns-in_err-to-in-None t c =
-    let p = err_from_is_err_and c.from_residual-in_err-to-in-None.result c.from_residual-in_err-to-in-None.ensures.1 in
-    rw (p.1, p.2) (exit c.in_err-to-in-None.field-0.0 c.in_err-to-in-None.ensures (λ h. else_no_word c.in-None.ensures h))
+    quit ElseEnd c.args.t.now c.args.at c.from_residual-in_err-to-in-None.result c.in_err-to-in-None.field-0.0 c.from_residual-in_err-to-in-None.ensures.1 c.in_err-to-in-None.ensures (λ h. else_no_word c.in-None.ensures h)
 
 pub read_else-returns-in_ok-to-in-None : goal.read_else-returns-in_ok-to-in-None
 read_else-returns-in_ok-to-in-None t c =
@@ -620,23 +560,19 @@ read_else-returns-in_ok-to-in-None t c =
 
 pub read_brackets-returns-in_err-open : goal.read_brackets-returns-in_err-open
 read_brackets-returns-in_err-open t c =
-    let p = err_from_is_err_and c.from_residual.result c.from_residual.ensures.1 in
-    rw (p.1, p.2) (exit c.in_err-open.field-0.0 c.in_err-open.ensures (brackets_no_open))
+    quit Brackets c.args.t.now c.args.at c.from_residual.result c.in_err-open.field-0.0 c.from_residual.ensures.1 c.in_err-open.ensures (brackets_no_open)
 
 pub read_brackets-returns-in_err-first : goal.read_brackets-returns-in_err-first
 read_brackets-returns-in_err-first t c =
-    let p = err_from_is_err_and c.from_residual-in_err-first.result c.from_residual-in_err-first.ensures.1 in
-    rw (p.1, p.2) (exit c.in_err-first.field-0.0 c.in_err-first.ensures (λ h. here Brackets Anywhere c.in_ok-open.ensures.2 (brackets_no_first h)))
+    quit Brackets c.args.t.now c.args.at c.from_residual-in_err-first.result c.in_err-first.field-0.0 c.from_residual-in_err-first.ensures.1 c.in_err-first.ensures (λ h. here Brackets Anywhere c.in_ok-open.ensures.2 (brackets_no_first h))
 
 pub read_brackets-returns-in_err-all : goal.read_brackets-returns-in_err-all
 read_brackets-returns-in_err-all t c =
-    let p = err_from_is_err_and c.from_residual-in_err-all.result c.from_residual-in_err-all.ensures.1 in
-    rw (p.1, p.2) (exit c.in_err-all.field-0.0 c.in_err-all.ensures (λ h. here Brackets Anywhere c.in_ok-open.ensures.2 (brackets_no_others c.in_ok-first.ensures.2 c.in_ok-first.ensures.3 h)))
+    quit Brackets c.args.t.now c.args.at c.from_residual-in_err-all.result c.in_err-all.field-0.0 c.from_residual-in_err-all.ensures.1 c.in_err-all.ensures (λ h. here Brackets Anywhere c.in_ok-open.ensures.2 (brackets_no_others c.in_ok-first.ensures.2 c.in_ok-first.ensures.3 h))
 
 pub read_brackets-returns-in_err-to : goal.read_brackets-returns-in_err-to
 read_brackets-returns-in_err-to t c =
-    let p = err_from_is_err_and c.from_residual-in_err-to.result c.from_residual-in_err-to.ensures.1 in
-    rw (p.1, p.2) (exit c.in_err-to.field-0.0 c.in_err-to.ensures (λ h. here Brackets Anywhere c.in_ok-open.ensures.2 (brackets_no_close c.in_ok-first.ensures.2 c.in_ok-first.ensures.3 c.in_ok-all.ensures.2 c.in_ok-all.ensures.3 h)))
+    quit Brackets c.args.t.now c.args.at c.from_residual-in_err-to.result c.in_err-to.field-0.0 c.from_residual-in_err-to.ensures.1 c.in_err-to.ensures (λ h. here Brackets Anywhere c.in_ok-open.ensures.2 (brackets_no_close c.in_ok-first.ensures.2 c.in_ok-first.ensures.3 c.in_ok-all.ensures.2 c.in_ok-all.ensures.3 h))
 
 pub read_brackets-returns : goal.read_brackets-returns
 read_brackets-returns t c =
@@ -644,17 +580,16 @@ read_brackets-returns t c =
     let f = c.in_ok-first.ensures in
     let a = c.in_ok-all.ensures in
     let k = c.in_ok-to.ensures in
-    (omega (arith, o.0, f.0, a.0, k.0), k.1, as_value Brackets c.in_ok-put_first.ensures.ok (there Brackets o.2 (brackets f.2 (till MorePlaces k.2 a.2))), tt)
+    (omega (arith, o.0, f.0, a.0, k.0), k.1, as_value Brackets c.in_ok-put_before.ensures (there Brackets o.2 (brackets f.2 (till MorePlaces k.2 a.2))), tt)
 
 pub read_places-returns-in_err-place : goal.read_places-returns-in_err-place
 read_places-returns-in_err-place t c =
-    let p = err_from_is_err_and c.from_residual.result c.from_residual.ensures.1 in
-    rw (p.1, p.2) (exit c.in_err-place.field-0.0 c.in_err-place.ensures (λ h. cut_short MorePlaces (Stops level.EXPRESSION) (Ends (terminal.Sign sign.Comma)) c.args.t.now c.args.at c.loop-behind.to c.loop-behind.found c.loop-behind.invariant comma c.in-Some.behind c.in-Some.ensures (places_no_next h)))
+    quit MorePlaces c.args.t.now c.args.at c.from_residual.result c.in_err-place.field-0.0 c.from_residual.ensures.1 c.in_err-place.ensures (λ h. cut_short MorePlaces (Stops level.EXPRESSION) (Ends (terminal.Sign sign.Comma)) c.args.t.now c.args.at c.loop-behind.to c.loop-behind.found c.loop-behind.invariant comma c.in-Some.behind c.in-Some.ensures (places_no_next h))
 
 pub read_places-loop-behind-preserved : goal.read_places-loop-behind-preserved
 read_places-loop-behind-preserved t c =
     let d = c.in_ok-place.ensures in
-    one_more MorePlaces (Stops level.EXPRESSION) (Ends (terminal.Sign sign.Comma)) c.args.t.now c.args.at c.loop-behind.to c.loop-behind.found c.loop-behind.invariant comma c.in-Some.behind c.in-Some.ensures c.in_ok-place.place c.in_ok-place.next c.push.new.self (λ rest last ds. places_more d.2 ds) (λ h. places_no_more d.2 d.3 h) d.3 d.0 d.1 c.in_ok-push.ensures.ok
+    one_more MorePlaces (Stops level.EXPRESSION) (Ends (terminal.Sign sign.Comma)) c.args.t.now c.args.at c.loop-behind.to c.loop-behind.found c.loop-behind.invariant comma c.in-Some.behind c.in-Some.ensures c.in_ok-place.place c.in_ok-place.next c.put.new.found (λ rest last ds. places_more d.2 ds) (λ h. places_no_more d.2 d.3 h) d.3 d.0 d.1 c.in_ok-put.ensures
 
 pub read_places-returns : goal.read_places-returns
 read_places-returns t c =
@@ -662,23 +597,21 @@ read_places-returns t c =
 
 pub read_place-returns-in_err-settled-in-Some : goal.read_place-returns-in_err-settled-in-Some
 read_place-returns-in_err-settled-in-Some t c =
-    let p = err_from_is_err_and c.from_residual.result c.from_residual.ensures.1 in
-    rw (p.1, p.2) (exit c.in_err-settled-in-Some.field-0.0 c.in_err-settled-in-Some.ensures (λ h. here PlaceE (Stops level.EXPRESSION) c.in-Some.ensures.2 (place_no_end h)))
+    quit PlaceE c.args.t.now c.args.at c.from_residual.result c.in_err-settled-in-Some.field-0.0 c.from_residual.ensures.1 c.in_err-settled-in-Some.ensures (λ h. here PlaceE (Stops level.EXPRESSION) c.in-Some.ensures.2 (place_no_end h))
 
-pub read_place-returns-in_ok-settled-in-Some : goal.read_place-returns-in_ok-settled-in-Some
-read_place-returns-in_ok-settled-in-Some t c =
+pub read_place-returns-in_ok-any_place-in-Some : goal.read_place-returns-in_ok-any_place-in-Some
+read_place-returns-in_ok-any_place-in-Some t c =
     let b = c.in-Some.ensures in
-    (omega (arith, b.0), b.1, there PlaceE b.2 place_any, c.in_ok-settled-in-Some.ensures)
+    (omega (arith, b.0), b.1, as_value PlaceE c.in_ok-any_place-in-Some.ensures (there PlaceE b.2 place_any), c.in_ok-settled-in-Some.ensures)
 
 pub read_place-returns-in_err-e-in-None : goal.read_place-returns-in_err-e-in-None
 read_place-returns-in_err-e-in-None t c =
-    let p = err_from_is_err_and c.from_residual-in_err-e-in-None.result c.from_residual-in_err-e-in-None.ensures.1 in
-    rw (p.1, p.2) (exit c.in_err-e-in-None.field-0.0 c.in_err-e-in-None.ensures (λ h. place_no_expr c.in-None.ensures h))
+    quit PlaceE c.args.t.now c.args.at c.from_residual-in_err-e-in-None.result c.in_err-e-in-None.field-0.0 c.from_residual-in_err-e-in-None.ensures.1 c.in_err-e-in-None.ensures (λ h. place_no_expr c.in-None.ensures h)
 
-pub read_place-returns-in_ok-e-in-None : goal.read_place-returns-in_ok-e-in-None
-read_place-returns-in_ok-e-in-None t c =
+pub read_place-returns-in_ok-place_of-in-None : goal.read_place-returns-in_ok-place_of-in-None
+read_place-returns-in_ok-place_of-in-None t c =
     let e = c.in_ok-e-in-None.ensures in
-    (e.0, e.1, place_expr e.2, e.3)
+    (e.0, e.1, as_value PlaceE c.in_ok-place_of-in-None.ensures (place_expr e.2), e.3)
 
 pub read_whens-loop-found-init : goal.read_whens-loop-found-init
 read_whens-loop-found-init t c =
@@ -686,30 +619,26 @@ read_whens-loop-found-init t c =
 
 pub read_whens-returns-in_err-to : goal.read_whens-returns-in_err-to
 read_whens-returns-in_err-to t c =
-    let p = err_from_is_err_and c.from_residual.result c.from_residual.ensures.1 in
-    rw (p.1, p.2) (exit c.in_err-to.field-0.0 c.in_err-to.ensures (whens_none))
+    quit SomeWhens c.args.t.now c.args.at c.from_residual.result c.in_err-to.field-0.0 c.from_residual.ensures.1 c.in_err-to.ensures (whens_none)
 
 pub read_whens-returns-in_err-test : goal.read_whens-returns-in_err-test
 read_whens-returns-in_err-test t c =
-    let p = err_from_is_err_and c.from_residual-in_err-test.result c.from_residual-in_err-test.ensures.1 in
-    rw (p.1, p.2) (exit c.in_err-test.field-0.0 c.in_err-test.ensures (whens_no_test_at c.args.t.now c.args.at c.loop-found.to c.loop-found.found c.loop-found.invariant))
+    quit SomeWhens c.args.t.now c.args.at c.from_residual-in_err-test.result c.in_err-test.field-0.0 c.from_residual-in_err-test.ensures.1 c.in_err-test.ensures (whens_no_test_at c.args.t.now c.args.at c.loop-found.to c.loop-found.found c.loop-found.invariant)
 
 pub read_whens-returns-in_err-mid : goal.read_whens-returns-in_err-mid
 read_whens-returns-in_err-mid t c =
-    let p = err_from_is_err_and c.from_residual-in_err-mid.result c.from_residual-in_err-mid.ensures.1 in
-    rw (p.1, p.2) (exit c.in_err-mid.field-0.0 c.in_err-mid.ensures (whens_no_then_at c.args.t.now c.args.at c.loop-found.to c.loop-found.found c.loop-found.invariant c.in_ok-test.ensures.2 c.in_ok-test.ensures.3))
+    quit SomeWhens c.args.t.now c.args.at c.from_residual-in_err-mid.result c.in_err-mid.field-0.0 c.from_residual-in_err-mid.ensures.1 c.in_err-mid.ensures (whens_no_then_at c.args.t.now c.args.at c.loop-found.to c.loop-found.found c.loop-found.invariant c.in_ok-test.ensures.2 c.in_ok-test.ensures.3)
 
 pub read_whens-returns-in_err-value : goal.read_whens-returns-in_err-value
 read_whens-returns-in_err-value t c =
-    let p = err_from_is_err_and c.from_residual-in_err-value.result c.from_residual-in_err-value.ensures.1 in
-    rw (p.1, p.2) (exit c.in_err-value.field-0.0 c.in_err-value.ensures (whens_no_value_at c.args.t.now c.args.at c.loop-found.to c.loop-found.found c.loop-found.invariant c.in_ok-test.test c.in_ok-test.end c.in_ok-mid.mid c.in_ok-test.ensures.2 c.in_ok-mid.ensures))
+    quit SomeWhens c.args.t.now c.args.at c.from_residual-in_err-value.result c.in_err-value.field-0.0 c.from_residual-in_err-value.ensures.1 c.in_err-value.ensures (whens_no_value_at c.args.t.now c.args.at c.loop-found.to c.loop-found.found c.loop-found.invariant c.in_ok-test.test c.in_ok-test.end c.in_ok-mid.mid c.in_ok-test.ensures.2 c.in_ok-mid.ensures)
 
 pub read_whens-loop-found-preserved : goal.read_whens-loop-found-preserved
 read_whens-loop-found-preserved t c =
     let v = c.in_ok-value.ensures in
-    whens_kept c.args.t.now c.args.at c.loop-found.to c.loop-found.found c.loop-found.invariant c.in_ok-test.test c.in_ok-test.end c.in_ok-mid.mid c.in_ok-test.ensures.2 c.in_ok-mid.ensures c.in_ok-value.value c.in_ok-value.next v.2 v.3 (omega (arith, v.0, c.in_ok-test.ensures.0, c.in_ok-mid.ensures.0)) v.1 c.push.new.self c.in_ok-push.ensures.ok c.in-Some.behind c.in-Some.ensures
+    whens_kept c.args.t.now c.args.at c.loop-found.to c.loop-found.found c.loop-found.invariant c.in_ok-test.test c.in_ok-test.end c.in_ok-mid.mid c.in_ok-test.ensures.2 c.in_ok-mid.ensures c.in_ok-value.value c.in_ok-value.next v.2 v.3 (omega (arith, v.0, c.in_ok-test.ensures.0, c.in_ok-mid.ensures.0)) v.1 c.put_arm.new.found c.in_ok-put_arm.ensures c.in-Some.behind c.in-Some.ensures
 
 pub read_whens-returns-in-None : goal.read_whens-returns-in-None
 read_whens-returns-in-None t c =
     let v = c.in_ok-value.ensures in
-    whens_done c.args.t.now c.args.at c.loop-found.to c.loop-found.found c.loop-found.invariant c.in_ok-test.test c.in_ok-test.end c.in_ok-mid.mid c.in_ok-test.ensures.2 c.in_ok-mid.ensures c.in_ok-value.value c.in_ok-value.next v.2 v.3 (omega (arith, v.0, c.in_ok-test.ensures.0, c.in_ok-mid.ensures.0)) v.1 c.push.new.self c.in_ok-push.ensures.ok c.in-None.ensures
+    whens_done c.args.t.now c.args.at c.loop-found.to c.loop-found.found c.loop-found.invariant c.in_ok-test.test c.in_ok-test.end c.in_ok-mid.mid c.in_ok-test.ensures.2 c.in_ok-mid.ensures c.in_ok-value.value c.in_ok-value.next v.2 v.3 (omega (arith, v.0, c.in_ok-test.ensures.0, c.in_ok-mid.ensures.0)) v.1 c.put_arm.new.found c.in_ok-put_arm.ensures c.in-None.ensures

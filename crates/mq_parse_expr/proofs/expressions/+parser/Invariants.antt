@@ -1,4 +1,4 @@
-use Rattle.std.proofs.Common.{◌+◌, ◌-◌, ◌*◌, ◌≤◌, length}
+use Rattle.std.proofs.Common.{◌+◌, ◌-◌, ◌*◌, length}
 use Rattle.mq_ast.specs.declared.terminals.Symbol.TheVariants as sign
 use Rattle.mq_ast.specs.declared.terminals.Terminal.TheVariants as terminal
 use Rattle.mq_ast.specs.declared.levels.TheConstants as level
@@ -38,8 +38,8 @@ decreases-read_whens l = 40 * (length l.t.now - l.at) + 18
 abbrev pub decreases-read_else : goal.decreases-read_else
 decreases-read_else l = 40 * (length l.t.now - l.at) + 18
 
-abbrev pub decreases-read_expr : goal.decreases-read_expr
-decreases-read_expr l = 40 * (length l.t.now - l.at) + 18
+abbrev pub decreases-read_or : goal.decreases-read_or
+decreases-read_or l = 40 * (length l.t.now - l.at) + 18
 
 abbrev pub decreases-read_ors : goal.decreases-read_ors
 decreases-read_ors l = 40 * (length l.t.now - l.at) + 17
@@ -101,8 +101,8 @@ decreases-read_agg l = 40 * (length l.t.now - l.at) + 25
 abbrev pub decreases-read_range : goal.decreases-read_range
 decreases-read_range l = 40 * (length l.t.now - l.at) + 6
 
-abbrev pub decreases-read_round : goal.decreases-read_round
-decreases-read_round l = 40 * (length l.t.now - l.at) + 5
+abbrev pub decreases-read_inner : goal.decreases-read_inner
+decreases-read_inner l = 40 * (length l.t.now - l.at) + 5
 
 abbrev pub decreases-read_cast : goal.decreases-read_cast
 decreases-read_cast l = 40 * (length l.t.now - l.at) + 5

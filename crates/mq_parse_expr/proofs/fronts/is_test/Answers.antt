@@ -1,7 +1,6 @@
-use Rattle.std.proofs.Common.{◌≡◌, ◌<◌, ◌≤◌, ◌+◌, ◌∷◌, refl, sym, ap, ◌∙◌, arith}
-use Rattle.std.proofs.lemmas.Result.{err_from_is_err_and}
-use Rattle.mq_parse_expr.specs.StepLemmas.{exit, here, there, as_value, gives_as, fronted}
-use Rattle.mq_parse_expr.specs.Reading.{from, Anywhere}
+use Rattle.std.proofs.Common.{arith}
+use Rattle.mq_parse_expr.specs.StepLemmas.{here, there, gives_as}
+use Rattle.mq_parse_expr.specs.Reading.{Anywhere}
 use Rattle.mq_parse_expr.proofs.FrontLemmas.{is_no_not, is_no_plain}
 use Rattle.std.proofs.Common.{true, false}
 use Rattle.mq_parse_expr.specs.Fronts.{NullOrPresent, IsTestE, asks_any, asks, asks_not}

@@ -1,9 +1,7 @@
-use Rattle.std.proofs.Common.{◌≡◌, ◌<◌, ◌≤◌, ◌+◌, ◌∷◌, refl, sym, ap, ◌∙◌, arith}
-use Rattle.std.proofs.lemmas.Result.{err_from_is_err_and}
-use Rattle.mq_parse_expr.specs.StepLemmas.{exit, here, there, as_value, gives_as, fronted}
-use Rattle.mq_parse_expr.specs.Reading.{from, Anywhere}
+use Rattle.std.proofs.Common.{arith}
+use Rattle.mq_parse_expr.specs.StepLemmas.{quit, here, there}
+use Rattle.mq_parse_expr.specs.Reading.{Anywhere}
 use Rattle.mq_parse_expr.proofs.FrontLemmas.{as_no_as, as_no_kind, as_no_close}
-use Rattle.mq_lexer.specs.declared.keywords.Keyword.TheVariants as word
 use Rattle.mq_ast.specs.GrammarNames.{KindE}
 use Rattle.mq_parse_expr.specs.StepLemmas.{till}
 use Rattle.mq_parse_expr.specs.Fronts.{AsKind, as_kind}
@@ -11,18 +9,15 @@ use Rattle.mq_parse_expr.proofs.fronts.read_as_kind.Goals as goal
 
 pub returns-in_err-mid : goal.returns-in_err-mid
 returns-in_err-mid c =
-    let p = err_from_is_err_and c.from_residual.result c.from_residual.ensures.1 in
-    rw (p.1, p.2) (exit c.in_err-mid.field-0.0 c.in_err-mid.ensures (as_no_as))
+    quit AsKind c.args.t.now c.args.at c.from_residual.result c.in_err-mid.field-0.0 c.from_residual.ensures.1 c.in_err-mid.ensures (as_no_as)
 
 pub returns-in_err-kind : goal.returns-in_err-kind
 returns-in_err-kind c =
-    let p = err_from_is_err_and c.from_residual-in_err-kind.result c.from_residual-in_err-kind.ensures.1 in
-    rw (p.1, p.2) (exit c.in_err-kind.field-0.0 c.in_err-kind.ensures (λ h. here AsKind Anywhere c.in_ok-mid.ensures.2 (as_no_kind h)))
+    quit AsKind c.args.t.now c.args.at c.from_residual-in_err-kind.result c.in_err-kind.field-0.0 c.from_residual-in_err-kind.ensures.1 c.in_err-kind.ensures (λ h. here AsKind Anywhere c.in_ok-mid.ensures.2 (as_no_kind h))
 
 pub returns-in_err-to : goal.returns-in_err-to
 returns-in_err-to c =
-    let p = err_from_is_err_and c.from_residual-in_err-to.result c.from_residual-in_err-to.ensures.1 in
-    rw (p.1, p.2) (exit c.in_err-to.field-0.0 c.in_err-to.ensures (λ h. here AsKind Anywhere c.in_ok-mid.ensures.2 (as_no_close c.in_ok-kind.ensures.2 h)))
+    quit AsKind c.args.t.now c.args.at c.from_residual-in_err-to.result c.in_err-to.field-0.0 c.from_residual-in_err-to.ensures.1 c.in_err-to.ensures (λ h. here AsKind Anywhere c.in_ok-mid.ensures.2 (as_no_close c.in_ok-kind.ensures.2 h))
 
 pub returns : goal.returns
 returns c =

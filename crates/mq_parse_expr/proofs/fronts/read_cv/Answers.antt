@@ -1,7 +1,6 @@
-use Rattle.std.proofs.Common.{◌≡◌, ◌<◌, ◌≤◌, ◌+◌, ◌∷◌, refl, sym, ap, ◌∙◌, arith}
-use Rattle.std.proofs.lemmas.Result.{err_from_is_err_and}
-use Rattle.mq_parse_expr.specs.StepLemmas.{exit, here, there, as_value, gives_as, fronted}
-use Rattle.mq_parse_expr.specs.Reading.{from, Anywhere}
+use Rattle.std.proofs.Common.{◌∷◌, ap, ◌∙◌, arith}
+use Rattle.mq_parse_expr.specs.StepLemmas.{quit, here, there}
+use Rattle.mq_parse_expr.specs.Reading.{Anywhere}
 use Rattle.mq_parse_expr.proofs.FrontLemmas.{cv_no_open, cv_no_name, cv_no_close}
 use Rattle.mq_lexer.specs.declared.keywords.Keyword.TheVariants as word
 use Rattle.mq_ast.specs.Tokens.{Word, Name, opener}
@@ -12,8 +11,7 @@ use Rattle.mq_parse_expr.proofs.fronts.read_cv.Goals as goal
 
 pub returns-in_err-open : goal.returns-in_err-open
 returns-in_err-open c =
-    let p = err_from_is_err_and c.from_residual.result c.from_residual.ensures.1 in
-    rw (p.1, p.2) (exit c.in_err-open.field-0.0 c.in_err-open.ensures (cv_no_open))
+    quit (Behind (Word word.Cv)) c.args.t.now c.args.at c.from_residual.result c.in_err-open.field-0.0 c.from_residual.ensures.1 c.in_err-open.ensures (cv_no_open)
 
 pub returns-in-Some : goal.returns-in-Some
 returns-in-Some c =
@@ -23,13 +21,11 @@ returns-in-Some c =
 
 pub returns-in_err-name : goal.returns-in_err-name
 returns-in_err-name c =
-    let p = err_from_is_err_and c.from_residual-in_err-name.result c.from_residual-in_err-name.ensures.1 in
-    rw (p.1, p.2) (exit c.in_err-name.field-0.0 c.in_err-name.ensures (λ h. here (Behind (Word word.Cv)) Anywhere c.in_ok-open.ensures.2 (cv_no_name c.in_default.ensures h)))
+    quit (Behind (Word word.Cv)) c.args.t.now c.args.at c.from_residual-in_err-name.result c.in_err-name.field-0.0 c.from_residual-in_err-name.ensures.1 c.in_err-name.ensures (λ h. here (Behind (Word word.Cv)) Anywhere c.in_ok-open.ensures.2 (cv_no_name c.in_default.ensures h))
 
 pub returns-in_err-to : goal.returns-in_err-to
 returns-in_err-to c =
-    let p = err_from_is_err_and c.from_residual-in_err-to.result c.from_residual-in_err-to.ensures.1 in
-    rw (p.1, p.2) (exit c.in_err-to.field-0.0 c.in_err-to.ensures (λ h. here (Behind (Word word.Cv)) Anywhere (c.in_ok-open.ensures.2 ∙ ap (λ r. opener ∷ r) (named c.in_ok-name.ensures.2)) (cv_no_close h)))
+    quit (Behind (Word word.Cv)) c.args.t.now c.args.at c.from_residual-in_err-to.result c.in_err-to.field-0.0 c.from_residual-in_err-to.ensures.1 c.in_err-to.ensures (λ h. here (Behind (Word word.Cv)) Anywhere (c.in_ok-open.ensures.2 ∙ ap (λ r. opener ∷ r) (named c.in_ok-name.ensures.2)) (cv_no_close h))
 
 pub returns : goal.returns
 returns c =

@@ -1,7 +1,6 @@
-use Rattle.std.proofs.Common.{◌≡◌, ◌<◌, ◌≤◌, ◌+◌, ◌∷◌, refl, sym, ap, ◌∙◌, arith}
-use Rattle.std.proofs.lemmas.Result.{err_from_is_err_and}
-use Rattle.mq_parse_expr.specs.StepLemmas.{exit, here, there, as_value, gives_as, fronted}
-use Rattle.mq_parse_expr.specs.Reading.{from, Anywhere}
+use Rattle.std.proofs.Common.{◌∷◌, ap, ◌∙◌, arith}
+use Rattle.mq_parse_expr.specs.StepLemmas.{quit, here, there}
+use Rattle.mq_parse_expr.specs.Reading.{Anywhere}
 use Rattle.mq_parse_expr.proofs.FrontLemmas.{scale_no_comma, scale_no_int, scale_no_close}
 use Rattle.mq_ast.specs.Tokens.{Num, comma}
 use Rattle.mq_parse_expr.specs.NameLemmas.{numbered}
@@ -10,18 +9,15 @@ use Rattle.mq_parse_expr.proofs.fronts.read_to_scale.Goals as goal
 
 pub returns-in_err-mid : goal.returns-in_err-mid
 returns-in_err-mid c =
-    let p = err_from_is_err_and c.from_residual.result c.from_residual.ensures.1 in
-    rw (p.1, p.2) (exit c.in_err-mid.field-0.0 c.in_err-mid.ensures (scale_no_comma))
+    quit ToScale c.args.t.now c.args.at c.from_residual.result c.in_err-mid.field-0.0 c.from_residual.ensures.1 c.in_err-mid.ensures (scale_no_comma)
 
 pub returns-in_err-scale : goal.returns-in_err-scale
 returns-in_err-scale c =
-    let p = err_from_is_err_and c.from_residual-in_err-scale.result c.from_residual-in_err-scale.ensures.1 in
-    rw (p.1, p.2) (exit c.in_err-scale.field-0.0 c.in_err-scale.ensures (λ h. here ToScale Anywhere c.in_ok-mid.ensures.2 (scale_no_int h)))
+    quit ToScale c.args.t.now c.args.at c.from_residual-in_err-scale.result c.in_err-scale.field-0.0 c.from_residual-in_err-scale.ensures.1 c.in_err-scale.ensures (λ h. here ToScale Anywhere c.in_ok-mid.ensures.2 (scale_no_int h))
 
 pub returns-in_err-to : goal.returns-in_err-to
 returns-in_err-to c =
-    let p = err_from_is_err_and c.from_residual-in_err-to.result c.from_residual-in_err-to.ensures.1 in
-    rw (p.1, p.2) (exit c.in_err-to.field-0.0 c.in_err-to.ensures (λ h. here ToScale Anywhere (c.in_ok-mid.ensures.2 ∙ ap (λ r. comma ∷ r) (numbered c.in_ok-scale.ensures.2).0) (scale_no_close h)))
+    quit ToScale c.args.t.now c.args.at c.from_residual-in_err-to.result c.in_err-to.field-0.0 c.from_residual-in_err-to.ensures.1 c.in_err-to.ensures (λ h. here ToScale Anywhere (c.in_ok-mid.ensures.2 ∙ ap (λ r. comma ∷ r) (numbered c.in_ok-scale.ensures.2).0) (scale_no_close h))
 
 pub returns : goal.returns
 returns c =

@@ -1,5 +1,4 @@
-use Rattle.std.proofs.Common.{◌≡◌, ◌<◌, ◌≤◌, ◌+◌, ◌∷◌, refl, sym, ap, ◌∙◌, arith}
-use Rattle.mq_parse_expr.proofs.FrontLemmas.{square_none, square_other}
+use Rattle.mq_parse_expr.proofs.FrontLemmas.{square_none}
 use Rattle.mq_parse_expr.proofs.fronts.square_behind.Goals as goal
 
 pub returns-in-None : goal.returns-in-None

@@ -1,6 +1,3 @@
-use Rattle.std.proofs.Common.{◌≡◌, ◌<◌, ◌≤◌, ◌+◌, ◌∷◌, refl, sym, ap, ◌∙◌, arith}
-use Rattle.mq_ast.specs.Tokens.{opener, star}
-use Rattle.mq_parse_expr.specs.Fronts.{NoAll, HeadsAll}
 use Rattle.mq_parse_expr.proofs.FrontLemmas.{all_no_open, all_no_star, star_closed}
 use Rattle.mq_parse_expr.proofs.fronts.star_end.Goals as goal
 

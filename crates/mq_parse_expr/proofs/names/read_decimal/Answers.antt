@@ -1,33 +1,28 @@
-use Rattle.std.proofs.Common.{◌≡◌, ◌<◌, ◌≤◌, ◌+◌, ◌∷◌, sym, ap, ◌∙◌, arith}
-use Rattle.std.proofs.lemmas.Result.{err_from_is_err_and}
+use Rattle.std.proofs.Common.{◌∷◌, ap, ◌∙◌, arith}
 use Rattle.mq_values.specs.declared.value.Kind.TheVariants as kind
 use Rattle.mq_lexer.specs.declared.keywords.Keyword.TheVariants as word
-use Rattle.mq_ast.specs.Tokens.{Word, Num, opener, closer}
+use Rattle.mq_ast.specs.Tokens.{Word, Num, opener}
 use Rattle.mq_ast.specs.GrammarNames.{KindE, kind_decimal}
-use Rattle.mq_parse_expr.specs.Reading.{from, Anywhere}
-use Rattle.mq_parse_expr.specs.StepLemmas.{exit, here, there, as_value}
+use Rattle.mq_parse_expr.specs.Reading.{Anywhere}
+use Rattle.mq_parse_expr.specs.StepLemmas.{quit, here, there, as_value}
 use Rattle.mq_parse_expr.specs.NameLemmas.{kind_no_word, kind_no_open, kind_no_int, kind_no_close, numbered}
 use Rattle.mq_parse_expr.proofs.names.read_decimal.Goals as goal
 
 pub returns-in_err-decimal : goal.returns-in_err-decimal
 returns-in_err-decimal c =
-    let p = err_from_is_err_and c.from_residual.result c.from_residual.ensures.1 in
-    rw (p.1, p.2) (exit c.in_err-decimal.field-0.0 c.in_err-decimal.ensures (λ h. kind_no_word c.requires.int c.requires.text h))
+    quit KindE c.args.t.now c.args.at c.from_residual.result c.in_err-decimal.field-0.0 c.from_residual.ensures.1 c.in_err-decimal.ensures (λ h. kind_no_word c.requires.int c.requires.text h)
 
 pub returns-in_err-open : goal.returns-in_err-open
 returns-in_err-open c =
-    let p = err_from_is_err_and c.from_residual-in_err-open.result c.from_residual-in_err-open.ensures.1 in
-    rw (p.1, p.2) (exit c.in_err-open.field-0.0 c.in_err-open.ensures (λ h. here KindE Anywhere c.in_ok-decimal.ensures.2 (kind_no_open h)))
+    quit KindE c.args.t.now c.args.at c.from_residual-in_err-open.result c.in_err-open.field-0.0 c.from_residual-in_err-open.ensures.1 c.in_err-open.ensures (λ h. here KindE Anywhere c.in_ok-decimal.ensures.2 (kind_no_open h))
 
 pub returns-in_err-scale : goal.returns-in_err-scale
 returns-in_err-scale c =
-    let p = err_from_is_err_and c.from_residual-in_err-scale.result c.from_residual-in_err-scale.ensures.1 in
-    rw (p.1, p.2) (exit c.in_err-scale.field-0.0 c.in_err-scale.ensures (λ h. here KindE Anywhere (c.in_ok-decimal.ensures.2 ∙ ap (λ r. Word word.Decimal ∷ r) c.in_ok-open.ensures.2) (kind_no_int h)))
+    quit KindE c.args.t.now c.args.at c.from_residual-in_err-scale.result c.in_err-scale.field-0.0 c.from_residual-in_err-scale.ensures.1 c.in_err-scale.ensures (λ h. here KindE Anywhere (c.in_ok-decimal.ensures.2 ∙ ap (λ r. Word word.Decimal ∷ r) c.in_ok-open.ensures.2) (kind_no_int h))
 
 pub returns-in_err-to : goal.returns-in_err-to
 returns-in_err-to c =
-    let p = err_from_is_err_and c.from_residual-in_err-to.result c.from_residual-in_err-to.ensures.1 in
-    rw (p.1, p.2) (exit c.in_err-to.field-0.0 c.in_err-to.ensures (λ h. here KindE Anywhere (c.in_ok-decimal.ensures.2 ∙ ap (λ r. Word word.Decimal ∷ r) (c.in_ok-open.ensures.2 ∙ ap (λ r. opener ∷ r) (numbered c.in_ok-scale.ensures.2).0)) (kind_no_close h)))
+    quit KindE c.args.t.now c.args.at c.from_residual-in_err-to.result c.in_err-to.field-0.0 c.from_residual-in_err-to.ensures.1 c.in_err-to.ensures (λ h. here KindE Anywhere (c.in_ok-decimal.ensures.2 ∙ ap (λ r. Word word.Decimal ∷ r) (c.in_ok-open.ensures.2 ∙ ap (λ r. opener ∷ r) (numbered c.in_ok-scale.ensures.2).0)) (kind_no_close h))
 
 pub returns : goal.returns
 returns c =

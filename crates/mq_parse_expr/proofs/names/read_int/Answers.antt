@@ -1,6 +1,6 @@
-use Rattle.std.proofs.Common.{◌≡◌, ◌<◌, ◌≤◌, ◌+◌, sym, ap, ◌∙◌, arith}
+use Rattle.std.proofs.Common.{sym, ◌∙◌, arith}
 use Rattle.mq_parse_expr.specs.Names.{IntE, int}
-use Rattle.mq_parse_expr.specs.StepLemmas.{there, as_value}
+use Rattle.mq_parse_expr.specs.StepLemmas.{there}
 use Rattle.mq_parse_expr.proofs.names.read_int.Goals as goal
 
 pub returns-then-scale-eq0 : goal.returns-then-scale-eq0

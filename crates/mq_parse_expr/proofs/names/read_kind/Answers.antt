@@ -1,4 +1,4 @@
-use Rattle.std.proofs.Common.{◌≡◌, ◌<◌, ◌≤◌, ◌+◌, ◌∷◌, sym, ap, ◌∙◌, arith}
+use Rattle.std.proofs.Common.{arith}
 use Rattle.mq_ast.specs.GrammarNames.{KindE, kind_int, kind_text}
 use Rattle.mq_parse_expr.specs.StepLemmas.{there}
 use Rattle.mq_parse_expr.proofs.names.read_kind.Goals as goal

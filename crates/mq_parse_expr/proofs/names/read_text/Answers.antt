@@ -1,4 +1,4 @@
-use Rattle.std.proofs.Common.{◌≡◌, ◌<◌, ◌≤◌, ◌+◌, sym, ap, ◌∙◌, arith}
+use Rattle.std.proofs.Common.{◌∙◌, arith}
 use Rattle.mq_parse_expr.specs.Names.{TextE, txt}
 use Rattle.mq_parse_expr.specs.StepLemmas.{there, as_value}
 use Rattle.mq_parse_expr.proofs.names.read_text.Goals as goal

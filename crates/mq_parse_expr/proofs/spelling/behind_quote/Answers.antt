@@ -1,4 +1,4 @@
-use Rattle.std.proofs.Common.{◌≡◌, ◌≢◌, ◌<◌, refl, sym, ◌∙◌, ap, arith, List, ◌∷◌, ℕ}
+use Rattle.std.proofs.Common.{sym}
 use lib.Utf8.{encode}
 use Rattle.mq_parse_expr.proofs.spelling.behind_quote.Goals as goal
 

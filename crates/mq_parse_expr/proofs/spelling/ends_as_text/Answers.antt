@@ -1,4 +1,4 @@
-use Rattle.std.proofs.Common.{◌≡◌, ◌<◌, ◌∙◌, suc, length, drop, sym, ap, drop-cons}
+use Rattle.std.proofs.Common.{◌<◌, ◌∙◌, suc, length, drop, sym, ap, drop-cons}
 use Rattle.mq_ast.specs.Spelling.{unquoted}
 use Rattle.mq_parse_expr.specs.Rows.{fits}
 use Rattle.mq_parse_expr.proofs.spelling.ends_as_text.Goals as goal

@@ -1,4 +1,4 @@
-use Rattle.std.proofs.Common.{◌≡◌, ◌<◌, refl, arith}
+use Rattle.std.proofs.Common.{arith}
 use Rattle.mq_parse_expr.proofs.spelling.split_at_quote.Goals as goal
 
 pub returns : goal.returns

@@ -1,10 +1,8 @@
-use Rattle.std.proofs.Common.{◌≡◌, ◌<◌, ◌≤◌, ◌+◌, ◌-◌, ◌*◌, length, refl, sym, ap, ◌∙◌, arith, get_or, List, ◌∷◌, [], ◌++◌, ℕ, true, false}
-use Rattle.std.specs.Prelude.{Option, Some, None, ◌==◌}
-use Rattle.std.specs.Option.{option_map}
+use Rattle.std.proofs.Common.{sym, ◌∙◌, arith, false}
 use Rattle.std.specs.String.{string_bytes}
 use Rattle.std.proofs.lemmas.Bool.Decides.{nat_tests}
 use Rattle.mq_ast.specs.Spelling.{unquoted}
-use Rattle.mq_parse_expr.proofs.SpellingLemmas.{unquoted_split, unquoted_none, cut_quote, piece_more, piece_last, piece_broken, piece_none, empty_of}
+use Rattle.mq_parse_expr.proofs.SpellingLemmas.{cut_quote, piece_more, piece_last, piece_broken, piece_none, empty_of}
 use Rattle.mq_parse_expr.proofs.spelling.unquoted.Goals as goal
 
 pub loop-piece-preserved : goal.loop-piece-preserved

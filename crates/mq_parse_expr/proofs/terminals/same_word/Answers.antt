@@ -1,4 +1,4 @@
-use Rattle.std.proofs.Common.{◌≡◌, sym, ◌∙◌}
+use Rattle.std.proofs.Common.{sym, ◌∙◌}
 use denote.Enum.Bare.{same_true, true_same}
 use Rattle.mq_lexer.specs.contracts.keywords.Keyword.{the_type}
 use Rattle.mq_parse_expr.proofs.terminals.same_word.Goals as goal
