@@ -10,8 +10,8 @@ use Rattle.mq_ir.specs.declared.expression.Expr.{Expr, para-roll-Expr}
 use Rattle.mq_ir.specs.declared.expression.Expr.TheOpen as layer
 use Rattle.mq_ir.specs.declared.expression.Expr.TheVariants as expr
 use Rattle.mq_ir.specs.declared.expression.Leaf.{Leaf}
-use Rattle.mq_ir.specs.Conditions.{conjunction, disjunction, compared_to, between, member}
-use Rattle.mq_ir.specs.Expression.{Outcome, worth_of, ev, holds, asked, layer_found, layer_arm, layer_factor, layer_term}
+use Rattle.mq_ir.specs.Conditions.{conjunction, disjunction, compared_to, between, member, asked}
+use Rattle.mq_ir.specs.Expression.{Outcome, worth_of, ev, holds, layer_found, layer_arm, layer_factor, layer_term}
 use Rattle.mq_ir.specs.Results.{◌>>=◌}
 use Rattle.mq_ir.specs.Worth.{Found, a_truth}
 use Rattle.mq_ir.specs.PartLaws.{seconds}
@@ -84,7 +84,7 @@ worth_is_null leaves x neg =
 
 -- IS PRESENT
 pub worth_is_present : (leaves : Leaf → Outcome) (l : Leaf) (neg : Bool) →
-    worth_of leaves (expr.IsPresent l neg) ≡ a_truth (asked leaves l neg)
+    worth_of leaves (expr.IsPresent l neg) ≡ a_truth (asked (leaves l) >>= (λ b. Ok (negated_if neg (Some b))))
 unfolding worth_of
 worth_is_present leaves l neg =
     ap (worth_of leaves) (sym (expr.rolls-IsPresent l neg))

@@ -1,5 +1,5 @@
 -- What an expression means.
-use Rattle.std.specs.Prelude.{Bool, List, Ok, Some, map, if◌then◌else◌}
+use Rattle.std.specs.Prelude.{List, Ok, Some, map}
 use Rattle.std.specs.Option.{option_map}
 use Rattle.mq_values.specs.Arithmetic.{negation_of}
 use Rattle.mq_values.specs.Convert.{cast_of}
@@ -7,7 +7,6 @@ use Rattle.mq_values.specs.DimTests.{is_null}
 use Rattle.mq_values.specs.Truth.{opposite, negated_if}
 use Rattle.mq_values.specs.declared.operators.ProdOp.{ProdOp}
 use Rattle.mq_values.specs.declared.operators.SumOp.{SumOp}
-use Rattle.mq_values.specs.declared.value.Value.{Value}
 use Rattle.mq_ir.specs.declared.expression.Expr.{Expr, para-Expr}
 use Rattle.mq_ir.specs.declared.expression.Expr.TheOpen as layer
 use Rattle.mq_ir.specs.declared.expression.Leaf.{Leaf}
@@ -16,10 +15,10 @@ use Rattle.mq_ir.specs.declared.expression.BoundSum.{BoundSum}
 use Rattle.mq_ir.specs.declared.expression.BoundProd.{BoundProd}
 use Rattle.mq_ir.specs.declared.expression.BoundArm.{BoundArm}
 use Rattle.mq_ir.specs.declared.expression.Worth.TheVariants as worth
-use Rattle.mq_ir.specs.Conditions.{conjunction, disjunction, compared_to, between, member, case_of}
+use Rattle.mq_ir.specs.Conditions.{conjunction, disjunction, compared_to, between, member, case_of, asked, both_asked, chosen}
 use Rattle.mq_ir.specs.Operators.{added, multiplied, chained, of_number, called}
 use Rattle.mq_ir.specs.Results.{◌>>=◌}
-use Rattle.mq_ir.specs.Worth.{Found, a_value, a_truth, as_value, as_truth, is_flagged}
+use Rattle.mq_ir.specs.Worth.{Found, a_value, a_truth, as_value, as_truth}
 pub use Rattle.mq_ir.specs.Worth.{Outcome, Verdict, whole, flag}
 
 -- a part of an expression stands beside what it is worth
@@ -28,13 +27,6 @@ Part = Expr × Found
 
 abbrev pub worths : List Part → List Found
 worths = map (λ part. part.1)
-
--- whether what is asked of a leaf holds
-abbrev pub asked : (Leaf → Outcome) → Leaf → Bool → Verdict
-asked leaves l not = leaves l >>= (λ v. Ok (negated_if not (Some (is_flagged v))))
-
-abbrev pub taken_if : Value → Outcome → Outcome → Outcome
-taken_if v taken other = if is_flagged v then taken else other
 
 -- One layer of an expression, where each part of it stands beside what it is worth.
 abbrev pub layer_found : (Leaf → Outcome) → layer.Expr-F Part (Leaf × Unit {0}) (Test × Unit {0}) (BoundArm × (Found × Found)) (BoundProd × (ProdOp × Found)) (BoundSum × (SumOp × Found)) → Found
@@ -45,9 +37,9 @@ layer_found leaves (layer.«Expr::Cmp» a op b) = as_value a.1 >>= (λ v. compar
 layer_found leaves (layer.«Expr::Between» x not low high) = a_truth (as_value x.1 >>= (λ v. between v low.1 high.1) >>= (λ t. Ok (negated_if not t)))
 layer_found leaves (layer.InList x not xs) = a_truth (as_value x.1 >>= (λ v. member v (worths xs)) >>= (λ t. Ok (negated_if not t)))
 layer_found leaves (layer.IsNull x not) = a_truth (as_value x.1 >>= (λ v. Ok (negated_if not (Some (is_null v)))))
-layer_found leaves (layer.IsPresent l not) = a_truth (asked leaves l.0 not)
-layer_found leaves (layer.Sum first terms) = a_value (chained added (as_value first.1) (map (λ term. term.1) terms))
-layer_found leaves (layer.Prod first terms) = a_value (chained multiplied (as_value first.1) (map (λ term. term.1) terms))
+layer_found leaves (layer.IsPresent l not) = a_truth (asked (leaves l.0) >>= (λ b. Ok (negated_if not (Some b))))
+layer_found leaves (layer.Sum first terms) = a_value (as_value first.1 >>= (λ v. chained added v (map (λ term. term.1) terms)))
+layer_found leaves (layer.Prod first terms) = a_value (as_value first.1 >>= (λ v. chained multiplied v (map (λ term. term.1) terms)))
 layer_found leaves (layer.Neg x) = a_value (as_value x.1 >>= of_number negation_of)
 layer_found leaves (layer.Lit v) = Ok (worth.Value v)
 layer_found leaves (layer.Leaf l) = a_value (leaves l.0)
@@ -55,9 +47,9 @@ layer_found leaves (layer.Case subject arms otherwise) = a_value (case_of (optio
 layer_found leaves (layer.Cast x kind) = a_value (as_value x.1 >>= (λ v. cast_of v kind))
 layer_found leaves (layer.Convert x kind) = a_value (as_value x.1 >>= (λ v. cast_of v kind))
 layer_found leaves (layer.Call f xs) = a_value (called f (worths xs))
-layer_found leaves (layer.PresentV present a b) = a_value (leaves present.0 >>= (λ v. taken_if v (as_value a.1) (as_value b.1)))
+layer_found leaves (layer.PresentV present a b) = a_value (chosen (asked (leaves present.0)) (as_value a.1) (as_value b.1))
 layer_found leaves (layer.PresentNnv present not_null a b) =
-    a_value (leaves present.0 >>= (λ p. taken_if p (leaves not_null.0 >>= (λ v. taken_if v (as_value a.1) (as_value b.1))) (as_value b.1)))
+    a_value (chosen (both_asked (leaves present.0) (leaves not_null.0)) (as_value a.1) (as_value b.1))
 
 -- an arm of CASE, and a term of a chain, with what their parts are worth
 abbrev pub layer_arm : layer.BoundArm-F Part (Leaf × Unit {0}) (Test × Unit {0}) (BoundArm × (Found × Found)) (BoundProd × (ProdOp × Found)) (BoundSum × (SumOp × Found)) → Found × Found

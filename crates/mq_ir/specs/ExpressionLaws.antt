@@ -17,8 +17,8 @@ use Rattle.mq_ir.specs.declared.expression.BoundArm.{BoundArm}
 use Rattle.mq_ir.specs.declared.expression.BoundProd.{BoundProd}
 use Rattle.mq_ir.specs.declared.expression.BoundSum.{BoundSum}
 use Rattle.mq_ir.specs.declared.expression.Worth.TheVariants as worth
-use Rattle.mq_ir.specs.Conditions.{case_of}
-use Rattle.mq_ir.specs.Expression.{Outcome, worth_of, ev, taken_if, layer_found, layer_arm, layer_factor, layer_term}
+use Rattle.mq_ir.specs.Conditions.{case_of, asked, both_asked, chosen}
+use Rattle.mq_ir.specs.Expression.{Outcome, worth_of, ev, layer_found, layer_arm, layer_factor, layer_term}
 use Rattle.mq_ir.specs.Operators.{added, multiplied, chained, of_number, called}
 use Rattle.mq_ir.specs.Results.{◌>>=◌}
 use Rattle.mq_ir.specs.Worth.{Found, a_value}
@@ -27,23 +27,23 @@ use Rattle.mq_ir.specs.ConditionLaws.{worth_or, worth_and, worth_not, worth_cmp,
 
 -- a sum is its first value with the others combined into it, from left to right
 pub worth_sum : (leaves : Leaf → Outcome) (first : Expr) (terms : List BoundSum) →
-    worth_of leaves (expr.Sum first terms) ≡ a_value (chained added (ev leaves first) (map (term_found leaves) terms))
+    worth_of leaves (expr.Sum first terms) ≡ a_value (ev leaves first >>= (λ v. chained added v (map (term_found leaves) terms)))
 unfolding worth_of
 worth_sum leaves first terms =
     ap (worth_of leaves) (sym (expr.rolls-Sum first terms))
     ∙ para-roll-Expr Found (Unit {0}) (Unit {0}) (Found × Found) (ProdOp × Found) (SumOp × Found)
     (layer_found leaves) (λ _. tt) (λ _. tt) layer_arm layer_factor layer_term (layer.Sum first terms)
-    ∙ ap (λ found. a_value (chained added (ev leaves first) found)) (terms_are leaves terms)
+    ∙ ap (λ found. a_value (ev leaves first >>= (λ v. chained added v found))) (terms_are leaves terms)
 
 -- a product likewise
 pub worth_prod : (leaves : Leaf → Outcome) (first : Expr) (terms : List BoundProd) →
-    worth_of leaves (expr.Prod first terms) ≡ a_value (chained multiplied (ev leaves first) (map (factor_found leaves) terms))
+    worth_of leaves (expr.Prod first terms) ≡ a_value (ev leaves first >>= (λ v. chained multiplied v (map (factor_found leaves) terms)))
 unfolding worth_of
 worth_prod leaves first terms =
     ap (worth_of leaves) (sym (expr.rolls-Prod first terms))
     ∙ para-roll-Expr Found (Unit {0}) (Unit {0}) (Found × Found) (ProdOp × Found) (SumOp × Found)
     (layer_found leaves) (λ _. tt) (λ _. tt) layer_arm layer_factor layer_term (layer.Prod first terms)
-    ∙ ap (λ found. a_value (chained multiplied (ev leaves first) found)) (factors_are leaves terms)
+    ∙ ap (λ found. a_value (ev leaves first >>= (λ v. chained multiplied v found))) (factors_are leaves terms)
 
 -- the sign
 pub worth_neg : (leaves : Leaf → Outcome) (x : Expr) → worth_of leaves (expr.Neg x) ≡ a_value (ev leaves x >>= of_number negation_of)
@@ -125,7 +125,7 @@ worth_call leaves f xs =
 
 -- PRESENTV evaluates one of its two results
 pub worth_presentv : (leaves : Leaf → Outcome) (present : Leaf) (a : Expr) (b : Expr) →
-    worth_of leaves (expr.PresentV present a b) ≡ a_value (leaves present >>= (λ v. taken_if v (ev leaves a) (ev leaves b)))
+    worth_of leaves (expr.PresentV present a b) ≡ a_value (chosen (asked (leaves present)) (ev leaves a) (ev leaves b))
 unfolding worth_of
 worth_presentv leaves present a b =
     ap (worth_of leaves) (sym (expr.rolls-PresentV present a b))
@@ -135,7 +135,7 @@ worth_presentv leaves present a b =
 -- PRESENTNNV asks for null only where the cell is present
 pub worth_presentnnv : (leaves : Leaf → Outcome) (present : Leaf) (not_null : Leaf) (a : Expr) (b : Expr) →
     worth_of leaves (expr.PresentNnv present not_null a b) ≡
-    a_value (leaves present >>= (λ p. taken_if p (leaves not_null >>= (λ v. taken_if v (ev leaves a) (ev leaves b))) (ev leaves b)))
+    a_value (chosen (both_asked (leaves present) (leaves not_null)) (ev leaves a) (ev leaves b))
 unfolding worth_of
 worth_presentnnv leaves present not_null a b =
     ap (worth_of leaves) (sym (expr.rolls-PresentNnv present not_null a b))

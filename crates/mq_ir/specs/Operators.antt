@@ -36,9 +36,9 @@ multiplied Mul = of_numbers product_of
 multiplied Div = of_numbers quotient_of
 
 -- a chain of operators, folded from the left: each right operand is evaluated just before it is combined
-abbrev pub chained : {Op : Type 0} → (Op → Value → Value → Outcome) → Outcome → List (Op × Found) → Outcome
-chained combined so_far [] = so_far
-chained combined so_far (term ∷ terms) = chained combined (so_far >>= (λ a. as_value term.1 >>= combined term.0 a)) terms
+abbrev pub chained : {Op : Type 0} → (Op → Value → Value → Outcome) → Value → List (Op × Found) → Outcome
+chained combined so_far [] = Ok so_far
+chained combined so_far (term ∷ terms) = as_value term.1 >>= combined term.0 so_far >>= (λ v. chained combined v terms)
 
 -- a function of one argument
 abbrev pub applied : Func → Value → Outcome

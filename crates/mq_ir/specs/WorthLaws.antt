@@ -7,12 +7,12 @@ use Rattle.mq_ir.specs.declared.expression.Test.{Test}
 use Rattle.mq_ir.specs.declared.expression.BoundArm.{BoundArm, roll-BoundArm}
 use Rattle.mq_ir.specs.declared.expression.BoundProd.{BoundProd, roll-BoundProd}
 use Rattle.mq_ir.specs.declared.expression.BoundSum.{BoundSum, roll-BoundSum}
-use Rattle.mq_ir.specs.Expression.{Outcome, layer_found, taken_if, worth_of}
-use Rattle.mq_ir.specs.Conditions.{conjunction, disjunction, compared_to, between, member, case_of}
+use Rattle.mq_ir.specs.Expression.{Outcome, layer_found, worth_of}
+use Rattle.mq_ir.specs.Conditions.{conjunction, disjunction, compared_to, between, member, case_of, asked, both_asked, chosen}
 use Rattle.mq_ir.specs.Looks.{Leaves, all_leaves, layer_leaves, leaves_of}
 use Rattle.mq_ir.specs.Operators.{added, multiplied, chained, of_number, called}
 use Rattle.mq_ir.specs.Results.{◌>>=◌}
-use Rattle.mq_ir.specs.Worth.{a_value, a_truth, as_value, as_truth, is_flagged}
+use Rattle.mq_ir.specs.Worth.{a_value, a_truth, as_value, as_truth}
 use Rattle.mq_values.specs.Truth.{opposite, negated_if}
 use Rattle.mq_values.specs.Convert.{cast_of}
 use Rattle.mq_values.specs.Arithmetic.{negation_of}
@@ -89,17 +89,17 @@ module _ (f g : Leaf → Outcome) where
       let xs = parts_alike leaves_of (worth_of f) (worth_of g) es (same_right (leaves_of e.0) all h) in
       λ i. a_truth (as_value (x i) >>= (λ v. member v (xs i)) >>= (λ t. Ok (negated_if negated t)))
   layer_alike (layer.IsNull e negated) h = ap (λ w. a_truth (as_value w >>= (λ v. Ok (negated_if negated (Some (is_null v)))))) (e.1 h)
-  layer_alike (layer.IsPresent l negated) h = ap (λ o. a_truth (o >>= (λ v. Ok (negated_if negated (Some (is_flagged v)))))) h.0
+  layer_alike (layer.IsPresent l negated) h = ap (λ o. a_truth (asked o >>= (λ b. Ok (negated_if negated (Some b))))) h.0
   layer_alike (layer.Sum first terms) h =
       let all = all_leaves (beside sum_leaves (sum_worth f) (sum_worth g) sum_leaves terms) in
       let x = first.1 (same_left (leaves_of first.0) all h) in
       let xs = parts_alike sum_leaves (sum_worth f) (sum_worth g) terms (same_right (leaves_of first.0) all h) in
-      λ i. a_value (chained added (as_value (x i)) (xs i))
+      λ i. a_value (as_value (x i) >>= (λ v. chained added v (xs i)))
   layer_alike (layer.Prod first terms) h =
       let all = all_leaves (beside prod_leaves (prod_worth f) (prod_worth g) prod_leaves terms) in
       let x = first.1 (same_left (leaves_of first.0) all h) in
       let xs = parts_alike prod_leaves (prod_worth f) (prod_worth g) terms (same_right (leaves_of first.0) all h) in
-      λ i. a_value (chained multiplied (as_value (x i)) (xs i))
+      λ i. a_value (as_value (x i) >>= (λ v. chained multiplied v (xs i)))
   layer_alike (layer.Neg e) h = ap (λ w. a_value (as_value w >>= of_number negation_of)) (e.1 h)
   layer_alike (layer.Lit v) h = refl
   layer_alike (layer.Leaf l) h = ap a_value h.0
@@ -130,13 +130,13 @@ module _ (f g : Leaf → Outcome) where
       let p = h.0 in
       let x = a.1 (same_left (leaves_of a.0) (leaves_of b.0) h.1) in
       let y = b.1 (same_right (leaves_of a.0) (leaves_of b.0) h.1) in
-      λ i. a_value (p i >>= (λ v. taken_if v (as_value (x i)) (as_value (y i))))
+      λ i. a_value (chosen (asked (p i)) (as_value (x i)) (as_value (y i)))
   layer_alike (layer.PresentNnv l n a b) h =
       let p = h.0 in
       let q = h.1.0 in
       let x = a.1 (same_left (leaves_of a.0) (leaves_of b.0) h.1.1) in
       let y = b.1 (same_right (leaves_of a.0) (leaves_of b.0) h.1.1) in
-      λ i. a_value (p i >>= (λ v. taken_if v (q i >>= (λ w. taken_if w (as_value (x i)) (as_value (y i)))) (as_value (y i))))
+      λ i. a_value (chosen (both_asked (p i) (q i)) (as_value (x i)) (as_value (y i)))
 
   expr_step : (y : GivenLayer) → Alike (roll-Expr (bare y))
   expr_step y h = worth_roll f (bare y) ∙ layer_alike y (rw (leaves_roll (bare y)) at h) ∙ sym (worth_roll g (bare y))
