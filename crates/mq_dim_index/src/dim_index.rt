@@ -1,0 +1,133 @@
+//! The index of a partition's cells by their dimensions.
+ghost use Rattle.std.specs.Prelude.{◌≡◌, ◌<◌, ◌≤◌, length, map, slice_index_or, is_some, IfOk, IfSome, OnOk, OnErr};
+ghost use Rattle.std.specs.List.{All, filter};
+ghost use Rattle.std.specs.List.Sorted.{IsStrictlySortedBy};
+ghost use Rattle.mq_values.specs.Order.{cmp_key};
+ghost use Rattle.mq_dim_index.specs.Places.{Tuple, is_there, meets_every, place_of, with_key, without_key};
+ghost use Rattle.mq_dim_index.specs.Places as spec;
+ghost use Rattle.mq_dim_index.specs.declared.search.TheConstants.{MAX_KEYS};
+
+use crate::search::{MAX_KEYS, places_meeting, search};
+use mq_values::{DimTest, Key, Memory, Value};
+use std::alloc::Global;
+use std::marker::Model;
+
+/// The keys of a partition's cells, each once, ascending. Contracts see them as the list of the keys. A key is known
+/// by the number of its place, counted from 0, which changes where one comes or goes before it
+/// (docs/MEANING.md, "Keys of a partition").
+#[derive(Drop)]
+pub struct DimIndex {
+    keys: Vec<Key>,
+}
+
+impl Model for DimIndex {
+    ghost use Rattle.std.specs.Prelude.{List, ◌≤◌, length};
+    ghost use Rattle.std.specs.List.Sorted.{IsStrictlySortedBy};
+    ghost use Rattle.mq_values.specs.Order.{cmp_key};
+    ghost use Rattle.mq_dim_index.specs.Places.{Tuple};
+    ghost use Rattle.mq_dim_index.specs.declared.search.TheConstants.{MAX_KEYS};
+
+    ghost Value = { List Tuple };
+
+    ghost view = { λ index. index.keys.items };
+
+    ghost invariant = { λ index. IsStrictlySortedBy cmp_key index.keys.items × (length index.keys.items ≤ MAX_KEYS) };
+}
+
+impl DimIndex {
+    /// The index of these keys, which ascend. `Memory` comes too where there are more of them than a `u32` can number.
+    pub fn new(alloc: Global, keys: &[Key]) -> Result<DimIndex, Memory>
+        requires { IsStrictlySortedBy cmp_key keys.now }
+        ensures { IfOk result (λ index. index ≡ keys.now) }
+    {
+        if keys.len() > MAX_KEYS {
+            return Err(Memory);
+        }
+        Ok(DimIndex {
+            keys: copies(alloc, keys)?,
+        })
+    }
+
+    /// The keys, ascending.
+    pub fn keys(&self) -> &[Key]
+        ensures all { result.now ≡ self.now }
+        ensures ascending { IsStrictlySortedBy cmp_key self.now }
+        ensures numbered { length self.now ≤ MAX_KEYS }
+    {
+        self.keys.as_slice()
+    }
+
+    /// How many keys there are.
+    pub fn len(&self) -> u32
+        ensures { result ≡ length self.now }
+    {
+        self.keys.len() as u32
+    }
+
+    /// Puts `key` at its place; where it is there already, nothing changes. After `Memory` the keys are as before. It
+    /// comes too where there would be more keys than a `u32` can number.
+    pub fn insert(&mut self, key: Key) -> Result<(), Memory>
+        ensures ok { OnOk result (self.new ≡ with_key self.old key) }
+        ensures err { OnErr result (self.new ≡ self.old) }
+    {
+        let Err(at) = search(&self.keys, key.as_slice()) else {
+            return Ok(());
+        };
+        if self.keys.len() >= MAX_KEYS {
+            return Err(Memory);
+        }
+        self.keys.insert(at, key)?;
+        Ok(())
+    }
+
+    /// Takes `key` away; where it is not there, nothing changes.
+    pub fn remove(&mut self, key: &Key)
+        ensures { self.new ≡ without_key self.old key.now }
+    {
+        if let Ok(at) = search(&self.keys, key.as_slice()) {
+            self.keys.remove(at);
+        }
+    }
+
+    /// The number of the place at which `key` stands, or `None` where it is not there.
+    pub fn find(&self, key: &[Value]) -> Option<u32>
+        ensures { result ≡ place_of self.now key.now }
+    {
+        match search(&self.keys, key) {
+            Ok(at) => Some(at as u32),
+            Err(_) => None,
+        }
+    }
+
+    /// The index's own copy of `key`, or `None` where it is not there.
+    pub fn stored(&self, key: &[Value]) -> Option<&Key>
+        ensures there { is_some result ≡ is_there self.now key.now }
+        ensures same { IfSome result (λ found. found.now ≡ key.now) }
+    {
+        match search(&self.keys, key) {
+            Ok(at) => Some(&self.keys[at]),
+            Err(_) => None,
+        }
+    }
+
+    /// The numbers of the keys that meet the test of each dimension, ascending.
+    pub fn in_range(&self, alloc: Global, tests: &[DimTest]) -> Result<Vec<u32>, Memory>
+        ensures numbers { IfOk result (λ places. places.items ≡ spec.places_meeting tests.now self.now) }
+        ensures below { IfOk result (λ places. All (λ place. place < length self.now) places.items) }
+        ensures keys { (other : Tuple) →
+            IfOk result (λ places. map (λ place. slice_index_or self.now place other) places.items ≡ filter (meets_every tests.now) self.now) }
+    {
+        places_meeting(alloc, self.keys.as_slice(), tests)
+    }
+}
+
+// These keys once more.
+fn copies(alloc: Global, keys: &[Key]) -> Result<Vec<Key>, Memory>
+    ensures { IfOk result (λ copies. copies.items ≡ keys.now) }
+{
+    let mut copies = Vec::with_capacity(alloc, keys.len())?;
+    for key in keys {
+        copies.push(key.copy()?)?;
+    }
+    Ok(copies)
+}

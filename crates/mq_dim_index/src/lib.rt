@@ -1,0 +1,11 @@
+//! The keys of a partition's cells, ascending: keys go in and out one by one.
+//! Out come the number of the place at which a key stands, and the numbers of the keys that meet a test of each dimension.
+//! Each call gives what `specs/Places` defines over the list of the keys.
+#![tactic(auto)]
+
+mod dim_index;
+mod search;
+#[cfg(test)]
+mod tests;
+
+pub use dim_index::DimIndex;
