@@ -7,11 +7,13 @@ mod cases;
 mod chains;
 mod comparisons;
 mod conditions;
+mod dim_tests;
 mod environment;
 mod evaluate;
 mod leaves;
 mod operators;
 mod truths;
 
+pub use dim_tests::{converted, test_of};
 pub use environment::Env;
 pub use evaluate::{eval, holds};

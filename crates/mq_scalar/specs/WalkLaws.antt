@@ -1,0 +1,55 @@
+-- A loop that takes steps of which each may fail, one for each item of a list.
+use Rattle.std.proofs.Common.{◌≡◌, ℕ, ◌+◌, ◌<◌, ◌≤◌, List, [], ◌∷◌, ◌++◌, drop, length, get_or, Result, Ok, Err, refl, sym, ap, ◌∙◌, append_assoc, add-one, drop-cons}
+use Rattle.std.proofs.lemmas.List.{append-nil, drop_all}
+use Rattle.mq_values.specs.Answers.{Gives}
+use Rattle.mq_values.specs.declared.memory.Fail.{Fail}
+use Rattle.mq_values.specs.declared.memory.Fail.TheVariants as fail
+use Rattle.mq_ir.specs.Results.{◌>>=◌, each}
+
+-- the first i items gave ys
+pub record Walked {A B E : Type 0} (f : A → Result B E) (xs : List A) (i : ℕ) (ys : List B) : Type 0 where
+  pub is : each f xs ≡ (each f (drop i xs) >>= (λ zs. Ok (ys ++ zs)))
+
+-- where each fault of the inner call is the outer one's
+pub fault_is_last : {T U E : Type 0} (inner : Result T E) (outer : Result U E) (e : Fail E) → Gives {T = T} (Err e) inner → ((fault : E) → inner ≡ Err fault → outer ≡ Err fault) → Gives {T = U} (Err e) outer
+fault_is_last inner outer (fail.Cause fault) h f = f fault h
+fault_is_last inner outer fail.Memory h f = tt
+
+-- a loop over a list goes on at its item number i
+next_item : {A : Type 0} (xs : List A) (i : ℕ) (x : A) → i < length xs → x ≡ get_or xs i x → drop i xs ≡ x ∷ drop (i + 1) xs
+next_item xs i x h e = drop-cons xs i x h ∙ (λ j. sym e j ∷ drop (sym (add-one i) j) xs)
+
+started : {B E : Type 0} (r : Result (List B) E) → r ≡ (r >>= (λ zs. Ok zs))
+started (Ok ys) = refl
+started (Err fault) = refl
+
+pub walk_start : {A B E : Type 0} (f : A → Result B E) (xs : List A) → Walked f xs 0 []
+walk_start f xs = record { is = started (each f xs) }
+
+moved : {B E : Type 0} (r : Result (List B) E) (ys : List B) (y : B) → ((r >>= (λ zs. Ok (y ∷ zs))) >>= (λ zs. Ok (ys ++ zs))) ≡ (r >>= (λ zs. Ok ((ys ++ y ∷ []) ++ zs)))
+moved (Ok zs) ys y = ap Ok (sym (append_assoc ys (y ∷ []) zs))
+moved (Err fault) ys y = refl
+
+-- what the next item gives
+next_step : {A B E : Type 0} (f : A → Result B E) (xs : List A) (i : ℕ) (x : A) → i < length xs → x ≡ get_or xs i x → each f (drop i xs) ≡ (f x >>= (λ y. each f (drop (i + 1) xs) >>= (λ ys. Ok (y ∷ ys))))
+next_step f xs i x h e = ap (each f) (next_item xs i x h e)
+
+pub walk_next : {A B E : Type 0} (f : A → Result B E) (xs : List A) (i : ℕ) (ys : List B) (x : A) (y : B) → i < length xs → x ≡ get_or xs i x → f x ≡ Ok y → Walked f xs i ys → Walked f xs (i + 1) (ys ++ y ∷ [])
+walk_next f xs i ys x y h e g w = record {
+  is =
+      w.is
+      ∙ ap (λ r. r >>= (λ zs. Ok (ys ++ zs))) (next_step f xs i x h e ∙ ap (λ o. o >>= (λ y. each f (drop (i + 1) xs) >>= (λ ys. Ok (y ∷ ys)))) g)
+      ∙ moved (each f (drop (i + 1) xs)) ys y;
+}
+
+pub walk_end : {A B E : Type 0} (f : A → Result B E) (xs : List A) (i : ℕ) (ys : List B) → length xs ≤ i → Walked f xs i ys → each f xs ≡ Ok ys
+walk_end f xs i ys h w = w.is ∙ ap (λ r. each f r >>= (λ zs. Ok (ys ++ zs))) (drop_all i xs h) ∙ ap Ok (append-nil ys)
+
+walk_fault : {A B E : Type 0} (f : A → Result B E) (xs : List A) (i : ℕ) (ys : List B) (x : A) (fault : E) → i < length xs → x ≡ get_or xs i x → f x ≡ Err fault → Walked f xs i ys → each f xs ≡ Err fault
+walk_fault f xs i ys x fault h e g w =
+    w.is
+    ∙ ap (λ r. r >>= (λ zs. Ok (ys ++ zs))) (next_step f xs i x h e ∙ ap (λ o. o >>= (λ y. each f (drop (i + 1) xs) >>= (λ ys. Ok (y ∷ ys)))) g)
+
+-- the answer of a step that gave none is the loop's
+pub walk_exit : {A B E : Type 0} (f : A → Result B E) (xs : List A) (i : ℕ) (ys : List B) (x : A) (e : Fail E) → i < length xs → x ≡ get_or xs i x → Walked f xs i ys → Gives {T = B} (Err e) (f x) → Gives {T = List B} (Err e) (each f xs)
+walk_exit f xs i ys x e h at w g = fault_is_last (f x) (each f xs) e g (λ fault is. walk_fault f xs i ys x fault h at is w)
