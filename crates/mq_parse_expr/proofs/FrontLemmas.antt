@@ -119,14 +119,6 @@ its_tail (Word _ ∷ ts) = λ s. omega arith
 pub tail_front : (f : Tail) (ts : List Tok) → f ≡ tail_of (terminal_at ts) → TailFront f ts
 tail_front f ts e = let P : Tail → Type 0 = λ x. TailFront x ts in subst P (sym e) (its_tail ts)
 
-pub no_leaf : (f : Form) → IsLeaf f → (f ≡ form.Number → ⊥) → (f ≡ form.Text → ⊥) → (f ≡ form.Null → ⊥) → (f ≡ form.Turn → ⊥) → (f ≡ form.Cv → ⊥) → ⊥
-no_leaf form.Number l a b c d e = a refl
-no_leaf form.Text l a b c d e = b refl
-no_leaf form.Null l a b c d e = c refl
-no_leaf form.Turn l a b c d e = d refl
-no_leaf form.Cv l a b c d e = e refl
-no_leaf _ l a b c d e = l
-
 pub leaf_left : (f : Form) → IsClosed f → (f ≡ form.Brackets → ⊥) → (f ≡ form.Case → ⊥) → (f ≡ form.Cast → ⊥) → (f ≡ form.Round → ⊥) → ((c : _) → f ≡ form.Call c → ⊥) → IsLeaf f
 leaf_left form.Brackets l a b c d e = absurd (a refl)
 leaf_left form.Case l a b c d e = absurd (b refl)
@@ -153,23 +145,11 @@ pub star_closed : (t : List Token) (at first second : ℕ) (r : Option ℕ) → 
 star_closed t at first second None o s n = λ us g h. n (ap terminal_at (cut (sym s.2 ∙ cut (sym o.2 ∙ h))))
 star_closed t at first second (Some to) o s e = (refl, omega (arith, o.0, s.0, e.0), e.1, o.2 ∙ ap (λ r. opener ∷ r) (s.2 ∙ ap (λ r. star ∷ r) e.2))
 
-pub no_count : {g : Agg} {ts : List Tok} → (g ≡ agg.Count → ⊥) → NoAll g ts
-no_count n us g e = absurd (n g)
-
 pub cells_no_open : {ts : List Tok} → Not (terminal.Sign sign.Open) ts → NoCells ts
 cells_no_open n m us e = absurd (n (ap terminal_at e))
 
-pub cells_no_name : {ts us : List Tok} → ts ≡ opener ∷ us → Not terminal.Name us → NoCells ts
-cells_no_name e n m us f = absurd (n (ap terminal_at (cut (sym e ∙ f))))
-
-pub cells_no_square : {k : List ℕ} {ts us vs : List Tok} → ts ≡ opener ∷ us → us ≡ Name k ∷ vs → ((ws : List Tok) → vs ≡ closer ∷ ws → Not (terminal.Sign sign.OpenSquare) ws) → NoCells ts
-cells_no_square e f n m ws h = n ws (cut (sym f ∙ cut (sym e ∙ h)))
-
 pub square_none : {ts : List Tok} → Not (terminal.Sign sign.Close) ts → (us : List Tok) → ts ≡ closer ∷ us → Not (terminal.Sign sign.OpenSquare) us
 square_none n us e = absurd (n (ap terminal_at e))
-
-pub square_other : {ts vs : List Tok} → ts ≡ closer ∷ vs → Not (terminal.Sign sign.OpenSquare) vs → (us : List Tok) → ts ≡ closer ∷ us → Not (terminal.Sign sign.OpenSquare) us
-square_other e n us f q = n (ap terminal_at (cut (sym e ∙ f)) ∙ q)
 
 -- the end of a CAST
 pub as_no_as : {ts : List Tok} → Not (terminal.Word word.As) ts → No AsKind Anywhere ts

@@ -53,10 +53,6 @@ named name = refl
 pub numbered : {n : Number} {ts to : List Tok} → IntE n ts to → (ts ≡ Num n ∷ to) × IsInt n
 numbered (int i) = (refl, i)
 
--- a number without a point
-pub int_no_scale : {n : Number} {ts : List Tok} → (IsInt n → ⊥) → No IntE Anywhere (Num n ∷ ts)
-int_no_scale h a to (int i) s = h i
-
 -- a kind
 pub kind_no_word : {ts : List Tok} → Not (terminal.Word word.Int) ts → Not (terminal.Word word.Text) ts → Not (terminal.Word word.Decimal) ts → No KindE Anywhere ts
 kind_no_word i x n a to kind_int s = i refl
@@ -72,7 +68,7 @@ kind_no_int h a to (kind_decimal d) s = h _ _ (int d) tt
 pub kind_no_close : {n : Number} {ts : List Tok} → Not (terminal.Sign sign.Close) ts → No KindE Anywhere (Word word.Decimal ∷ opener ∷ Num n ∷ ts)
 kind_no_close h a to (kind_decimal d) s = h refl
 
--- a token of another sort is no name and no number
+-- a token of another sort is no name, no number, no reserved word and no sign
 if_not : (b : Bool) (x : Tok) (q : Terminal) (ts : List Tok) → (terminal_at (x ∷ ts) ≡ q → ⊥) → (terminal.Bad ≡ q → ⊥) → terminal_at ((if b then x else Bad) ∷ ts) ≡ q → ⊥
 if_not true x q ts h k = h
 if_not false x q ts h k = k
@@ -113,3 +109,23 @@ token_no_name k {ts} {us} e n h = sort_no_name k.sort k.text.now us n (ap termin
 
 pub token_no_number : (k : Token) {ts us : List Tok} → ts ≡ tok_of k ∷ us → (k.sort ≡ sort.Number → ⊥) → Not terminal.Number ts
 token_no_number k {ts} {us} e n h = sort_no_number k.sort k.text.now us n (ap terminal_at (sym e) ∙ h)
+
+sort_no_word : (s : Sort) (z : List ℕ) (ts : List Tok) (k : Keyword) → (s ≡ sort.Word → ⊥) → terminal_at (tok s z ∷ ts) ≡ terminal.Word k → ⊥
+sort_no_word sort.Word z ts k n e = n refl
+sort_no_word sort.Number z ts k n e = number_not (number_of z) (terminal.Word k) ts (λ h. cc) (λ h. cc) e
+sort_no_word sort.Text z ts k n e = text_not (content_of z) (terminal.Word k) ts (λ h. cc) (λ h. cc) e
+sort_no_word sort.Sign z ts k n e = sign_not (symbol_of z) (terminal.Word k) ts (λ s h. cc) (λ h. cc) e
+sort_no_word sort.Bad z ts k n e = cc
+
+sort_no_sign : (s : Sort) (z : List ℕ) (ts : List Tok) (k : Symbol) → (s ≡ sort.Sign → ⊥) → terminal_at (tok s z ∷ ts) ≡ terminal.Sign k → ⊥
+sort_no_sign sort.Word z ts k n e = word_not z (reserved_of z) (terminal.Sign k) ts (λ w h. cc) (λ g h. cc) (λ h. cc) e
+sort_no_sign sort.Number z ts k n e = number_not (number_of z) (terminal.Sign k) ts (λ h. cc) (λ h. cc) e
+sort_no_sign sort.Text z ts k n e = text_not (content_of z) (terminal.Sign k) ts (λ h. cc) (λ h. cc) e
+sort_no_sign sort.Sign z ts k n e = n refl
+sort_no_sign sort.Bad z ts k n e = cc
+
+pub token_no_word : (x : Token) {ts us : List Tok} → ts ≡ tok_of x ∷ us → (x.sort ≡ sort.Word → ⊥) → (k : Keyword) → Not (terminal.Word k) ts
+token_no_word x {ts} {us} e n k h = sort_no_word x.sort x.text.now us k n (ap terminal_at (sym e) ∙ h)
+
+pub token_no_sign : (x : Token) {ts us : List Tok} → ts ≡ tok_of x ∷ us → (x.sort ≡ sort.Sign → ⊥) → (k : Symbol) → Not (terminal.Sign k) ts
+token_no_sign x {ts} {us} e n k h = sort_no_sign x.sort x.text.now us k n (ap terminal_at (sym e) ∙ h)

@@ -1,6 +1,7 @@
 -- What may be a text.
 use Rattle.std.specs.Prelude.{ℕ, ◌+◌, Bool, false, ◌==◌, ◌&&◌, nat_le, List, length, Option, Some, None}
 use Rattle.std.specs.List.{list_all}
+use Rattle.mq_values.specs.Bytes.{QUOTE}
 use Rattle.mq_values.specs.declared.limits.TheConstants.{MAX_TEXT_BYTES}
 use Rattle.mq_values.specs.Text.{is_plain, is_text}
 use Rattle.mq_ast.specs.Spelling.{unquoted}
@@ -10,7 +11,7 @@ may_be_text None = false
 may_be_text (Some z) = is_text z
 
 abbrev pub is_quote : ℕ → Bool
-is_quote b = b == 39
+is_quote b = b == QUOTE
 
 -- whether so many bytes and these make a text
 abbrev pub fits : ℕ → Option (List ℕ) → Bool

@@ -13,7 +13,9 @@ ghost use Rattle.mq_parse_expr.specs.Fronts.{AsKind, Behind, Heads, HeadsAll, He
 
 use crate::forms::{AggHead, Form, IsTest, Tail, form_of, tail_of};
 use crate::names::{name_at, number_at, read_int, read_kind, read_name, text_at};
-use crate::terminals::{behind_sign, behind_word, pass_sign, pass_word, settled, terminal};
+use crate::terminals::{
+    behind_sign, behind_word, pass_sign, pass_word, settled, sign_at, terminal,
+};
 use crate::trees::{Tree, judged};
 use mq_ast::{E, Keyword, Symbol, Terminal, levels};
 use mq_lexer::Token;
@@ -41,8 +43,8 @@ pub(crate) fn tail_at(t: &[Token<'_>], at: usize) -> Tail
 pub(crate) fn sum_op(t: &[Token<'_>], at: usize) -> Option<SumOp>
     ensures { MatchOption result ((op : SumOp) → Not (Terminal.Sign (Symbol.Sum op)) (from t.now at)) (λ op. Then (Sign (Symbol.Sum op)) t.now at (at + 1)) }
 {
-    match terminal(t, at) {
-        Terminal::Sign(Symbol::Sum(op)) => Some(op),
+    match sign_at(t, at) {
+        Some(Symbol::Sum(op)) => Some(op),
         _ => None,
     }
 }
@@ -52,8 +54,8 @@ pub(crate) fn sum_op(t: &[Token<'_>], at: usize) -> Option<SumOp>
 pub(crate) fn prod_op(t: &[Token<'_>], at: usize) -> Option<ProdOp>
     ensures { MatchOption result ((op : ProdOp) → Not (Terminal.Sign (Symbol.Prod op)) (from t.now at)) (λ op. Then (Sign (Symbol.Prod op)) t.now at (at + 1)) }
 {
-    match terminal(t, at) {
-        Terminal::Sign(Symbol::Prod(op)) => Some(op),
+    match sign_at(t, at) {
+        Some(Symbol::Prod(op)) => Some(op),
         _ => None,
     }
 }

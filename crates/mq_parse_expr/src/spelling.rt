@@ -4,6 +4,7 @@ ghost use Rattle.std.specs.Prelude.{◌≡◌, Option, ◌≤◌, ◌<◌, ◌�
 ghost use Rattle.std.specs.List.{position_or_len, before_first, after_first};
 ghost use Rattle.std.specs.Option.{option_map};
 ghost use Rattle.std.specs.String.{string_bytes};
+ghost use Rattle.mq_values.specs.Bytes.{QUOTE};
 ghost use Rattle.mq_ast.specs.Tokens as tok;
 ghost use Rattle.mq_ast.specs.Spelling as spec;
 ghost use Rattle.mq_parse_expr.specs.Rows.{fits, fits_behind, fits_next, is_quote, may_be_text};
@@ -72,7 +73,7 @@ fn split_at_quote(text: &str) -> Option<(&str, &str)>
 
 // What stands behind a quote at the front.
 fn behind_quote(text: &str) -> Option<&str>
-    ensures { MatchOption result ((r : List ℕ) → text.now ≢ 39 ∷ r) (λ x. text.now ≡ 39 ∷ x.now) }
+    ensures { MatchOption result ((r : List ℕ) → text.now ≢ QUOTE ∷ r) (λ x. text.now ≡ QUOTE ∷ x.now) }
 {
     match text.strip_prefix('\'') {
         Some(rest) => Some(rest),
@@ -82,7 +83,7 @@ fn behind_quote(text: &str) -> Option<&str>
 
 // Puts a piece and a quote behind the content.
 fn put_piece(content: &mut String, piece: &str) -> Result<(), AllocError>
-    ensures { OnOk result (string_bytes content.new ≡ (string_bytes content.old ++ piece.now) ++ 39 ∷ []) }
+    ensures { OnOk result (string_bytes content.new ≡ (string_bytes content.old ++ piece.now) ++ QUOTE ∷ []) }
 {
     content.push_str(piece)?;
     content.push('\'')

@@ -60,23 +60,32 @@ pub fn terminal(t: &[Token<'_>], at: usize) -> Terminal
     }
 }
 
-// The reserved word at a place, where one stands there.
+// The reserved word at a place, where one stands there. The spelling is asked of words alone.
 fn word_at(t: &[Token<'_>], at: usize) -> Option<Keyword>
     ensures { MatchOption result ((k : Keyword) → Not (Terminal.Word k) (from t.now at)) (λ k. (at < length t.now) × (terminal_at (from t.now at) ≡ Terminal.Word k)) }
 {
-    match terminal(t, at) {
-        Terminal::Word(word) => Some(word),
-        _ => None,
+    match token_at(t, at) {
+        Some(token) => match token.sort {
+            Sort::Word => match reserved_word(token.text) {
+                Some(Reserved::Word(word)) => Some(word),
+                _ => None,
+            },
+            _ => None,
+        },
+        None => None,
     }
 }
 
-// The sign at a place, where one stands there.
-fn sign_at(t: &[Token<'_>], at: usize) -> Option<Symbol>
+/// The sign at a place, where one stands there. The spelling is asked of signs alone.
+pub(crate) fn sign_at(t: &[Token<'_>], at: usize) -> Option<Symbol>
     ensures { MatchOption result ((s : Symbol) → Not (Terminal.Sign s) (from t.now at)) (λ s. (at < length t.now) × (terminal_at (from t.now at) ≡ Terminal.Sign s)) }
 {
-    match terminal(t, at) {
-        Terminal::Sign(sign) => Some(sign),
-        _ => None,
+    match token_at(t, at) {
+        Some(token) => match token.sort {
+            Sort::Sign => symbol(token.text),
+            _ => None,
+        },
+        None => None,
     }
 }
 
@@ -177,11 +186,21 @@ pub fn looseness(terminal: Terminal) -> u8
     }
 }
 
+// Whether no token stands at the place that goes on at this level. Below tests signs alone go on.
+fn stops(t: &[Token<'_>], at: usize, level: u8) -> bool
+    ensures { IsTrue result ↔ Stops level (from t.now at) }
+{
+    match sign_at(t, at) {
+        Some(sign) => looseness_of_sign(sign) > level,
+        None => level < levels::TEST || looseness(terminal(t, at)) > level,
+    }
+}
+
 /// Nothing, where no token stands at the place that goes on at this level; else SYNTAX.
 pub fn settled(t: &[Token<'_>], at: usize, level: u8) -> Result<(), Fail<Refused>>
     ensures { MatchResult result (λ _. Stops level (from t.now at)) (λ f. Fails f (loose (terminal_at (from t.now at)) ≤ level)) }
 {
-    if looseness(terminal(t, at)) > level {
+    if stops(t, at, level) {
         Ok(())
     } else {
         Err(Fail::Cause(Refused::Syntax))
