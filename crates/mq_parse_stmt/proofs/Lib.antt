@@ -1,3 +1,4 @@
 pub mod DepthLemmas
+pub mod LastLemmas
 pub mod PieceLemmas
 pub mod StmtLemmas

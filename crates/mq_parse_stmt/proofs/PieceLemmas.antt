@@ -1,6 +1,9 @@
 -- Where a part of a statement reads nothing, by its parts.
-use Rattle.std.proofs.Common.{◌≡◌, ℕ, ◌≤◌, List, ◌∷◌, refl, ap, arith}
+use Rattle.std.proofs.Common.{◌≡◌, ℕ, ◌≤◌, List, ◌∷◌, Result, Ok, Err, refl, ap, arith}
 use Rattle.std.specs.Prelude.{Option}
+use Rattle.mq_values.specs.declared.memory.Fail.{Fail}
+use Rattle.mq_values.specs.declared.faults.Refused.{Refused}
+use Rattle.mq_lexer.specs.declared.sorts.Token.{Token}
 use Rattle.mq_values.specs.declared.value.Kind.{Kind}
 use Rattle.mq_values.specs.declared.operators.CmpOp.TheVariants as cmp
 use Rattle.mq_ast.specs.declared.statements.ColDef.{ColDef}
@@ -11,14 +14,21 @@ use Rattle.mq_ast.specs.declared.terminals.Symbol.TheVariants as sign
 use Rattle.mq_ast.specs.declared.terminals.Terminal.TheVariants as terminal
 use Rattle.mq_lexer.specs.declared.keywords.Keyword.TheVariants as word
 use Rattle.mq_ast.specs.Prelude.{ColE, EndsCols, EndsList, Expr, KindE, MoreOf, Name, NameE, NamesE, Not, NotNullE, PrimaryE, SetE}
-use Rattle.mq_ast.specs.Prelude.{SomeOf, Stops, Text, Tok, WhereE, Word, col, comma, equal, key, loose, more_comma, more_end, name}
+use Rattle.mq_ast.specs.Prelude.{SomeOf, Stops, Text, Tok, WhereE, Word, col, comma, equal, loose, more_comma, more_end, name}
 use Rattle.mq_ast.specs.Prelude.{names, names_none, names_some, null_may, null_not, opener, primary_none, primary_some, set, some_of}
 use Rattle.mq_ast.specs.Prelude.{terminal_at}
 use Rattle.mq_ast.specs.Laws.{begin, col_same, cols_of_same, kind_same, names_of_same, names_same, primary_ends, primary_same}
 use Rattle.mq_ast.specs.Laws.{sets_same, stops_not, where_same, where_stop}
 use Rattle.mq_parse_expr.specs.Names.{TextE, txt}
-use Rattle.mq_parse_expr.specs.Reading.{No, Anywhere}
+use Rattle.mq_parse_expr.specs.Reading.{from, No, Anywhere, Gives}
+use Rattle.mq_parse_expr.specs.StepLemmas.{exit}
+use Rattle.mq_parse_stmt.specs.Results.{beside}
 use Rattle.mq_parse_stmt.specs.Pieces.{WordName, word_name, KeyEnd, KeyBehind, Body, body, NamesValues, Changes, changes}
+
+-- a part with another before it
+pub beside_gives : {A B : Type 0} (R : A × B → List Tok → List Tok → Type 0) (S : B → List Tok → List Tok → Type 0) (Stop : List Tok → Type 0) (t : List Token) (at mid : ℕ) (a : A) (found : Result (B × ℕ) (Fail Refused)) → at ≤ mid → ((b : B) (to : List Tok) → S b (from t mid) to → R (a, b) (from t at) to) → (No S Stop (from t mid) → No R Stop (from t at)) → Gives S Stop t mid found → Gives R Stop t at (beside a found)
+beside_gives R S Stop t at mid a (Ok r) l f h g = (omega (arith, l, g.0), g.1, f r.0 _ g.2, g.3)
+beside_gives R S Stop t at mid a (Err f') l f h g = exit f' g h
 
 -- a name behind a word, and a text
 pub word_named : {k : Keyword} {n : List ℕ} {ts to : List Tok} → WordName k n ts to → ts ≡ Word k ∷ Name n ∷ to

@@ -1,3 +1,4 @@
 pub mod Depth
+pub mod Results
 pub mod Pieces
 pub mod Parsing

@@ -1,10 +1,15 @@
 -- Parts of statements that have readers of their own. R a from to: a reads the tokens of `from` before `to`.
-use Rattle.std.specs.Prelude.{ℕ, List, ◌∷◌, Option}
+use Rattle.std.specs.Prelude.{◌≡◌, ℕ, List, ◌∷◌, Option, Some, None}
 use Rattle.mq_ast.specs.declared.statements.ColDef.{ColDef}
 use Rattle.mq_ast.specs.declared.expressions.E.{E}
 use Rattle.mq_lexer.specs.declared.keywords.Keyword.{Keyword}
 use Rattle.mq_lexer.specs.declared.keywords.Keyword.TheVariants as word
-use Rattle.mq_ast.specs.Prelude.{ColE, MaybeNames, Name, PrimaryE, SetE, SomeOf, Tok, WhereE, Word, closer, comma, opener}
+use Rattle.mq_ast.specs.declared.terminals.Symbol.TheVariants as sign
+use Rattle.mq_ast.specs.declared.terminals.Terminal.TheVariants as terminal
+use Rattle.mq_lexer.specs.declared.sorts.Token.{Token}
+use Rattle.mq_ast.specs.Prelude.{ColE, MaybeNames, Name, Not, PrimaryE, SetE, SomeOf, Tok, WhereE, Word, closer, comma, opener}
+use Rattle.mq_ast.specs.Prelude.{rest_of, terminal_at}
+use Rattle.mq_parse_expr.specs.Reading.{from, Then}
 
 -- this word and the name behind it
 pub data WordName : Keyword → List ℕ → List Tok → List Tok → Type 0 where
@@ -20,7 +25,8 @@ KeyBehind ks from to = KeyEnd ks (comma ∷ from) to
 
 -- '(' col {',' col} [',' PRIMARY KEY '(' names ')'] ')'
 pub data Body : List ColDef × List (List ℕ) → List Tok → List Tok → Type 0 where
-  body : {cs : List ColDef} {ks : List (List ℕ)} {from mid to : List Tok} → SomeOf ColE cs from mid → KeyEnd ks mid to → Body (cs, ks) (opener ∷ from) to
+  body : {cs : List ColDef} {ks : List (List ℕ)} {from mid to : List Tok} →
+      SomeOf ColE cs from mid → KeyEnd ks mid to → Body (cs, ks) (opener ∷ from) to
 
 -- ['(' names ')'] VALUES
 abbrev pub NamesValues : Option (List (List ℕ)) → List Tok → List Tok → Type 0
@@ -28,4 +34,10 @@ NamesValues o from to = MaybeNames o from (Word word.Values ∷ to)
 
 -- name '=' e {',' name '=' e} [WHERE e]
 pub data Changes : List (List ℕ × E) × Option E → List Tok → List Tok → Type 0 where
-  changes : {xs : List (List ℕ × E)} {o : Option E} {from mid to : List Tok} → SomeOf SetE xs from mid → WhereE o mid to → Changes (xs, o) from to
+  changes : {xs : List (List ℕ × E)} {o : Option E} {from mid to : List Tok} →
+      SomeOf SetE xs from mid → WhereE o mid to → Changes (xs, o) from to
+
+-- a comma stands here that PRIMARY does not follow, and the other place is behind it; or none does
+abbrev pub NextCol : List Token → ℕ → Option ℕ → Type 0
+NextCol t at (Some next) = Then comma t at next × Not (terminal.Word word.Primary) (from t next)
+NextCol t at None = terminal_at (from t at) ≡ terminal.Sign sign.Comma → terminal_at (rest_of (from t at)) ≡ terminal.Word word.Primary

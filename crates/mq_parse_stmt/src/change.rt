@@ -8,7 +8,7 @@ ghost use Rattle.mq_parse_expr.specs.Reading.{from, Anywhere, Gives};
 ghost use Rattle.mq_parse_stmt.specs.Pieces.{NamesValues, Changes};
 ghost use Rattle.mq_parse_stmt.specs.Parsing.{Whole};
 
-use crate::pieces::{ended, read_names, read_word_name};
+use crate::pieces::{beside, last, read_names, read_word_name};
 use mq_ast::{E, Keyword, Stmt, Symbol};
 use mq_lexer::Token;
 use mq_parse_expr::{behind_word, pass_sign, pass_word, read_expr, read_name, read_text};
@@ -18,13 +18,11 @@ use std::alloc::Global;
 
 /// Rows put into a table, from behind INSERT on.
 pub(crate) fn read_insert(alloc: Global, t: &[Token<'_>], at: usize) -> Result<Stmt, Fail<Refused>>
-    requires { at ≤ length t.now }
     ensures { Whole (Word Keyword.Insert ∷ from t.now at) result }
 {
     let (name, mid) = read_word_name(alloc, t, at, Keyword::Into)?;
     let (cols, values) = read_names_values(alloc, t, mid)?;
-    let (rows, to) = read_list::<Row>(alloc, t, values)?;
-    ended(t, to)?;
+    let rows = last(t, read_list::<Row>(alloc, t, values))?;
     Ok(Stmt::Insert { name, cols, rows })
 }
 
@@ -34,7 +32,6 @@ fn read_names_values(
     t: &[Token<'_>],
     at: usize,
 ) -> Result<(Option<Items<Words>>, usize), Fail<Refused>>
-    requires { at ≤ length t.now }
     ensures { Gives NamesValues Anywhere t.now at result }
 {
     match behind_word(t, at, Keyword::Values) {
@@ -49,13 +46,11 @@ fn read_names_values(
 
 /// Rows changed, from behind UPDATE on.
 pub(crate) fn read_update(alloc: Global, t: &[Token<'_>], at: usize) -> Result<Stmt, Fail<Refused>>
-    requires { at ≤ length t.now }
     ensures { Whole (Word Keyword.Update ∷ from t.now at) result }
 {
     let (name, mid) = read_name(alloc, t, at)?;
     let set = pass_word(t, mid, Keyword::Set)?;
-    let (changes, to) = read_changes(alloc, t, set)?;
-    ended(t, to)?;
+    let changes = last(t, read_changes(alloc, t, set))?;
     Ok(update(name, changes))
 }
 
@@ -76,8 +71,7 @@ fn read_changes(
     ensures { Gives Changes (Stops level.FILTERED) t.now at result }
 {
     let (sets, mid) = read_list::<Set>(alloc, t, at)?;
-    let (filter, to) = read_where(alloc, t, mid)?;
-    Ok(((sets, filter), to))
+    beside(sets, read_where(alloc, t, mid))
 }
 
 // A new value of a column, as a part of lists.
@@ -110,8 +104,7 @@ fn read_set(alloc: Global, t: &[Token<'_>], at: usize) -> Result<((Words, E), us
 {
     let (name, mid) = read_name(alloc, t, at)?;
     let value = pass_sign(t, mid, Symbol::Cmp(CmpOp::Eq))?;
-    let (e, to) = read_expr(alloc, t, value)?;
-    Ok(((name, e), to))
+    beside(name, read_expr(alloc, t, value))
 }
 
 /// Rows taken out of a table, from behind DELETE on.
@@ -119,8 +112,7 @@ pub(crate) fn read_delete(alloc: Global, t: &[Token<'_>], at: usize) -> Result<S
     ensures { Whole (Word Keyword.Delete ∷ from t.now at) result }
 {
     let (name, mid) = read_word_name(alloc, t, at, Keyword::From)?;
-    let (filter, to) = read_where(alloc, t, mid)?;
-    ended(t, to)?;
+    let filter = last(t, read_where(alloc, t, mid))?;
     Ok(Stmt::Delete { name, filter })
 }
 
@@ -130,7 +122,6 @@ pub(crate) fn read_load(alloc: Global, t: &[Token<'_>], at: usize) -> Result<Stm
 {
     let (name, mid) = read_word_name(alloc, t, at, Keyword::Into)?;
     let text = pass_word(t, mid, Keyword::From)?;
-    let (file, to) = read_text(alloc, t, text)?;
-    ended(t, to)?;
+    let file = last(t, read_text(alloc, t, text))?;
     Ok(Stmt::Load { name, file })
 }

@@ -1,13 +1,13 @@
 //! CREATE and DROP (docs/LANGUAGE.md, "Statements").
 
-ghost use Rattle.std.specs.Prelude.{◌≡◌, ◌≢◌, ◌≤◌, List, ◌∷◌, length, MatchOption};
+ghost use Rattle.std.specs.Prelude.{◌≡◌, ◌≢◌, ◌≤◌, List, ◌∷◌, length};
 ghost use Rattle.mq_ast.specs.declared.levels.TheConstants as level;
-ghost use Rattle.mq_ast.specs.Prelude.{ColE, EndsCols, MoreOf, Not, NotNullE, SomeOf, Stops, Word, col_of, comma, rest_of, terminal_at};
-ghost use Rattle.mq_parse_expr.specs.Reading.{from, Then, Anywhere, Gives};
-ghost use Rattle.mq_parse_stmt.specs.Pieces.{Body, KeyEnd, KeyBehind};
+ghost use Rattle.mq_ast.specs.Prelude.{ColE, EndsCols, MoreOf, Not, NotNullE, SomeOf, Stops, Word, col_of};
+ghost use Rattle.mq_parse_expr.specs.Reading.{from, Anywhere, Gives};
+ghost use Rattle.mq_parse_stmt.specs.Pieces.{Body, KeyEnd, KeyBehind, NextCol};
 ghost use Rattle.mq_parse_stmt.specs.Parsing.{Whole};
 
-use crate::pieces::{ended, read_names, read_word_name};
+use crate::pieces::{beside, last, read_names, read_word_name};
 use mq_ast::{ColDef, Keyword, Stmt, Symbol, Terminal, levels};
 use mq_lexer::Token;
 use mq_parse_expr::{
@@ -19,7 +19,6 @@ use std::alloc::Global;
 
 /// A statement that begins with CREATE, from behind it on.
 pub(crate) fn read_create(alloc: Global, t: &[Token<'_>], at: usize) -> Result<Stmt, Fail<Refused>>
-    requires { at ≤ length t.now }
     ensures { Whole (Word Keyword.Create ∷ from t.now at) result }
 {
     match behind_word(t, at, Keyword::Table) {
@@ -30,12 +29,10 @@ pub(crate) fn read_create(alloc: Global, t: &[Token<'_>], at: usize) -> Result<S
 
 // A new table, from behind TABLE on.
 fn read_table(alloc: Global, t: &[Token<'_>], at: usize) -> Result<Stmt, Fail<Refused>>
-    requires { at ≤ length t.now }
     ensures { Whole (Word Keyword.Create ∷ Word Keyword.Table ∷ from t.now at) result }
 {
     let (name, mid) = read_name(alloc, t, at)?;
-    let (body, to) = read_body(alloc, t, mid)?;
-    ended(t, to)?;
+    let body = last(t, read_body(alloc, t, mid))?;
     Ok(table(name, body))
 }
 
@@ -48,14 +45,12 @@ fn table(name: Words, body: (Items<ColDef>, Items<Words>)) -> Stmt
 
 // A new view, from behind CREATE on.
 fn read_view(alloc: Global, t: &[Token<'_>], at: usize) -> Result<Stmt, Fail<Refused>>
-    requires in_range { at ≤ length t.now }
-    requires no_table { Not (Terminal.Word Keyword.Table) (from t.now at) }
+    requires { Not (Terminal.Word Keyword.Table) (from t.now at) }
     ensures { Whole (Word Keyword.Create ∷ from t.now at) result }
 {
     let (name, mid) = read_word_name(alloc, t, at, Keyword::View)?;
     let text = pass_word(t, mid, Keyword::As)?;
-    let (query, to) = read_query(alloc, t, text)?;
-    ended(t, to)?;
+    let query = last(t, read_query(alloc, t, text))?;
     Ok(Stmt::CreateView { name, query })
 }
 
@@ -73,8 +68,7 @@ pub(crate) fn read_drop(alloc: Global, t: &[Token<'_>], at: usize) -> Result<Stm
 fn read_drop_table(alloc: Global, t: &[Token<'_>], at: usize) -> Result<Stmt, Fail<Refused>>
     ensures { Whole (Word Keyword.Drop ∷ Word Keyword.Table ∷ from t.now at) result }
 {
-    let (name, to) = read_name(alloc, t, at)?;
-    ended(t, to)?;
+    let name = last(t, read_name(alloc, t, at))?;
     Ok(Stmt::DropTable { name })
 }
 
@@ -83,8 +77,7 @@ fn read_drop_view(alloc: Global, t: &[Token<'_>], at: usize) -> Result<Stmt, Fai
     requires { Not (Terminal.Word Keyword.Table) (from t.now at) }
     ensures { Whole (Word Keyword.Drop ∷ from t.now at) result }
 {
-    let (name, to) = read_word_name(alloc, t, at, Keyword::View)?;
-    ended(t, to)?;
+    let name = last(t, read_word_name(alloc, t, at, Keyword::View))?;
     Ok(Stmt::DropView { name })
 }
 
@@ -98,8 +91,7 @@ fn read_body(
 {
     let open = pass_sign(t, at, Symbol::Open)?;
     let (cols, mid) = read_cols(alloc, t, open)?;
-    let (key, to) = read_key_end(alloc, t, mid)?;
-    Ok(((cols, key), to))
+    beside(cols, read_key_end(alloc, t, mid))
 }
 
 // The columns of a table, up to a place where no other begins.
@@ -138,7 +130,7 @@ fn read_more_cols(
 
 // The place behind a comma that PRIMARY does not follow.
 fn behind_comma(t: &[Token<'_>], at: usize) -> Option<usize>
-    ensures { MatchOption result (terminal_at (from t.now at) ≡ Terminal.Sign Symbol.Comma → terminal_at (rest_of (from t.now at)) ≡ Terminal.Word Keyword.Primary) (λ next. Then comma t.now at next × Not (Terminal.Word Keyword.Primary) (from t.now next)) }
+    ensures { NextCol t.now at result }
 {
     match behind_sign(t, at, Symbol::Comma) {
         Some(next) => match behind_word(t, next, Keyword::Primary) {

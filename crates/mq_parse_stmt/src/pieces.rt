@@ -1,9 +1,10 @@
 //! Parts that several statements share.
 
-ghost use Rattle.std.specs.Prelude.{◌≡◌, ◌≢◌, ◌≤◌, [], List, ◌∷◌, length, MatchResult};
+ghost use Rattle.std.specs.Prelude.{◌≡◌};
 ghost use Rattle.mq_ast.specs.Prelude.{NamesE};
-ghost use Rattle.mq_parse_expr.specs.Reading.{from, Anywhere, Fails, Gives};
+ghost use Rattle.mq_parse_expr.specs.Reading.{Anywhere, Gives};
 ghost use Rattle.mq_parse_stmt.specs.Pieces.{WordName};
+ghost use Rattle.mq_parse_stmt.specs.Results.{Ended, beside as spec_beside};
 
 use mq_ast::{Keyword, Symbol};
 use mq_lexer::Token;
@@ -18,7 +19,6 @@ pub(crate) fn read_names(
     t: &[Token<'_>],
     at: usize,
 ) -> Result<(Items<Words>, usize), Fail<Refused>>
-    requires { at ≤ length t.now }
     ensures { Gives NamesE Anywhere t.now at result }
 {
     let open = pass_sign(t, at, Symbol::Open)?;
@@ -41,12 +41,27 @@ pub(crate) fn read_word_name(
     Ok((name, to))
 }
 
-/// Nothing, behind the last token; else SYNTAX.
-pub(crate) fn ended(t: &[Token<'_>], at: usize) -> Result<(), Fail<Refused>>
-    ensures { MatchResult result (λ _. from t.now at ≡ []) (λ f. Fails f (from t.now at ≢ [])) }
+/// What was read, where it ends behind the last token; SYNTAX where it does not.
+pub(crate) fn last<T: Drop>(
+    t: &[Token<'_>],
+    found: Result<(T, usize), Fail<Refused>>,
+) -> Result<T, Fail<Refused>>
+    ensures { Ended t.now found result }
 {
-    match token_at(t, at) {
+    let (tree, to) = found?;
+    match token_at(t, to) {
         Some(_) => Err(Fail::Cause(Refused::Syntax)),
-        None => Ok(()),
+        None => Ok(tree),
     }
+}
+
+/// What was read, with a part that was read before it.
+pub(crate) fn beside<A: Drop, B: Drop>(
+    first: A,
+    found: Result<(B, usize), Fail<Refused>>,
+) -> Result<((A, B), usize), Fail<Refused>>
+    ensures { result ≡ spec_beside first found }
+{
+    let (second, to) = found?;
+    Ok(((first, second), to))
 }

@@ -8,7 +8,7 @@ ghost use Rattle.mq_parse_stmt.specs.Parsing.{Parses, Whole};
 use crate::change::{read_delete, read_insert, read_load, read_update};
 use crate::create::{read_create, read_drop};
 use crate::depth::is_too_deep;
-use crate::pieces::ended;
+use crate::pieces::last;
 use mq_ast::{Keyword, Stmt, Terminal};
 use mq_lexer::Token;
 use mq_parse_expr::{behind_word, read_name};
@@ -75,8 +75,7 @@ fn read_rows(alloc: Global, t: &[Token<'_>], behind: usize) -> Result<Stmt, Fail
     requires { from t.now 0 ≡ Word Keyword.Select ∷ from t.now behind }
     ensures { Whole (from t.now 0) result }
 {
-    let (query, to) = read_query(alloc, t, 0)?;
-    ended(t, to)?;
+    let query = last(t, read_query(alloc, t, 0))?;
     Ok(Stmt::Query(query))
 }
 
@@ -84,7 +83,6 @@ fn read_rows(alloc: Global, t: &[Token<'_>], behind: usize) -> Result<Stmt, Fail
 fn read_show(alloc: Global, t: &[Token<'_>], at: usize) -> Result<Stmt, Fail<Refused>>
     ensures { Whole (Word Keyword.Show ∷ from t.now at) result }
 {
-    let (name, to) = read_name(alloc, t, at)?;
-    ended(t, to)?;
+    let name = last(t, read_name(alloc, t, at))?;
     Ok(Stmt::Show { name })
 }

@@ -1,7 +1,6 @@
 use Rattle.std.proofs.Common.{arith}
-use Rattle.std.proofs.lemmas.Result.{err_from_is_err_and}
 use Rattle.mq_ast.specs.Prelude.{NamesE, names_none, names_some}
-use Rattle.mq_parse_expr.specs.StepLemmas.{exit, there, till}
+use Rattle.mq_parse_expr.specs.StepLemmas.{quit, there, till}
 use Rattle.mq_parse_stmt.specs.Pieces.{NamesValues}
 use Rattle.mq_parse_stmt.proofs.PieceLemmas.{values_no_names, values_no_values}
 use Rattle.mq_parse_stmt.proofs.change.read_names_values.Goals as goal
@@ -12,13 +11,11 @@ returns-in-Some c =
 
 pub returns-in_err-names-in-None : goal.returns-in_err-names-in-None
 returns-in_err-names-in-None c =
-    let p = err_from_is_err_and c.from_residual.result c.from_residual.ensures.1 in
-    rw (p.1, p.2) (exit c.in_err-names-in-None.field-0.0 c.in_err-names-in-None.ensures (λ h. values_no_names c.in-None.ensures h))
+    quit NamesValues c.args.t.now c.args.at c.from_residual.result c.in_err-names-in-None.field-0.0 c.from_residual.ensures.1 c.in_err-names-in-None.ensures (λ h. values_no_names c.in-None.ensures h)
 
 pub returns-in_err-to-in-None : goal.returns-in_err-to-in-None
 returns-in_err-to-in-None c =
-    let p = err_from_is_err_and c.from_residual-in_err-to-in-None.result c.from_residual-in_err-to-in-None.ensures.1 in
-    rw (p.1, p.2) (exit c.in_err-to-in-None.field-0.0 c.in_err-to-in-None.ensures (λ h. values_no_values c.in_ok-names-in-None.ensures.2 h))
+    quit NamesValues c.args.t.now c.args.at c.from_residual-in_err-to-in-None.result c.in_err-to-in-None.field-0.0 c.from_residual-in_err-to-in-None.ensures.1 c.in_err-to-in-None.ensures (λ h. values_no_values c.in_ok-names-in-None.ensures.2 h)
 
 pub returns-in_ok-to-in-None : goal.returns-in_ok-to-in-None
 returns-in_ok-to-in-None c =

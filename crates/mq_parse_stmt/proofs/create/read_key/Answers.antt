@@ -1,32 +1,27 @@
 use Rattle.std.proofs.Common.{◌∷◌, ap, ◌∙◌, arith}
-use Rattle.std.proofs.lemmas.Result.{err_from_is_err_and}
 use Rattle.mq_lexer.specs.declared.keywords.Keyword.TheVariants as word
 use Rattle.mq_ast.specs.Prelude.{NamesE, Word, primary_some}
 use Rattle.mq_parse_expr.specs.Reading.{Anywhere}
-use Rattle.mq_parse_expr.specs.StepLemmas.{exit, here, there, till}
+use Rattle.mq_parse_expr.specs.StepLemmas.{quit, here, there, till}
 use Rattle.mq_parse_stmt.specs.Pieces.{KeyBehind}
 use Rattle.mq_parse_stmt.proofs.PieceLemmas.{key_no_primary, key_no_key, key_no_names, key_no_end}
 use Rattle.mq_parse_stmt.proofs.create.read_key.Goals as goal
 
 pub returns-in_err-primary : goal.returns-in_err-primary
 returns-in_err-primary c =
-    let p = err_from_is_err_and c.from_residual.result c.from_residual.ensures.1 in
-    rw (p.1, p.2) (exit c.in_err-primary.field-0.0 c.in_err-primary.ensures (key_no_primary))
+    quit KeyBehind c.args.t.now c.args.at c.from_residual.result c.in_err-primary.field-0.0 c.from_residual.ensures.1 c.in_err-primary.ensures (key_no_primary)
 
 pub returns-in_err-key : goal.returns-in_err-key
 returns-in_err-key c =
-    let p = err_from_is_err_and c.from_residual-in_err-key.result c.from_residual-in_err-key.ensures.1 in
-    rw (p.1, p.2) (exit c.in_err-key.field-0.0 c.in_err-key.ensures (λ h. here KeyBehind Anywhere c.in_ok-primary.ensures.2 (key_no_key h)))
+    quit KeyBehind c.args.t.now c.args.at c.from_residual-in_err-key.result c.in_err-key.field-0.0 c.from_residual-in_err-key.ensures.1 c.in_err-key.ensures (λ h. here KeyBehind Anywhere c.in_ok-primary.ensures.2 (key_no_key h))
 
 pub returns-in_err-names : goal.returns-in_err-names
 returns-in_err-names c =
-    let p = err_from_is_err_and c.from_residual-in_err-names.result c.from_residual-in_err-names.ensures.1 in
-    rw (p.1, p.2) (exit c.in_err-names.field-0.0 c.in_err-names.ensures (λ h. here KeyBehind Anywhere (c.in_ok-primary.ensures.2 ∙ ap (λ r. Word word.Primary ∷ r) c.in_ok-key.ensures.2) (key_no_names h)))
+    quit KeyBehind c.args.t.now c.args.at c.from_residual-in_err-names.result c.in_err-names.field-0.0 c.from_residual-in_err-names.ensures.1 c.in_err-names.ensures (λ h. here KeyBehind Anywhere (c.in_ok-primary.ensures.2 ∙ ap (λ r. Word word.Primary ∷ r) c.in_ok-key.ensures.2) (key_no_names h))
 
 pub returns-in_err-to : goal.returns-in_err-to
 returns-in_err-to c =
-    let p = err_from_is_err_and c.from_residual-in_err-to.result c.from_residual-in_err-to.ensures.1 in
-    rw (p.1, p.2) (exit c.in_err-to.field-0.0 c.in_err-to.ensures (λ h. here KeyBehind Anywhere (c.in_ok-primary.ensures.2 ∙ ap (λ r. Word word.Primary ∷ r) c.in_ok-key.ensures.2) (key_no_end c.in_ok-names.ensures.2 h)))
+    quit KeyBehind c.args.t.now c.args.at c.from_residual-in_err-to.result c.in_err-to.field-0.0 c.from_residual-in_err-to.ensures.1 c.in_err-to.ensures (λ h. here KeyBehind Anywhere (c.in_ok-primary.ensures.2 ∙ ap (λ r. Word word.Primary ∷ r) c.in_ok-key.ensures.2) (key_no_end c.in_ok-names.ensures.2 h))
 
 pub returns : goal.returns
 returns c =

@@ -1,8 +1,7 @@
 use Rattle.std.proofs.Common.{◌∷◌, arith}
-use Rattle.std.proofs.lemmas.Result.{err_from_is_err_and}
 use Rattle.mq_ast.specs.Prelude.{comma, primary_none}
 use Rattle.mq_parse_expr.specs.Reading.{Anywhere}
-use Rattle.mq_parse_expr.specs.StepLemmas.{exit, there, as_value, fronted}
+use Rattle.mq_parse_expr.specs.StepLemmas.{quit, there, as_value, fronted}
 use Rattle.mq_parse_stmt.specs.Pieces.{KeyEnd}
 use Rattle.mq_parse_stmt.proofs.PieceLemmas.{key_no_close}
 use Rattle.mq_parse_stmt.proofs.create.read_key_end.Goals as goal
@@ -14,8 +13,7 @@ returns-in-Some c =
 
 pub returns-in_err-to-in-None : goal.returns-in_err-to-in-None
 returns-in_err-to-in-None c =
-    let p = err_from_is_err_and c.from_residual.result c.from_residual.ensures.1 in
-    rw (p.1, p.2) (exit c.in_err-to-in-None.field-0.0 c.in_err-to-in-None.ensures (λ h. key_no_close c.in-None.ensures h))
+    quit KeyEnd c.args.t.now c.args.at c.from_residual.result c.in_err-to-in-None.field-0.0 c.from_residual.ensures.1 c.in_err-to-in-None.ensures (λ h. key_no_close c.in-None.ensures h)
 
 pub returns-in_ok-to-in-None : goal.returns-in_ok-to-in-None
 returns-in_ok-to-in-None c =

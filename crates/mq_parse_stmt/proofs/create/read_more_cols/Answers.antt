@@ -1,14 +1,12 @@
-use Rattle.std.proofs.lemmas.Result.{err_from_is_err_and}
 use Rattle.mq_ast.specs.declared.levels.TheConstants as level
 use Rattle.mq_ast.specs.Prelude.{ColE, EndsCols, MoreOf, Stops, comma, more_comma, more_end}
-use Rattle.mq_parse_expr.specs.StepLemmas.{exit, one_more, cut_short, all_found}
+use Rattle.mq_parse_expr.specs.StepLemmas.{quit, one_more, cut_short, all_found}
 use Rattle.mq_parse_stmt.proofs.PieceLemmas.{cols_no_next, cols_no_more}
 use Rattle.mq_parse_stmt.proofs.create.read_more_cols.Goals as goal
 
 pub returns-in_err-col : goal.returns-in_err-col
 returns-in_err-col c =
-    let p = err_from_is_err_and c.from_residual.result c.from_residual.ensures.1 in
-    rw (p.1, p.2) (exit c.in_err-col.field-0.0 c.in_err-col.ensures (λ h. cut_short (MoreOf ColE) (Stops level.EXPRESSION) EndsCols c.args.t.now c.args.at c.loop-behind.to c.loop-behind.found c.loop-behind.invariant comma c.in-Some.behind c.in-Some.ensures.0 (cols_no_next c.in-Some.ensures.1 h)))
+    quit (MoreOf ColE) c.args.t.now c.args.at c.from_residual.result c.in_err-col.field-0.0 c.from_residual.ensures.1 c.in_err-col.ensures (λ h. cut_short (MoreOf ColE) (Stops level.EXPRESSION) EndsCols c.args.t.now c.args.at c.loop-behind.to c.loop-behind.found c.loop-behind.invariant comma c.in-Some.behind c.in-Some.ensures.0 (cols_no_next c.in-Some.ensures.1 h))
 
 pub loop-behind-preserved : goal.loop-behind-preserved
 loop-behind-preserved c =

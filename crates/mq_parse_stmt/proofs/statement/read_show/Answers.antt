@@ -1,22 +1,15 @@
-use Rattle.std.proofs.Common.{◌∷◌, refl, ap, ◌∙◌}
-use Rattle.std.proofs.lemmas.Result.{err_from_is_err_and}
+use Rattle.std.proofs.Common.{◌∷◌, Ok, Err, refl, ap}
 use Rattle.mq_lexer.specs.declared.keywords.Keyword.TheVariants as word
-use Rattle.mq_ast.specs.Prelude.{Name, Word, stmt_show}
-use Rattle.mq_parse_expr.specs.StepLemmas.{exit}
+use Rattle.mq_ast.specs.Prelude.{Word, stmt_show}
 use Rattle.mq_parse_expr.specs.NameLemmas.{named}
-use Rattle.mq_parse_stmt.proofs.StmtLemmas.{none_at, stmt_at, show_no_name, show_no_end}
+use Rattle.mq_parse_stmt.proofs.LastLemmas.{read_all, last_name}
+use Rattle.mq_parse_stmt.proofs.StmtLemmas.{leave, stmt_at, show_no_name}
 use Rattle.mq_parse_stmt.proofs.statement.read_show.Goals as goal
 
 pub returns-in_err-name : goal.returns-in_err-name
 returns-in_err-name c =
-    let p = err_from_is_err_and c.from_residual.result c.from_residual.ensures.1 in
-    rw (p.1, p.2) (exit c.in_err-name.field-0.0 c.in_err-name.ensures (show_no_name))
-
-pub returns-in_err-ended : goal.returns-in_err-ended
-returns-in_err-ended c =
-    let p = err_from_is_err_and c.from_residual-in_err-ended.result c.from_residual-in_err-ended.ensures.1 in
-    rw (p.1, p.2) (exit c.in_err-ended.field-0.0 c.in_err-ended.ensures (λ h. none_at (ap (λ r. Word word.Show ∷ r) (named c.in_ok-name.ensures.2)) (show_no_end h)))
+    leave c.from_residual.result c.in_err-name.field-0.0 c.from_residual.ensures.1 refl (read_all last_name c.args.t.now c.args.at c.read_name.result (Err c.in_err-name.field-0.0) c.read_name.ensures c.in_err-name.ensures) show_no_name
 
 pub returns : goal.returns
 returns c =
-    stmt_at refl (ap (λ r. Word word.Show ∷ r) (named c.in_ok-name.ensures.2 ∙ ap (λ r. Name c.in_ok-name.name ∷ r) c.in_ok-ended.ensures)) stmt_show
+    stmt_at refl (ap (λ r. Word word.Show ∷ r) (named (read_all last_name c.args.t.now c.args.at c.read_name.result (Ok c.in_ok-name.name) c.read_name.ensures c.in_ok-name.ensures))) stmt_show
