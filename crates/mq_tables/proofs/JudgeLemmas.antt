@@ -1,0 +1,90 @@
+-- What a change comes to, judgement by judgement.
+use Rattle.std.proofs.Common.{◌≡◌, ℕ, ◌+◌, ◌≤◌, List, Option, Some, None, length, Result, Ok, Err, refl, sym, ap, ◌∙◌, arith}
+use Rattle.std.specs.Option.{ok_or}
+use Rattle.mq_values.specs.declared.faults.Refused.{Refused}
+use Rattle.mq_values.specs.declared.faults.Refused.TheVariants as refused
+use Rattle.mq_values.specs.declared.limits.TheConstants.{MAX_ROWS}
+use Rattle.mq_ir.specs.declared.statement.Change.{Change}
+use Rattle.mq_ir.specs.Changes.{key_fault, rows_added, rows_changed, size_fault, table_of}
+use Rattle.mq_ir.specs.declared.statement.Schema.{Schema}
+use Rattle.mq_ir.specs.Keys.{Tuple}
+use Rattle.mq_ir.specs.Results.{◌>>=◌}
+use Rattle.mq_ir.specs.Statement.{staged, unless_refused}
+use Rattle.mq_ir.specs.Tables.{Table, Tables, table_at}
+use Rattle.mq_tables.specs.declared.drafts.Draft.{Draft}
+use Rattle.mq_tables.specs.Drafts.{drafted}
+use Rattle.mq_tables.specs.Staging.{Staged, origins_of, staging}
+use Rattle.mq_tables.proofs.StageLemmas.{from_draft, in_order, keyed, staged_from}
+use Rattle.mq_tables.proofs.StandLemmas.{within_limit}
+
+-- what a judgement said
+pub judged_none : (o : Option Refused) (u : Unit {0}) → unless_refused o (Ok tt) ≡ Ok u → o ≡ None
+judged_none None u h = refl
+judged_none (Some e) u h = absurd (cc)
+
+judged_some : (o : Option Refused) (e : Refused) → ◌≡◌ {A = Result (Unit {0}) Refused} (unless_refused o (Ok tt)) (Err e) → o ≡ Some e
+judged_some None e h = absurd (cc)
+judged_some (Some d) e h = ap Some (let q : d ≡ e = cc in q)
+
+pub no_table : (tables : Tables) (change : Change) → table_at tables (table_of change) ≡ None → staging tables change ≡ Err (refused.UnknownName (table_of change))
+no_table tables change h =
+    ap (λ o. ok_or o (refused.UnknownName (table_of change)) >>= (λ (t : Table).
+    staged tables t change >>= (λ changed. origins_of t change >>= (λ origins.
+    Ok (record { table = t.name; had = length t.rows; rows = changed.0; counted = changed.1; origins = origins }))))) h
+
+of_table : (tables : Tables) (change : Change) (t : Table) → table_at tables (table_of change) ≡ Some t
+    → staging tables change ≡ unless_refused (size_fault tables t (rows_added change)) (drafted t change >>= keyed t)
+of_table tables change t h =
+    ap (λ o. ok_or o (refused.UnknownName (table_of change)) >>= (λ (t : Table).
+    staged tables t change >>= (λ changed. origins_of t change >>= (λ origins.
+    Ok (record { table = t.name; had = length t.rows; rows = changed.0; counted = changed.1; origins = origins }))))) h
+    ∙ in_order (size_fault tables t (rows_added change)) t (rows_changed t change) (origins_of t change)
+    ∙ ap (unless_refused (size_fault tables t (rows_added change))) (from_draft t change)
+
+-- a change whose size is no refusal adds rows within the limit
+pub sized : (tables seen : Tables) (change : Change) (t : Table) (added : ℕ) (u : Unit {0}) → seen ≡ tables → added ≡ rows_added change → unless_refused (size_fault seen t added) (Ok tt) ≡ Ok u
+    → size_fault tables t (rows_added change) ≡ None
+sized tables seen change t added u e n h =
+    ap (λ (ts : Tables). size_fault ts t (rows_added change)) (sym e) ∙ ap (size_fault seen t) (sym n) ∙ judged_none (size_fault seen t added) u h
+
+pub rows_within : (tables : Tables) (change : Change) (t : Table) → size_fault tables t (rows_added change) ≡ None → length t.rows ≤ MAX_ROWS
+rows_within tables change t s = let w = within_limit tables t (rows_added change) s in omega (arith, w)
+
+pub added_within : (tables : Tables) (change : Change) (t : Table) → size_fault tables t (rows_added change) ≡ None → rows_added change ≤ MAX_ROWS
+added_within tables change t s = let w = within_limit tables t (rows_added change) s in omega (arith, w)
+
+-- where each judgement is refused, and where none is
+pub size_refused : (tables seen : Tables) (change : Change) (name : List ℕ) (t : Table) (added : ℕ) (e : Refused) → name ≡ table_of change → table_at tables name ≡ Some t → seen ≡ tables
+    → added ≡ rows_added change → ◌≡◌ {A = Result (Unit {0}) Refused} (unless_refused (size_fault seen t added) (Ok tt)) (Err e) → staging tables change ≡ Err e
+size_refused tables seen change name t added e n h q a s =
+    of_table tables change t (ap (table_at tables) (sym n) ∙ h)
+    ∙ ap (λ o. unless_refused o (drafted t change >>= keyed t))
+    (ap (λ (ts : Tables). size_fault ts t (rows_added change)) (sym q) ∙ ap (size_fault seen t) (sym a) ∙ judged_some (size_fault seen t added) e s)
+
+after_size : (tables : Tables) (change : Change) (name : List ℕ) (t : Table) → name ≡ table_of change → table_at tables name ≡ Some t → size_fault tables t (rows_added change) ≡ None
+    → staging tables change ≡ (drafted t change >>= keyed t)
+after_size tables change name t n h s =
+    of_table tables change t (ap (table_at tables) (sym n) ∙ h) ∙ ap (λ o. unless_refused o (drafted t change >>= keyed t)) s
+
+pub rows_refused : (tables : Tables) (change : Change) (name : List ℕ) (t : Table) (e : Refused) → name ≡ table_of change → table_at tables name ≡ Some t → size_fault tables t (rows_added change) ≡ None
+    → drafted t change ≡ Err e → staging tables change ≡ Err e
+rows_refused tables change name t e n h s d = after_size tables change name t n h s ∙ ap (λ r. r >>= keyed t) d
+
+pub keys_refused : (tables : Tables) (change : Change) (name : List ℕ) (t : Table) (draft : Draft) (schema : Schema) (rows : List Tuple) (e : Refused) → name ≡ table_of change
+    → table_at tables name ≡ Some t → size_fault tables t (rows_added change) ≡ None → drafted t change ≡ Ok draft → schema ≡ t.schema → rows ≡ draft.rows
+    → ◌≡◌ {A = Result (Unit {0}) Refused} (unless_refused (key_fault schema rows) (Ok tt)) (Err e) → staging tables change ≡ Err e
+keys_refused tables change name t draft schema rows e n h s d c r k =
+    after_size tables change name t n h s
+    ∙ ap (λ r. r >>= keyed t) d
+    ∙ ap (λ o. unless_refused o (Ok (staged_from t draft)))
+    (ap (λ z. key_fault z draft.rows) (sym c) ∙ ap (key_fault schema) (sym r) ∙ judged_some (key_fault schema rows) e k)
+
+pub all_judged : (tables : Tables) (change : Change) (name : List ℕ) (t : Table) (draft : Draft) (schema : Schema) (rows : List Tuple) (u : Unit {0}) (s : Staged) → name ≡ table_of change
+    → table_at tables name ≡ Some t → size_fault tables t (rows_added change) ≡ None → drafted t change ≡ Ok draft → schema ≡ t.schema → rows ≡ draft.rows
+    → unless_refused (key_fault schema rows) (Ok tt) ≡ Ok u → s ≡ staged_from t draft → staging tables change ≡ Ok s
+all_judged tables change name t draft schema rows u s n h z d c r k e =
+    after_size tables change name t n h z
+    ∙ ap (λ r. r >>= keyed t) d
+    ∙ ap (λ o. unless_refused o (Ok (staged_from t draft)))
+    (ap (λ z. key_fault z draft.rows) (sym c) ∙ ap (key_fault schema) (sym r) ∙ judged_none (key_fault schema rows) u k)
+    ∙ ap Ok (sym e)

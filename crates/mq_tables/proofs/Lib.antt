@@ -1,0 +1,10 @@
+pub mod FitLemmas
+pub mod HeldLemmas
+pub mod JudgeLemmas
+pub mod KeyLemmas
+pub mod OriginLemmas
+pub mod SetLemmas
+pub mod StageLemmas
+pub mod StandLemmas
+pub mod VisitLemmas
+pub mod Walks

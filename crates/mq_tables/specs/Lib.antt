@@ -1,0 +1,5 @@
+pub mod Drafts
+pub mod Held
+pub mod Rows
+pub mod Sizes
+pub mod Staging

@@ -1,0 +1,180 @@
+//! The values that a change puts into columns.
+ghost use Rattle.std.specs.Prelude.{◌≡◌, slice_set, IfOk};
+ghost use Rattle.mq_values.specs.Answers.{Gives};
+ghost use Rattle.mq_values.specs.declared.faults.Refused.TheVariants as refused;
+ghost use Rattle.mq_ir.specs.Changes as spec;
+ghost use Rattle.mq_ir.specs.Results.{marked};
+ghost use Rattle.mq_ir.specs.Unfolding.{converted as spec_converted};
+ghost use Rattle.mq_tables.specs.Drafts.{asked_for_null, column_found, row_set, set_value as spec_set_value};
+
+use crate::scopes::{NoRow, OneRow};
+use mq_ir::{Column, Expr, Row, Schema};
+use mq_scalar::{Env, eval, holds};
+use mq_values::{Fail, Items, Kind, Memory, Refused, Shared, Value, ValueFault, cast};
+use std::alloc::Global;
+
+// The value of `e`, brought to a kind.
+fn converted<V: Env>(
+    alloc: Global,
+    env: &mut V,
+    kind: Kind,
+    e: &Expr,
+) -> Result<Value, Fail<ValueFault>>
+    ensures { Gives result (spec_converted (V.gives env.old) kind e.now) }
+{
+    let v = eval(alloc, e, env)?;
+    cast(alloc, &v, kind)
+}
+
+// The same for the row of this number, whose value fault refuses the change.
+fn converted_at<V: Env>(
+    alloc: Global,
+    env: &mut V,
+    number: u32,
+    kind: Kind,
+    e: &Expr,
+) -> Result<Value, Fail<Refused>>
+    ensures { Gives result (marked (refused.ChangeValue number) (spec_converted (V.gives env.old) kind e.now)) }
+{
+    match converted(alloc, env, kind, e) {
+        Ok(v) => Ok(v),
+        Err(Fail::Cause(fault)) => Err(Fail::Cause(Refused::ChangeValue(number, fault))),
+        Err(Fail::Memory) => Err(Fail::Memory),
+    }
+}
+
+// A value, where its column may hold it.
+fn asked(col: &Column, v: Value) -> Result<Value, Fail<Refused>>
+    ensures { Gives result (asked_for_null col.now v) }
+{
+    if col.not_null && v.is_null() {
+        return Err(Fail::Cause(Refused::NotNull(col.name.copy()?)));
+    }
+    Ok(v)
+}
+
+/// The value of a column in the row of this number: evaluated, converted, and asked for null.
+pub fn column_value<V: Env>(
+    alloc: Global,
+    env: &mut V,
+    number: u32,
+    col: &Column,
+    e: &Expr,
+) -> Result<Value, Fail<Refused>>
+    ensures { Gives result (column_found (V.gives env.old) number col.now e.now) }
+{
+    let v = converted_at(alloc, env, number, col.kind, e)?;
+    asked(col, v)
+}
+
+/// A row of INSERT, its columns from left to right.
+pub fn inserted_row(
+    alloc: Global,
+    schema: &Schema,
+    number: u32,
+    es: &[Expr],
+) -> Result<Row, Fail<Refused>>
+    ensures { Gives result (spec.inserted_row schema.now (number, es.now)) }
+{
+    let mut values = Items::new(alloc);
+    'columns: for (at, e) in es.iter().enumerate() {
+        match schema.cols.get(at) {
+            Some(col) => values.push(column_value(alloc, &mut NoRow, number, col, e)?)?,
+            None => return Ok(Shared::new(alloc, values)?),
+        }
+    }
+    Ok(Shared::new(alloc, values)?)
+}
+
+/// Whether UPDATE or DELETE visits the row of this number as true.
+pub fn is_chosen(
+    alloc: Global,
+    filter: &Option<Expr>,
+    number: u32,
+    row: &Row,
+) -> Result<bool, Fail<Refused>>
+    ensures { Gives result (spec.is_chosen filter.now (number, row.now)) }
+{
+    let Some(e) = filter else {
+        return Ok(true);
+    };
+    match holds(alloc, e, &mut OneRow { row }) {
+        Ok(Some(holds)) => Ok(holds),
+        Ok(None) => Ok(false),
+        Err(Fail::Cause(fault)) => Err(Fail::Cause(Refused::ChangeValue(number, fault))),
+        Err(Fail::Memory) => Err(Fail::Memory),
+    }
+}
+
+// What SET puts into a column, over the row as it was.
+fn set_value(
+    alloc: Global,
+    schema: &Schema,
+    number: u32,
+    row: &Row,
+    column: u32,
+    e: &Expr,
+) -> Result<Value, Fail<Refused>>
+    ensures { Gives result (spec_set_value schema.now number row.now column e.now) }
+{
+    match schema.cols.get(column as usize) {
+        Some(col) => column_value(alloc, &mut OneRow { row }, number, col, e),
+        None => Ok(Value::Null),
+    }
+}
+
+// The row with the columns that are set.
+fn row_with(
+    alloc: Global,
+    schema: &Schema,
+    sets: &[(u32, Expr)],
+    number: u32,
+    row: &Row,
+) -> Result<Row, Fail<Refused>>
+    ensures { Gives result (row_set schema.now sets.now (number, row.now)) }
+{
+    let mut values = copied_values(alloc, row)?;
+    'sets: for set in sets {
+        let v = set_value(alloc, schema, number, row, set.0, &set.1)?;
+        put(&mut values, set.0, v);
+    }
+    Ok(Shared::new(alloc, Items::from_vec(values))?)
+}
+
+// Puts a value at a place, where there is one.
+fn put(values: &mut Vec<Value>, place: u32, v: Value)
+    ensures { values.new.items ≡ slice_set values.old.items place v }
+{
+    if (place as usize) < values.len() {
+        values[place as usize] = v;
+    }
+}
+
+// The values of a row, each once more.
+fn copied_values(alloc: Global, row: &Row) -> Result<Vec<Value>, Memory>
+    ensures { IfOk result (λ values. values.items ≡ row.now) }
+{
+    let mut values = Vec::with_capacity(alloc, row.as_slice().len())?;
+    'values: for v in row.as_slice() {
+        values.push(v.copy()?)?;
+    }
+    Ok(values)
+}
+
+/// A row after UPDATE, and whether it was visited as true.
+pub fn updated_row(
+    alloc: Global,
+    schema: &Schema,
+    sets: &[(u32, Expr)],
+    filter: &Option<Expr>,
+    number: u32,
+    row: &Row,
+) -> Result<(Row, bool), Fail<Refused>>
+    ensures { Gives result (spec.updated_row schema.now sets.now filter.now (number, row.now)) }
+{
+    if is_chosen(alloc, filter, number, row)? {
+        Ok((row_with(alloc, schema, sets, number, row)?, true))
+    } else {
+        Ok((row.copy()?, false))
+    }
+}

@@ -1,0 +1,22 @@
+//! The tables, and what a change makes of them before it is committed.
+//! Tables and bound changes go in; out come the rows as they will stand, or why the change is refused.
+//! It is exactly what mq_ir's `specs/Tables`, `specs/Changes` and `specs/Statement` say.
+#![tactic(auto)]
+
+mod columns;
+mod drafts;
+mod keys;
+mod row_view;
+mod scopes;
+mod sizes;
+mod stage;
+mod staged;
+mod table;
+mod tables;
+#[cfg(test)]
+mod tests;
+
+pub use row_view::RowView;
+pub use staged::Staged;
+pub use table::Table;
+pub use tables::{TableSet, Tables};

@@ -1,0 +1,150 @@
+//! The tables, in order of creation.
+ghost use Rattle.std.specs.Prelude.{◌≡◌, [], ◌∷◌, ◌++◌, None, not, position, OnOk, OnErr};
+ghost use Rattle.std.specs.List.{filter};
+ghost use Rattle.std.specs.Option.{option_copied};
+ghost use Rattle.mq_ir.specs.Statement.{with_rows};
+ghost use Rattle.mq_ir.specs.Tables.{is_name, table_at};
+ghost use Rattle.mq_tables.specs.Held.{HaveOwnNames, RowsFit};
+ghost use Rattle.mq_tables.specs.Rows.{row_at, rows_at};
+ghost use Rattle.mq_tables.specs.Staging.{StandsOn};
+
+use crate::row_view::RowView;
+use crate::staged::Staged;
+use crate::table::Table;
+use mq_ir::{Row, TableDef};
+use mq_values::{Memory, Shared};
+use std::alloc::Global;
+use std::marker::Model;
+
+/// The rows of tables, by their names.
+pub trait TableSet {
+    ghost use Rattle.std.specs.Prelude.{◌≡◌};
+    ghost use Rattle.std.specs.Option.{option_copied};
+    ghost use Rattle.mq_ir.specs.Tables.{Tables};
+    ghost use Rattle.mq_tables.specs.Rows.{rows_at};
+
+    /// The tables that stand here.
+    ghost tables: { Self → Tables };
+
+    /// The rows of the table of this name, or `None` where there is no such table. It takes no memory.
+    fn rows(&self, name: &str) -> Option<&[Row]>
+        ensures { option_copied result ≡ rows_at (tables self.now) name.now };
+}
+
+/// The tables, in order of creation. Contracts see them as the list of tables with their rows.
+#[derive(Drop)]
+pub struct Tables {
+    tables: Vec<Table>,
+}
+
+impl Model for Tables {
+    ghost use Rattle.mq_ir.specs.Tables.{Tables as Seen};
+    ghost use Rattle.mq_tables.specs.Held.{HaveOwnNames, RowsFit};
+
+    ghost Value = { Seen };
+
+    ghost view = { λ t. t.tables.items };
+
+    ghost invariant = { λ t. HaveOwnNames t.tables.items × RowsFit t.tables.items };
+}
+
+impl TableSet for Tables {
+    ghost tables = { λ t. t };
+
+    fn rows(&self, name: &str) -> Option<&[Row]> {
+        let table = self.table(name)?;
+        Some(table.rows())
+    }
+}
+
+impl Tables {
+    /// No table. It takes no memory.
+    pub fn new(alloc: Global) -> Tables
+        ensures { result ≡ [] }
+    {
+        Tables {
+            tables: Vec::new(alloc),
+        }
+    }
+
+    /// The table of this name, or `None` where there is none.
+    pub fn table(&self, name: &str) -> Option<&Table>
+        ensures { option_copied result ≡ table_at self.now name.now }
+    {
+        self.tables.iter().find(|table| name == table.name())
+    }
+
+    /// All tables, in order of creation. Each row is a row of its table.
+    pub fn as_slice(&self) -> &[Table]
+        ensures all { result.now ≡ self.now }
+        ensures fit { RowsFit self.now }
+    {
+        self.tables.as_slice()
+    }
+
+    /// Adds a table of a name that is not there: it is last, and has no rows. After `Memory` nothing is changed.
+    pub fn add(&mut self, t: TableDef) -> Result<(), Memory>
+        requires { table_at self.old t.name ≡ None }
+        ensures ok { OnOk result (self.new ≡ self.old ++ record { name = t.name; schema = t.schema; rows = [] } ∷ []) }
+        ensures err { OnErr result (self.new ≡ self.old) }
+    {
+        self.tables.push(Table::new(t))?;
+        Ok(())
+    }
+
+    /// Removes the table of this name. It takes no memory.
+    pub fn remove(&mut self, name: &str)
+        ensures { self.new ≡ filter (λ t. not (is_name name.now t.name)) self.old }
+    {
+        keep_others(&mut self.tables, name);
+    }
+
+    /// The row at this place of the table of this name, counted from 0, or `None` where there is no such row. It
+    /// takes no memory.
+    pub fn row(&self, table: &str, place: u32) -> Option<RowView<'_>>
+        ensures { result ≡ row_at self.now table.now place }
+    {
+        let rows = self.rows(table)?;
+        let row = rows.get(place as usize)?;
+        Some(RowView::new(row))
+    }
+
+    /// Puts the rows of a staged change into its table, and answers how many rows are counted. It takes no memory.
+    pub fn commit(&mut self, s: Staged) -> u64
+        requires { StandsOn self.old s }
+        ensures rows { self.new ≡ with_rows self.old s.table s.rows }
+        ensures counted { result ≡ s.counted }
+    {
+        let Staged {
+            table,
+            rows,
+            counted,
+            ..
+        } = s;
+        put_rows(&mut self.tables, table.as_str(), rows);
+        counted as u64
+    }
+}
+
+// Puts rows into the table of this name, where there is one.
+fn put_rows(tables: &mut Vec<Table>, name: &str, rows: Shared<Row>)
+    requires { HaveOwnNames tables.old.items }
+    ensures { tables.new.items ≡ with_rows tables.old.items name.now rows }
+{
+    if let Some(place) = place_of(tables, name) {
+        tables[place].set_rows(rows);
+    }
+}
+
+fn place_of(tables: &[Table], name: &str) -> Option<usize>
+    ensures { result ≡ position (λ t. is_name name.now t.name) tables.now }
+{
+    tables.iter().position(|table| name == table.name())
+}
+
+// The tables of other names.
+fn keep_others(tables: &mut Vec<Table>, name: &str)
+    ensures { tables.new.items ≡ filter (λ t. not (is_name name.now t.name)) tables.old.items }
+{
+    tables.retain(|table| name != table.name());
+}
