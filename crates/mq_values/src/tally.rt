@@ -15,7 +15,9 @@ use crate::operators::Agg;
 use crate::value::Value;
 
 /// An aggregate on its way over some values, which it takes one by one in their order. Nulls are skipped
-/// (docs/LANGUAGE.md, "Aggregates").
+/// (docs/LANGUAGE.md, "Aggregates"). An aggregate over a group evaluates all its arguments first, so a tally may be
+/// fed only with values that are there already: else it would tell the `Overflow` of a partial sum before a value
+/// fault of a later member.
 #[derive(Debug, Drop)]
 pub enum Tally {
     Sum(Option<Num>),
