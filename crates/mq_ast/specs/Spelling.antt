@@ -6,6 +6,7 @@ use Rattle.std.specs.Option.{option_map}
 use Rattle.mq_values.specs.declared.operators.CmpOp.TheVariants as cmp
 use Rattle.mq_values.specs.declared.operators.SumOp.TheVariants as sum
 use Rattle.mq_values.specs.declared.operators.ProdOp.TheVariants as prod
+use Rattle.mq_values.specs.Bytes.{QUOTE}
 use Rattle.mq_values.specs.Number.{Number}
 use Rattle.mq_values.specs.Text.{is_text}
 use Rattle.mq_lexer.specs.declared.sorts.Sort.{Sort}
@@ -52,13 +53,13 @@ number_tok (Some n) = Num n
 abbrev pub unquoted : Bool → List ℕ → Option (List ℕ)
 unquoted false [] = None
 unquoted true [] = Some []
-unquoted false (b ∷ z) = if b == 39 then unquoted true z else option_map (λ c. b ∷ c) (unquoted false z)
-unquoted true (b ∷ z) = if b == 39 then option_map (λ c. b ∷ c) (unquoted false z) else None
+unquoted false (b ∷ z) = if b == QUOTE then unquoted true z else option_map (λ c. b ∷ c) (unquoted false z)
+unquoted true (b ∷ z) = if b == QUOTE then option_map (λ c. b ∷ c) (unquoted false z) else None
 
 -- what stands between the quotes of a text
 abbrev pub content_of : List ℕ → Option (List ℕ)
 content_of [] = None
-content_of (b ∷ z) = if b == 39 then unquoted false z else None
+content_of (b ∷ z) = if b == QUOTE then unquoted false z else None
 
 abbrev pub content_tok : Option (List ℕ) → Tok
 content_tok None = Bad
