@@ -19,6 +19,13 @@ use Rattle.mq_ast.specs.Laws.{begin_tail, or_stop, and_stop, tail_stop, sum_stop
 use Rattle.mq_parse_expr.specs.Reading.{No, Anywhere}
 use Rattle.mq_parse_expr.specs.Fronts.{Since, cmp_front, between_front, in_front, not_front}
 
+-- a primary expression alone, as the levels above it
+pub lone_prod : {a : E} {ts us : List Tok} → PrimE a ts us → ProdE a ts us
+lone_prod d = prod (sign_plain d) prod_end
+
+pub lone_expr : {a : E} {ts us : List Tok} → PrimE a ts us → Expr a ts us
+lone_expr d = expr (and (not_plain (test (sum (lone_prod d) sum_end) tail_none)) and_end) or_end
+
 -- and {OR and}
 pub or_no_first : {ts : List Tok} → No AndE (Stops level.CONJUNCTION) ts → No Expr (Stops level.EXPRESSION) ts
 or_no_first h a to (expr d ds) s = h _ _ d (or_stop ds s)

@@ -11,7 +11,8 @@ ghost use Rattle.mq_parse_expr.specs.Fronts.{AtWhen, Behind, CellsOf, ElseEnd, R
 
 use crate::forms::{AggHead, Form, Tail};
 use crate::fronts::{
-    agg_head, form_at, prod_op, read_as_kind, read_is, read_leaf, read_to_scale, sum_op, tail_at,
+    agg_head, form_at, prod_op, read_as_kind, read_is, read_leaf, read_lone, read_to_scale, sum_op,
+    tail_at,
 };
 use crate::names::{read_path, scale_of};
 use crate::terminals::{behind_sign, behind_word, pass_sign, pass_word, settled};
@@ -30,7 +31,7 @@ use std::alloc::Global;
 pub fn read_expr(alloc: Global, t: &[Token<'_>], at: usize) -> Result<(E, usize), Fail<Refused>>
     ensures { Gives Expr (Stops level.EXPRESSION) t.now at result }
 {
-    let (e, to) = read_or(alloc, t, at)?;
+    let (e, to) = read_whole(alloc, t, at)?;
     Ok((e.into_inner(), to))
 }
 
@@ -42,7 +43,17 @@ pub fn read_round(alloc: Global, t: &[Token<'_>], at: usize) -> Result<(E, usize
     Ok((e.into_inner(), to))
 }
 
-// The tree of an expression.
+// The tree of an expression. Most are one name or one number.
+#[cycle(parser)]
+fn read_whole(alloc: Global, t: &[Token<'_>], at: usize) -> Result<(Tree, usize), Fail<Refused>>
+    ensures { Gives Expr (Stops level.EXPRESSION) t.now at result }
+{
+    match read_lone(alloc, t, at, levels::EXPRESSION)? {
+        Some(e) => Ok((e, at + 1)),
+        None => read_or(alloc, t, at),
+    }
+}
+
 #[cycle(parser)]
 fn read_or(alloc: Global, t: &[Token<'_>], at: usize) -> Result<(Tree, usize), Fail<Refused>>
     ensures { Gives Expr (Stops level.EXPRESSION) t.now at result }
@@ -227,7 +238,7 @@ pub fn read_exprs(
 ) -> Result<(Items<E>, usize), Fail<Refused>>
     ensures { Gives Exprs (Ends (Terminal.Sign Symbol.Comma)) t.now at result }
 {
-    let (first, mid) = read_or(alloc, t, at)?;
+    let (first, mid) = read_whole(alloc, t, at)?;
     let (mut all, to) = read_more_exprs(alloc, t, mid)?;
     put_before(&mut all, first)?;
     Ok((all, to))
@@ -246,7 +257,7 @@ fn read_more_exprs(
     let mut found = Items::new(alloc);
     let mut to = at;
     while let Some(behind) = behind_sign(t, to, Symbol::Comma) {
-        let (e, next) = read_or(alloc, t, behind)?;
+        let (e, next) = read_whole(alloc, t, behind)?;
         put(&mut found, e)?;
         to = next;
     }
@@ -257,7 +268,7 @@ fn read_more_exprs(
 fn read_sum(alloc: Global, t: &[Token<'_>], at: usize) -> Result<(Tree, usize), Fail<Refused>>
     ensures { Gives SumE (Stops level.SUM) t.now at result }
 {
-    let (first, mid) = read_prod(alloc, t, at)?;
+    let (first, mid) = read_term(alloc, t, at)?;
     let (others, to) = read_sums(alloc, t, mid)?;
     Ok((sum(alloc, first, others)?, to))
 }
@@ -275,11 +286,22 @@ fn read_sums(
     let mut found = Items::new(alloc);
     let mut to = at;
     while let Some(op) = sum_op(t, to) {
-        let (e, next) = read_prod(alloc, t, to + 1)?;
+        let (e, next) = read_term(alloc, t, to + 1)?;
         put_sum(&mut found, op, e)?;
         to = next;
     }
     Ok((found, to))
+}
+
+// A term of a sum. Most are one name or one number.
+#[cycle(parser)]
+fn read_term(alloc: Global, t: &[Token<'_>], at: usize) -> Result<(Tree, usize), Fail<Refused>>
+    ensures { Gives ProdE (Stops level.PRODUCT) t.now at result }
+{
+    match read_lone(alloc, t, at, levels::PRODUCT)? {
+        Some(e) => Ok((e, at + 1)),
+        None => read_prod(alloc, t, at),
+    }
 }
 
 #[cycle(parser)]
@@ -431,7 +453,7 @@ fn read_inner(alloc: Global, t: &[Token<'_>], at: usize) -> Result<(Tree, usize)
     ensures { Gives RoundE Anywhere t.now at result }
 {
     let open = pass_sign(t, at, Symbol::Open)?;
-    let (e, end) = read_or(alloc, t, open)?;
+    let (e, end) = read_whole(alloc, t, open)?;
     let to = pass_sign(t, end, Symbol::Close)?;
     Ok((e, to))
 }
@@ -442,7 +464,7 @@ fn read_cast(alloc: Global, t: &[Token<'_>], at: usize) -> Result<(Tree, usize),
     ensures { Gives (Behind (Word Keyword.Cast)) Anywhere t.now at result }
 {
     let open = pass_sign(t, at, Symbol::Open)?;
-    let (e, end) = read_or(alloc, t, open)?;
+    let (e, end) = read_whole(alloc, t, open)?;
     let (kind, to) = read_as_kind(t, end)?;
     Ok((cast(alloc, e, kind)?, to))
 }
@@ -453,7 +475,7 @@ fn read_rounded(alloc: Global, t: &[Token<'_>], at: usize) -> Result<(Tree, usiz
     ensures { Gives (Behind (Word Keyword.Round)) Anywhere t.now at result }
 {
     let open = pass_sign(t, at, Symbol::Open)?;
-    let (e, end) = read_or(alloc, t, open)?;
+    let (e, end) = read_whole(alloc, t, open)?;
     let (places, to) = read_to_scale(t, end)?;
     Ok((rounded(alloc, e, scale_of(places))?, to))
 }
@@ -499,7 +521,7 @@ fn read_subject(
     match behind_word(t, at, Keyword::When) {
         Some(_) => Ok((None, at)),
         None => {
-            let (e, to) = read_or(alloc, t, at)?;
+            let (e, to) = read_whole(alloc, t, at)?;
             pass_word(t, to, Keyword::When)?;
             Ok((Some(e), to))
         }
@@ -517,9 +539,9 @@ fn read_whens(
     let mut found = Items::new(alloc);
     let mut to = pass_word(t, at, Keyword::When)?;
     loop {
-        let (test, end) = read_or(alloc, t, to)?;
+        let (test, end) = read_whole(alloc, t, to)?;
         let mid = pass_word(t, end, Keyword::Then)?;
-        let (value, next) = read_or(alloc, t, mid)?;
+        let (value, next) = read_whole(alloc, t, mid)?;
         put_arm(&mut found, test, value)?;
         match behind_word(t, next, Keyword::When) {
             Some(behind) => to = behind,
@@ -539,7 +561,7 @@ fn read_else(
 {
     match behind_word(t, at, Keyword::Else) {
         Some(behind) => {
-            let (e, end) = read_or(alloc, t, behind)?;
+            let (e, end) = read_whole(alloc, t, behind)?;
             let to = pass_word(t, end, Keyword::End)?;
             Ok((Some(e), to))
         }
@@ -601,7 +623,7 @@ fn read_place(
             Ok((any_place(alloc)?, to))
         }
         None => {
-            let (e, to) = read_or(alloc, t, at)?;
+            let (e, to) = read_whole(alloc, t, at)?;
             Ok((place_of(alloc, e)?, to))
         }
     }

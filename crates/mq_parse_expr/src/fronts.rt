@@ -1,6 +1,6 @@
 //! What stands at the front of a part of an expression, up to the next expression in it.
 
-ghost use Rattle.std.specs.Prelude.{◌≡◌, ◌≢◌, ◌≤◌, ◌+◌, List, ◌∷◌, length, MatchOption};
+ghost use Rattle.std.specs.Prelude.{◌≡◌, ◌≢◌, ◌≤◌, ◌<◌, ◌+◌, List, ◌∷◌, length, IfOk, IfSome, MatchOption};
 ghost use Rattle.mq_values.specs.declared.operators.SumOp.{SumOp};
 ghost use Rattle.mq_values.specs.declared.operators.ProdOp.{ProdOp};
 ghost use Rattle.mq_ast.specs.Tokens.{Tok, Word, Sign, closer, terminal_at};
@@ -14,12 +14,12 @@ ghost use Rattle.mq_parse_expr.specs.Fronts.{AsKind, Behind, Heads, HeadsAll, He
 use crate::forms::{AggHead, Form, IsTest, Tail, form_of, tail_of};
 use crate::names::{name_at, number_at, read_int, read_kind, read_name, text_at};
 use crate::terminals::{
-    behind_sign, behind_word, pass_sign, pass_word, settled, sign_at, terminal,
+    behind_sign, behind_word, pass_sign, pass_word, settled, sign_at, stops, terminal,
 };
-use crate::trees::{Tree, judged};
+use crate::trees::{Tree, column, judged, number};
 use mq_ast::{E, Keyword, Symbol, Terminal, levels};
 use mq_lexer::Token;
-use mq_values::{Agg, Boxed, Fail, Kind, Num, ProdOp, Refused, SumOp, Value};
+use mq_values::{Agg, Boxed, Fail, Kind, Memory, Num, ProdOp, Refused, SumOp, Value};
 use std::alloc::Global;
 
 /// The kind of primary expression that begins at a place.
@@ -185,6 +185,36 @@ fn read_small(
         Form::Turn => Ok((E::Turn, at + 1)),
         Form::Cv => read_cv(alloc, t, at + 1),
         _ => Err(Fail::Cause(Refused::Syntax)),
+    }
+}
+
+// A name or a number at a place, where one stands there.
+fn operand(alloc: Global, t: &[Token<'_>], at: usize) -> Result<Option<Tree>, Memory>
+    ensures { IfOk result (λ o. IfSome o (λ e. PrimE e (from t.now at) (from t.now (at + 1)))) }
+{
+    if let Some(name) = name_at(t, at) {
+        return Ok(Some(column(alloc, name)?));
+    }
+    match number_at(t, at) {
+        Some(found) => Ok(Some(number(alloc, found)?)),
+        None => Ok(None),
+    }
+}
+
+/// A name or a number at a place, where one stands there and the token behind it does not go on at this level: so it
+/// is seen with one look at each of them, and not level by level. None says nothing.
+pub(crate) fn read_lone(
+    alloc: Global,
+    t: &[Token<'_>],
+    at: usize,
+    level: u8,
+) -> Result<Option<Tree>, Memory>
+    ensures { IfOk result (λ o. IfSome o (λ e. (at < length t.now) × PrimE e (from t.now at) (from t.now (at + 1)) × Stops level (from t.now (at + 1)))) }
+{
+    if at < t.len() && stops(t, at + 1, level) {
+        operand(alloc, t, at)
+    } else {
+        Ok(None)
     }
 }
 

@@ -108,7 +108,8 @@ pub fn read_path(alloc: Global, t: &[Token<'_>], at: usize) -> Result<(Path, usi
     Ok((long_path(first, last), to))
 }
 
-fn short_path(last: Words) -> Path
+/// The path of one name.
+pub(crate) fn short_path(last: Words) -> Path
     ensures { result ≡ path_of None last }
 {
     Path { first: None, last }

@@ -186,8 +186,8 @@ pub fn looseness(terminal: Terminal) -> u8
     }
 }
 
-// Whether no token stands at the place that goes on at this level. Below tests signs alone go on.
-fn stops(t: &[Token<'_>], at: usize, level: u8) -> bool
+/// Whether no token stands at the place that goes on at this level. Below tests signs alone go on.
+pub(crate) fn stops(t: &[Token<'_>], at: usize, level: u8) -> bool
     ensures { IsTrue result ↔ Stops level (from t.now at) }
 {
     match sign_at(t, at) {

@@ -4,14 +4,17 @@
 ghost use Rattle.std.specs.Prelude.{◌≡◌, ◌∷◌, ◌++◌, [], List, Some, None, IfOk, OnOk};
 ghost use Rattle.mq_ast.specs.declared.expressions.E.{E};
 ghost use Rattle.mq_ast.specs.declared.expressions.Place.{Place};
+ghost use Rattle.mq_values.specs.declared.value.Value.{Value};
+ghost use Rattle.mq_ast.specs.GrammarNames.{path_of};
 ghost use Rattle.mq_ast.specs.Chains.{and_of, arm, or_of, prod_of, prod_term, sum_of, sum_term};
 ghost use Rattle.mq_parse_expr.specs.Forms as spec;
 ghost use Rattle.mq_parse_expr.specs.Fronts.{judged as tested};
 
 use crate::calls::call_of;
 use crate::forms::IsTest;
+use crate::names::short_path;
 use mq_ast::{Arm, E, Keyword, Path, Place, ProdTerm, SumTerm};
-use mq_values::{Agg, Boxed, CmpOp, Func, Items, Kind, Memory, ProdOp, SumOp, Words};
+use mq_values::{Agg, Boxed, CmpOp, Func, Items, Kind, Memory, Num, ProdOp, SumOp, Value, Words};
 use std::alloc::Global;
 
 /// A tree on the heap.
@@ -152,6 +155,20 @@ pub(crate) fn named(alloc: Global, path: Path) -> Result<Tree, Memory>
     ensures { IfOk result (λ r. r ≡ E.Name path) }
 {
     Boxed::new(alloc, E::Name(path))
+}
+
+/// A column by its name alone.
+pub(crate) fn column(alloc: Global, name: &str) -> Result<Tree, Memory>
+    ensures { IfOk result (λ r. r ≡ E.Name (path_of None name.now)) }
+{
+    named(alloc, short_path(Words::new(alloc, name)?))
+}
+
+/// A number.
+pub(crate) fn number(alloc: Global, number: Num) -> Result<Tree, Memory>
+    ensures { IfOk result (λ r. r ≡ E.Lit (Value.Num number)) }
+{
+    Boxed::new(alloc, E::Lit(Value::Num(number)))
 }
 
 /// A cell.

@@ -17,10 +17,15 @@ use Rattle.mq_parse_expr.specs.Forms.{form_of, tail_of}
 use Rattle.mq_parse_expr.specs.Fronts.{RoundE, round, Behind, Since, cmp_front, not_front, is_front, between_front, in_front, CellsOf, ElseEnd, SomeWhens}
 use Rattle.mq_parse_expr.specs.StepLemmas.{quit, here, there, till, as_value, gives_as, fronted, one_more, cut_short, all_found}
 use Rattle.mq_parse_expr.proofs.FrontLemmas.{call_form, form_front, tail_front, at_front, leaf_left}
-use Rattle.mq_parse_expr.proofs.LevelLemmas.{or_no_first, or_no_others, or_no_next, or_no_more, and_no_first, and_no_others, and_no_next, and_no_more, sum_no_first, sum_no_others, sum_no_next, sum_no_more, prod_no_first, prod_no_others, prod_no_next, prod_no_more, exprs_no_first, exprs_no_others, exprs_no_next, exprs_no_more, places_no_next, places_no_more, not_no_not, not_no_plain, sign_no_minus, sign_no_plain, test_no_first, test_no_tail, cmp_no_sum, cmp_no_end, between_no_low, between_no_and, between_no_high, between_no_end, between_tail, in_no_tuple, in_no_end, in_tail, not_no_other, tuple_no_open, tuple_no_list, tuple_no_close, brackets_no_open, brackets_no_first, brackets_no_others, brackets_no_close, place_no_end, place_no_expr, stops_or, stops_and, stops_sum, stops_prod}
+use Rattle.mq_parse_expr.proofs.LevelLemmas.{lone_expr, lone_prod, or_no_first, or_no_others, or_no_next, or_no_more, and_no_first, and_no_others, and_no_next, and_no_more, sum_no_first, sum_no_others, sum_no_next, sum_no_more, prod_no_first, prod_no_others, prod_no_next, prod_no_more, exprs_no_first, exprs_no_others, exprs_no_next, exprs_no_more, places_no_next, places_no_more, not_no_not, not_no_plain, sign_no_minus, sign_no_plain, test_no_first, test_no_tail, cmp_no_sum, cmp_no_end, between_no_low, between_no_and, between_no_high, between_no_end, between_tail, in_no_tuple, in_no_end, in_tail, not_no_other, tuple_no_open, tuple_no_list, tuple_no_close, brackets_no_open, brackets_no_first, brackets_no_others, brackets_no_close, place_no_end, place_no_expr, stops_or, stops_and, stops_sum, stops_prod}
 use Rattle.mq_parse_expr.proofs.PrimLemmas.{prim_form, prim_rounded, prim_no_round, prim_no_closed, prim_no_end, closed_form, split_name, prim_no_path, path_no_end, cell_no_places, cell_no_end, round_no_open, round_no_inner, round_no_close, all_no_end, all_prim, agg_no_value, agg_no_end, agg_prim, measured, range_no_places, range_no_end, cast_no_open, cast_no_expr, cast_no_kind, cast_prim, rounded_no_open, rounded_no_expr, rounded_no_scale, rounded_prim, call_no_tuple, call_no_count, call_prim, case_no_subject, case_no_whens, case_no_else, case_prim, subject_no_expr, subject_no_when, else_no_expr, else_no_end, else_no_word}
 use Rattle.mq_parse_expr.proofs.ArmLemmas.{whens_init, whens_none, whens_no_test_at, whens_no_then_at, whens_no_value_at, whens_kept, whens_done}
 use Rattle.mq_parse_expr.proofs.expressions.+parser.Goals as goal
+
+pub read_whole-returns-in-Some : goal.read_whole-returns-in-Some
+read_whole-returns-in-Some t c =
+    let e = rw c.in-Some.is at c.in_ok-e.ensures in
+    (omega arith, omega (arith, e.0), lone_expr e.1, e.2)
 
 pub read_or-returns-in_err-first : goal.read_or-returns-in_err-first
 read_or-returns-in_err-first t c =
@@ -263,6 +268,11 @@ read_sums-loop-op-preserved t c =
 pub read_sums-returns : goal.read_sums-returns
 read_sums-returns t c =
     all_found MoreSum (Stops level.PRODUCT) (Stops level.SUM) c.args.t.now c.args.at c.loop-op.to c.loop-op.found c.loop-op.invariant sum_end (stops_sum (terminal_at (from c.args.t.now c.loop-op.to)) c.loop-op.invariant.stops c.in_default.ensures)
+
+pub read_term-returns-in-Some : goal.read_term-returns-in-Some
+read_term-returns-in-Some t c =
+    let e = rw c.in-Some.is at c.in_ok-e.ensures in
+    (omega arith, omega (arith, e.0), lone_prod e.1, e.2)
 
 pub read_prod-returns-in_err-first : goal.read_prod-returns-in_err-first
 read_prod-returns-in_err-first t c =

@@ -38,11 +38,14 @@ decreases-read_whens l = 40 * (length l.t.now - l.at) + 18
 abbrev pub decreases-read_else : goal.decreases-read_else
 decreases-read_else l = 40 * (length l.t.now - l.at) + 18
 
+abbrev pub decreases-read_whole : goal.decreases-read_whole
+decreases-read_whole l = 40 * (length l.t.now - l.at) + 18
+
 abbrev pub decreases-read_or : goal.decreases-read_or
-decreases-read_or l = 40 * (length l.t.now - l.at) + 18
+decreases-read_or l = 40 * (length l.t.now - l.at) + 17
 
 abbrev pub decreases-read_ors : goal.decreases-read_ors
-decreases-read_ors l = 40 * (length l.t.now - l.at) + 17
+decreases-read_ors l = 40 * (length l.t.now - l.at) + 16
 
 abbrev pub decreases-read_and : goal.decreases-read_and
 decreases-read_and l = 40 * (length l.t.now - l.at) + 16
@@ -76,6 +79,9 @@ decreases-read_sum l = 40 * (length l.t.now - l.at) + 12
 
 abbrev pub decreases-read_sums : goal.decreases-read_sums
 decreases-read_sums l = 40 * (length l.t.now - l.at) + 11
+
+abbrev pub decreases-read_term : goal.decreases-read_term
+decreases-read_term l = 40 * (length l.t.now - l.at) + 11
 
 abbrev pub decreases-read_prod : goal.decreases-read_prod
 decreases-read_prod l = 40 * (length l.t.now - l.at) + 10
