@@ -131,8 +131,9 @@ fn put_rows(tables: &mut Vec<Table>, name: &str, rows: Shared<Row>)
     requires { HaveOwnNames tables.old.items }
     ensures { tables.new.items ≡ with_rows tables.old.items name.now rows }
 {
-    if let Some(place) = place_of(tables, name) {
-        tables[place].set_rows(rows);
+    match place_of(tables, name) {
+        Some(place) => tables[place].set_rows(rows),
+        None => {}
     }
 }
 

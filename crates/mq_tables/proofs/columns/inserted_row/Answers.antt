@@ -21,7 +21,7 @@ returns-in_err-column_value-in-Some c =
     let cols = c.args.schema.now.cols in
     let col = c.in-Some.col.now in
     let e = c.index-es-at.result in
-    let p = err_from_is_err_and c.from_residual-in_err-column_value-in-Some.result c.from_residual-in_err-column_value-in-Some.ensures.1 in
+    let p = err_from_is_err_and c.from_residual.result c.from_residual.ensures.1 in
     rw (p.1, p.2)
     (exit (f (col, e)) (each f (zip cols c.args.es.now)) c.in_err-column_value-in-Some.field-0.0 c.in_err-column_value-in-Some.ensures
     (λ fault h. pair_fault f cols c.args.es.now c.columns.at c.columns.values col e fault (sym c.in-Some.ensures) c.columns-test.true c.index-es-at.is h c.columns.invariant))
