@@ -43,6 +43,24 @@ pub fn read_round(alloc: Global, t: &[Token<'_>], at: usize) -> Result<(E, usize
     Ok((e.into_inner(), to))
 }
 
+/// The tree of an expression on the heap, as readers of larger trees hand it on; for the rest as [`read_expr`].
+pub fn read_tree(alloc: Global, t: &[Token<'_>], at: usize) -> Result<(Tree, usize), Fail<Refused>>
+    ensures { Gives Expr (Stops level.EXPRESSION) t.now at result }
+{
+    read_whole(alloc, t, at)
+}
+
+/// The tree of an expression between brackets on the heap; for the rest as [`read_round`].
+pub fn read_round_tree(
+    alloc: Global,
+    t: &[Token<'_>],
+    at: usize,
+) -> Result<(Tree, usize), Fail<Refused>>
+    ensures { Gives RoundE Anywhere t.now at result }
+{
+    read_inner(alloc, t, at)
+}
+
 // The tree of an expression. Most are one name or one number.
 #[cycle(parser)]
 fn read_whole(alloc: Global, t: &[Token<'_>], at: usize) -> Result<(Tree, usize), Fail<Refused>>
@@ -54,6 +72,7 @@ fn read_whole(alloc: Global, t: &[Token<'_>], at: usize) -> Result<(Tree, usize)
     }
 }
 
+// The tree of an expression.
 #[cycle(parser)]
 fn read_or(alloc: Global, t: &[Token<'_>], at: usize) -> Result<(Tree, usize), Fail<Refused>>
     ensures { Gives Expr (Stops level.EXPRESSION) t.now at result }

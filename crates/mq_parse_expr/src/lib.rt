@@ -12,7 +12,7 @@ mod spelling;
 mod terminals;
 mod trees;
 
-pub use expressions::{read_expr, read_exprs, read_round, read_tuple};
+pub use expressions::{read_expr, read_exprs, read_round, read_round_tree, read_tree, read_tuple};
 pub use names::{
     name_at, number_at, read_int, read_kind, read_name, read_path, read_text, scale_of, text_at,
 };
@@ -20,3 +20,4 @@ pub use terminals::{
     behind_sign, behind_word, looseness, pass_sign, pass_word, settled, terminal, terminal_of,
     token_at,
 };
+pub use trees::{Tree, put, put_before};

@@ -18,17 +18,17 @@ use mq_values::{Agg, Boxed, CmpOp, Func, Items, Kind, Memory, Num, ProdOp, SumOp
 use std::alloc::Global;
 
 /// A tree on the heap.
-pub(crate) type Tree = Boxed<E>;
+pub type Tree = Boxed<E>;
 
-/// Puts an item behind the others.
-pub(crate) fn put<T: Drop>(found: &mut Items<T>, item: Boxed<T>) -> Result<(), Memory>
+/// Puts an item from the heap behind the others. `Memory` where there is no room for it.
+pub fn put<T: Drop>(found: &mut Items<T>, item: Boxed<T>) -> Result<(), Memory>
     ensures { OnOk result (found.new ≡ found.old ++ item ∷ []) }
 {
     found.push(item.into_inner())
 }
 
-/// Puts an item before the others.
-pub(crate) fn put_before<T: Drop>(found: &mut Items<T>, item: Boxed<T>) -> Result<(), Memory>
+/// Puts an item from the heap before the others. `Memory` where there is no room for it.
+pub fn put_before<T: Drop>(found: &mut Items<T>, item: Boxed<T>) -> Result<(), Memory>
     ensures { OnOk result (found.new ≡ item ∷ found.old) }
 {
     found.put_first(item.into_inner())
