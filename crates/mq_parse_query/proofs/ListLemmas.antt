@@ -1,12 +1,15 @@
 -- Where lists of parts read nothing, by their parts.
-use Rattle.std.proofs.Common.{◌≡◌, ℕ, ◌<◌, ◌≤◌, List, [], ◌∷◌, ◌++◌, length, Option, Some, None, Ok, refl, ap, ◌∙◌, subst, arith}
+use Rattle.std.proofs.Common.{◌≡◌, ℕ, ◌<◌, ◌≤◌, List, [], ◌∷◌, ◌++◌, length, Option, Some, None, Result, Ok, Err, refl, sym, ap, ◌∙◌, subst, arith}
+use Rattle.std.specs.Result.{IsErrAnd}
+use Rattle.mq_values.specs.declared.memory.Fail.{Fail}
+use Rattle.mq_values.specs.declared.faults.Refused.{Refused}
 use Rattle.mq_lexer.specs.declared.sorts.Token.{Token}
 use Rattle.mq_ast.specs.Prelude.{EndsList, ManyOf, MoreOf, OneTree, SomeOf, Tok, comma, many_end, many_more, more_comma, more_end}
 use Rattle.mq_ast.specs.Prelude.{some_of}
 use Rattle.mq_ast.specs.Laws.{begin}
 use Rattle.mq_parse_query.specs.Lists.{Turns}
-use Rattle.mq_parse_expr.specs.Reading.{from, No}
-use Rattle.mq_parse_expr.specs.StepLemmas.{SoFar, as_value, push}
+use Rattle.mq_parse_expr.specs.Reading.{from, No, Fails}
+use Rattle.mq_parse_expr.specs.StepLemmas.{SoFar, as_value, exit, push}
 
 module _ {A : Type 0} (R : A → List Tok → List Tok → Type 0) (Stop : List Tok → Type 0) (one : OneTree R Stop) (before_comma : (ts : List Tok) → Stop (comma ∷ ts)) where
   more_stop : {xs : List A} {from to : List Tok} → MoreOf R xs from to → EndsList Stop to → Stop from
@@ -56,3 +59,8 @@ turns_some {A} R Stop End t at o r g e = let P : Option (A × ℕ) → Type 0 = 
 
 pub turns_none : {A : Type 0} (R : A → List Tok → List Tok → Type 0) (Stop End : List Tok → Type 0) (t : List Token) (at : ℕ) (o : Option (A × ℕ)) → Turns R Stop End t at (Ok o) → o ≡ None → End (from t at)
 turns_none {A} R Stop End t at o g e = let P : Option (A × ℕ) → Type 0 = λ o. Turns R Stop End t at (Ok o) in subst P e g
+
+-- an exit by `?` of a reader of the next part: the error, and why there are then no parts
+pub quit_turn : {A P : Type 0} (R : A → List Tok → List Tok → Type 0) (Stop : List Tok → Type 0) {End : List Tok → Type 0} (t : List Token) (at : ℕ) (r : Result (Option (A × ℕ)) (Fail Refused)) (f : Fail Refused) → IsErrAnd r (λ y. y ≡ f) → Fails f P → (P → No (ManyOf R) End (from t at)) → Turns R Stop End t at r
+quit_turn R Stop t at (Ok _) f e g h = absurd e
+quit_turn R Stop {End} t at (Err y) f e g h = let Q : Fail Refused → Type 0 = λ z. Fails z (No (ManyOf R) End (from t at)) in subst Q (sym e) (exit f g h)

@@ -13,10 +13,6 @@ pub direction_no_asc : {ts : List Tok} → (EndsKey ts → ⊥) → No Direction
 direction_no_asc h a to direction_none s = s.0 refl
 direction_no_asc h a to direction_asc s = h s
 
-pub direction_no_desc : {ts : List Tok} → (EndsKey ts → ⊥) → No DirectionE EndsKey (Word word.Desc ∷ ts)
-direction_no_desc h a to direction_none s = s.1 refl
-direction_no_desc h a to direction_desc s = h s
-
 -- name [ASC | DESC]
 pub key_no_name : {ts : List Tok} → No NameE Anywhere ts → No KeyE EndsKey ts
 key_no_name h a to (key d) s = h _ _ name tt

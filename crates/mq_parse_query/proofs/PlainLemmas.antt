@@ -15,7 +15,7 @@ use Rattle.mq_ast.specs.Prelude.{OnE, OnFront, SelE, SomeOf, Stops, Tok, Word, a
 use Rattle.mq_ast.specs.Prelude.{front_comma, front_cross, front_inner, front_join, item, item_of, items, join_bare, join_on, loose}
 use Rattle.mq_ast.specs.Prelude.{many_end, many_more, name, on_item, opener, sel, terminal_at}
 use Rattle.mq_ast.specs.Laws.{alias_stop, begin, cut, expr_same, item_same, joins_stop, sels_same}
-use Rattle.mq_parse_query.specs.Pieces.{JoinFront, Leads, SomeName, front_word, some_name}
+use Rattle.mq_parse_query.specs.Pieces.{JoinFront, Leads, SomeName, TableE, front_word, some_name}
 use Rattle.mq_parse_expr.specs.Reading.{Then, No, Anywhere}
 
 -- [AS] name
@@ -71,6 +71,12 @@ item_no_name h a to (item d) s = h _ _ name tt
 
 pub item_no_alias : {n : List ℕ} {ts mid : List Tok} → NameE n ts mid → No AliasE (Stops level.ITEM) mid → No (ItemE None) (Stops level.ITEM) ts
 item_no_alias name h a to (item d) s = h _ _ d s
+
+pub table_no_item : {ts : List Tok} → No (ItemE None) (Stops level.ITEM) ts → No TableE (Stops level.ITEM) ts
+table_no_item h a to d s = h _ _ d s
+
+pub item_no_table : {ts : List Tok} → No TableE (Stops level.ITEM) ts → No (ItemE None) (Stops level.ITEM) ts
+item_no_table h a to (item {n} {o} d) s = h (n, o) to (item d) s
 
 pub item_named : {n : List ℕ} {o : Option (List ℕ)} {ts mid to : List Tok} → NameE n ts mid → AliasE o mid to → ItemE None (item_of n o None) ts to
 item_named name d = item d

@@ -224,6 +224,12 @@ right_no_expr e r f h a to (rule_right {mid = m} o d) s =
     h _ _ (begin Expr (cut (sym f ∙ p.1)) d) s
 
 -- rules
+pub rule_no_token : {ts : List Tok} → ts ≡ [] → No RuleE (Stops level.EXPRESSION) ts
+rule_no_token e a to (rule (rule_front mode_none) l r) s = absurd cc
+rule_no_token e a to (rule (rule_front (mode_some mode_update)) l r) s = absurd cc
+rule_no_token e a to (rule (rule_front (mode_some mode_upsert)) l r) s = absurd cc
+rule_no_token e a to (rule (rule_front (mode_some mode_upsert_all)) l r) s = absurd cc
+
 pub rule_no_front : {ts : List Tok} → No RuleFront Anywhere ts → No RuleE (Stops level.EXPRESSION) ts
 rule_no_front h a to (rule f l r) s = h _ _ f tt
 

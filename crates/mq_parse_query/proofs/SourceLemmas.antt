@@ -53,10 +53,6 @@ pub shown_no_star : {ts : List Tok} → Not (terminal.Word word.From) ts → No 
 shown_no_star n a to shown_star s = n refl
 shown_no_star n a to (shown_list d) s = absurd (sels_no_star d)
 
-pub shown_no_sels : {ts : List Tok} → Not (terminal_at (star ∷ [])) ts → No (SomeOf SelE) (EndsList (Stops level.ITEM)) ts → No ShownE Anywhere ts
-shown_no_sels n h a to shown_star s = n refl
-shown_no_sels n h a to (shown_list d) s = h _ _ d (omega arith, λ e. cc)
-
 pub shown_no_from : {xs : List Sel} {ts mid : List Tok} → Not (terminal_at (star ∷ [])) ts → SomeOf SelE xs ts mid → EndsList (Stops level.ITEM) mid → Not (terminal.Word word.From) mid → No ShownE Anywhere ts
 shown_no_from n e r m a to shown_star s = n refl
 shown_no_from n e r m a to (shown_list d) s = let p = sels_same e d r (omega arith, λ e. cc) in m (ap terminal_at p.1)

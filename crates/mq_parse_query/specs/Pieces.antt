@@ -5,6 +5,7 @@ use Rattle.mq_values.specs.declared.operators.Mode.{Mode}
 use Rattle.mq_lexer.specs.declared.sorts.Token.{Token}
 use Rattle.mq_ast.specs.declared.expressions.E.{E}
 use Rattle.mq_ast.specs.declared.parts.Head.{Head}
+use Rattle.mq_ast.specs.declared.parts.Tail.{Tail}
 use Rattle.mq_lexer.specs.declared.keywords.Keyword.{Keyword}
 use Rattle.mq_ast.specs.declared.queries.LeftPlace.{LeftPlace}
 use Rattle.mq_ast.specs.declared.queries.LeftTree.{LeftTree}
@@ -12,12 +13,13 @@ use Rattle.mq_ast.specs.declared.queries.ModelTree.{ModelTree}
 use Rattle.mq_ast.specs.declared.queries.Opt.{Opt}
 use Rattle.mq_ast.specs.declared.queries.Plain.{Plain}
 use Rattle.mq_ast.specs.declared.queries.RefTree.{RefTree}
+use Rattle.mq_ast.specs.declared.queries.RuleTree.{RuleTree}
 use Rattle.mq_ast.specs.declared.terminals.Terminal.{Terminal}
 use Rattle.mq_ast.specs.declared.queries.Opt.TheVariants as opt
 use Rattle.mq_ast.specs.declared.terminals.Terminal.TheVariants as terminal
 use Rattle.mq_lexer.specs.declared.keywords.Keyword.TheVariants as word
-use Rattle.mq_ast.specs.Prelude.{HeadE, IterateE, LeftE, LitE, MaybeMode, ModelE, Name, PlainE, RefE, ReturnE, SomeOf, Tok, Word}
-use Rattle.mq_ast.specs.Prelude.{close_square, closer, opener}
+use Rattle.mq_ast.specs.Prelude.{HeadE, ItemE, IterateE, LeftE, LitE, MaybeMode, ModelE, Name, PlainE, RefE, ReturnE, SomeOf, Tok, Word}
+use Rattle.mq_ast.specs.Prelude.{close_square, closer, item_of, opener, terminal_at}
 use Rattle.mq_parse_expr.specs.Reading.{from}
 
 -- a {',' a} and this token
@@ -31,6 +33,10 @@ PlainEnd p from to = PlainE p from (closer ∷ to)
 -- the name of an alias
 pub data SomeName : Option (List ℕ) → List Tok → List Tok → Type 0 where
   some_name : {n : List ℕ} {to : List Tok} → SomeName (Some n) (Name n ∷ to) to
+
+-- name [[AS] name], by its parts
+abbrev pub TableE : List ℕ × Option (List ℕ) → List Tok → List Tok → Type 0
+TableE p from to = ItemE None (item_of p.0 p.1 None) from to
 
 -- the tokens from a place on up to another, further on
 abbrev pub Leads : (List Tok → List Tok → Type 0) → List Token → ℕ → ℕ → Type 0
@@ -103,3 +109,11 @@ Ruling h from to = HeadE h (Word word.Rules ∷ from) to
 -- the rest of MODEL
 abbrev pub Modelling : ModelTree → List Tok → List Tok → Type 0
 Modelling m from to = ModelE m (Word word.Model ∷ from) to
+
+-- the options behind MEASURES, the head of the rules, and the rules
+abbrev pub tail_of : List Opt → Head → List RuleTree → Tail
+tail_of os h rs = record { opts = os; head = h; rules = rs }
+
+-- parts with commas between them that never begin as a query does
+abbrev pub NoQuery : {A : Type 0} → (A → List Tok → List Tok → Type 0) → Type 0
+NoQuery {A} R = (xs : List A) (from to : List Tok) → SomeOf R xs from to → terminal_at from ≢ terminal.Word word.Select

@@ -7,9 +7,9 @@ ghost use Rattle.mq_parse_query.specs.Pieces.{SomeName};
 ghost use Rattle.mq_parse_expr.specs.Reading.{Anywhere, Gives};
 
 use crate::lists::{Listed, read_list};
-use mq_ast::{E, Keyword, Sel, Symbol, levels};
+use mq_ast::{Keyword, Sel, Symbol, levels};
 use mq_lexer::Token;
-use mq_parse_expr::{behind_word, name_at, pass_sign, read_expr, read_name, settled};
+use mq_parse_expr::{Tree, behind_word, name_at, pass_sign, read_name, read_tree, settled};
 use mq_values::{Fail, Items, Refused, Words};
 use std::alloc::Global;
 
@@ -63,16 +63,19 @@ impl Listed for Sel {
     ghost before_comma = { Prim.search (arith, rules) };
 
     fn read(alloc: Global, t: &[Token<'_>], at: usize) -> Result<(Sel, usize), Fail<Refused>> {
-        let (e, mid) = read_expr(alloc, t, at)?;
+        let (e, mid) = read_tree(alloc, t, at)?;
         let (alias, to) = read_alias(alloc, t, mid)?;
         Ok((sel_with(e, alias), to))
     }
 }
 
-fn sel_with(e: E, alias: Option<Words>) -> Sel
+fn sel_with(e: Tree, alias: Option<Words>) -> Sel
     ensures { result ≡ sel_of e alias }
 {
-    Sel { e, alias }
+    Sel {
+        e: e.into_inner(),
+        alias,
+    }
 }
 
 /// Columns with commas between them.
@@ -81,7 +84,6 @@ pub(crate) fn read_sels(
     t: &[Token<'_>],
     at: usize,
 ) -> Result<(Items<Sel>, usize), Fail<Refused>>
-    requires { at ≤ length t.now }
     ensures { Gives (SomeOf SelE) (EndsList (Stops level.ITEM)) t.now at result }
 {
     read_list::<Sel>(alloc, t, at)
@@ -93,7 +95,6 @@ pub(crate) fn read_cols(
     t: &[Token<'_>],
     at: usize,
 ) -> Result<(Items<Sel>, usize), Fail<Refused>>
-    requires { at ≤ length t.now }
     ensures { Gives Cols Anywhere t.now at result }
 {
     let open = pass_sign(t, at, Symbol::Open)?;

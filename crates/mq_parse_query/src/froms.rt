@@ -1,46 +1,60 @@
 //! The items of FROM (docs/LANGUAGE.md, "Queries").
 
-ghost use Rattle.std.specs.Prelude.{◌≡◌, ◌≤◌, List, Some, None, length, MatchOption};
+ghost use Rattle.std.specs.Prelude.{◌≡◌, ◌≤◌, List, Some, None, length, IfOk, MatchOption};
 ghost use Rattle.mq_ast.specs.declared.levels.TheConstants as level;
 ghost use Rattle.mq_ast.specs.Prelude.{BareFront, ConditionE, FromE, ItemE, OnE, OnFront, Stops, Tok, item_of};
-ghost use Rattle.mq_parse_query.specs.Pieces.{JoinFront, Leads};
+ghost use Rattle.mq_parse_query.specs.Pieces.{JoinFront, Leads, TableE};
 ghost use Rattle.mq_parse_expr.specs.Reading.{Gives, from};
 
 use crate::columns::read_alias;
 use crate::lists::{Repeated, read_many};
-use mq_ast::{E, FromItem, Keyword, Symbol, levels};
+use mq_ast::{FromItem, Keyword, Symbol, levels};
 use mq_lexer::Token;
-use mq_parse_expr::{behind_sign, behind_word, pass_word, read_expr, read_name, settled};
-use mq_values::{Fail, Items, Refused, Words};
+use mq_parse_expr::{
+    Tree, behind_sign, behind_word, pass_word, put_before, read_name, read_tree, settled,
+};
+use mq_values::{Boxed, Fail, Items, Memory, Refused, Words};
 use std::alloc::Global;
 
 // A table and its alias.
-fn read_item(alloc: Global, t: &[Token<'_>], at: usize) -> Result<(FromItem, usize), Fail<Refused>>
-    requires { at ≤ length t.now }
-    ensures { Gives (ItemE None) (Stops level.ITEM) t.now at result }
+fn read_table(
+    alloc: Global,
+    t: &[Token<'_>],
+    at: usize,
+) -> Result<((Words, Option<Words>), usize), Fail<Refused>>
+    ensures { Gives TableE (Stops level.ITEM) t.now at result }
 {
     let (table, mid) = read_name(alloc, t, at)?;
     let (alias, to) = read_alias(alloc, t, mid)?;
-    Ok((bare_item(table, alias), to))
+    Ok(((table, alias), to))
 }
 
-fn bare_item(table: Words, alias: Option<Words>) -> FromItem
-    ensures { result ≡ item_of table alias None }
+// A table and its alias, as an item without a condition.
+fn read_item(
+    alloc: Global,
+    t: &[Token<'_>],
+    at: usize,
+) -> Result<(Boxed<FromItem>, usize), Fail<Refused>>
+    ensures { Gives (ItemE None) (Stops level.ITEM) t.now at result }
 {
-    FromItem {
-        table,
-        alias,
-        on: None,
-    }
+    let (named, to) = read_table(alloc, t, at)?;
+    Ok((bare_item(alloc, named)?, to))
+}
+
+fn bare_item(alloc: Global, named: (Words, Option<Words>)) -> Result<Boxed<FromItem>, Memory>
+    ensures { IfOk result (λ i. i ≡ item_of named.0 named.1 None) }
+{
+    let (table, alias) = named;
+    let on = None;
+    Boxed::new(alloc, FromItem { table, alias, on })
 }
 
 // ON and a condition.
-fn read_condition(alloc: Global, t: &[Token<'_>], at: usize) -> Result<(E, usize), Fail<Refused>>
-    requires { at ≤ length t.now }
+fn read_condition(alloc: Global, t: &[Token<'_>], at: usize) -> Result<(Tree, usize), Fail<Refused>>
     ensures { Gives ConditionE (Stops level.ITEM) t.now at result }
 {
     let behind = pass_word(t, at, Keyword::On)?;
-    let (e, to) = read_expr(alloc, t, behind)?;
+    let (e, to) = read_tree(alloc, t, behind)?;
     settled(t, to, levels::ITEM)?;
     Ok((e, to))
 }
@@ -50,23 +64,24 @@ fn read_on_item(
     alloc: Global,
     t: &[Token<'_>],
     at: usize,
-) -> Result<(FromItem, usize), Fail<Refused>>
-    requires { at ≤ length t.now }
+) -> Result<(Boxed<FromItem>, usize), Fail<Refused>>
     ensures { Gives OnE (Stops level.ITEM) t.now at result }
 {
-    let (bare, mid) = read_item(alloc, t, at)?;
+    let (named, mid) = read_table(alloc, t, at)?;
     let (e, to) = read_condition(alloc, t, mid)?;
-    Ok((with_condition(bare, e), to))
+    Ok((with_condition(alloc, named, e)?, to))
 }
 
-fn with_condition(bare: FromItem, e: E) -> FromItem
-    ensures { result ≡ item_of bare.table bare.alias (Some e) }
+fn with_condition(
+    alloc: Global,
+    named: (Words, Option<Words>),
+    e: Tree,
+) -> Result<Boxed<FromItem>, Memory>
+    ensures { IfOk result (λ i. i ≡ item_of named.0 named.1 (Some e)) }
 {
-    FromItem {
-        table: bare.table,
-        alias: bare.alias,
-        on: Some(e),
-    }
+    let (table, alias) = named;
+    let on = Some(e.into_inner());
+    Boxed::new(alloc, FromItem { table, alias, on })
 }
 
 // The place behind this word and JOIN.
@@ -128,7 +143,7 @@ impl Repeated for Joins {
         alloc: Global,
         t: &[Token<'_>],
         at: usize,
-    ) -> Result<Option<(FromItem, usize)>, Fail<Refused>> {
+    ) -> Result<Option<(Boxed<FromItem>, usize)>, Fail<Refused>> {
         if let Some(behind) = bare_front(t, at) {
             return Ok(Some(read_item(alloc, t, behind)?));
         }
@@ -146,11 +161,10 @@ pub(crate) fn read_from(
     t: &[Token<'_>],
     at: usize,
 ) -> Result<(Items<FromItem>, usize), Fail<Refused>>
-    requires { at ≤ length t.now }
     ensures { Gives FromE (Stops level.SOURCES) t.now at result }
 {
     let (first, mid) = read_item(alloc, t, at)?;
     let (mut all, to) = read_many::<Joins>(alloc, t, mid)?;
-    all.put_first(first)?;
+    put_before(&mut all, first)?;
     Ok((all, to))
 }

@@ -1,6 +1,6 @@
 //! The parts of a MODEL clause before its rules (docs/LANGUAGE.md, "The MODEL clause").
 
-ghost use Rattle.std.specs.Prelude.{◌≡◌, ◌≢◌, ◌≤◌, ◌+◌, ◌∷◌, length, MatchOption};
+ghost use Rattle.std.specs.Prelude.{◌≡◌, ◌≢◌, ◌≤◌, ◌+◌, ◌∷◌, length, IfOk, MatchOption};
 ghost use Rattle.std.proofs.Common.{arith};
 ghost use Rattle.mq_ast.specs.declared.clauses.TheConstants as clause;
 ghost use Rattle.mq_ast.specs.Prelude.{AutoE, AxesE, DimsE, HeadE, IterateE, MainE, Opens, OptE, PartsE, Past, RefE, RefSourceE};
@@ -12,14 +12,17 @@ ghost use Rattle.mq_parse_expr.specs.Reading.{Anywhere, Gives, Then, from};
 ghost use Rattle.mq_parse_query.specs.Lists as lists;
 
 use crate::columns::read_cols;
+use crate::heap::inner;
 use crate::left::read_plain_end;
 use crate::lists::{Repeated, read_many};
 use crate::rules::{past, read_mode};
 use mq_ast::parts::Head;
-use mq_ast::{E, Keyword, Opt, Plain, RefTree, Sel, Symbol, Terminal, clauses};
+use mq_ast::{Keyword, Opt, Plain, RefTree, Sel, Symbol, Terminal, clauses};
 use mq_lexer::Token;
-use mq_parse_expr::{behind_word, pass_sign, pass_word, read_int, read_name, read_round, terminal};
-use mq_values::{Fail, Items, Mode, Num, Refused, Words};
+use mq_parse_expr::{
+    Tree, behind_word, pass_sign, pass_word, read_int, read_name, read_round_tree, terminal,
+};
+use mq_values::{Boxed, Fail, Items, Memory, Mode, Num, Refused, Words};
 use std::alloc::Global;
 
 // The option that begins with this word.
@@ -55,14 +58,17 @@ fn option_at(t: &[Token<'_>], at: usize) -> Option<Opt>
 }
 
 // The option at a place, and the place behind it, where one stands there.
-fn next_option(t: &[Token<'_>], at: usize) -> Result<Option<(Opt, usize)>, Fail<Refused>>
-    requires { at ≤ length t.now }
+fn next_option(
+    alloc: Global,
+    t: &[Token<'_>],
+    at: usize,
+) -> Result<Option<(Boxed<Opt>, usize)>, Fail<Refused>>
     ensures { lists.Turns OptE Anywhere (Past clause.OPTION) t.now at result }
 {
     match option_at(t, at) {
         Some(opt) => {
             let to = pass_word(t, at + 1, second_word(opt))?;
-            Ok(Some((opt, to)))
+            Ok(Some((Boxed::new(alloc, opt)?, to)))
         }
         None => Ok(None),
     }
@@ -78,11 +84,11 @@ impl Repeated for Opt {
     ghost end = { Past clause.OPTION };
 
     fn next(
-        _alloc: Global,
+        alloc: Global,
         t: &[Token<'_>],
         at: usize,
-    ) -> Result<Option<(Opt, usize)>, Fail<Refused>> {
-        next_option(t, at)
+    ) -> Result<Option<(Boxed<Opt>, usize)>, Fail<Refused>> {
+        next_option(alloc, t, at)
     }
 
     ghost one = { opt_same };
@@ -136,7 +142,7 @@ fn read_source(
     alloc: Global,
     t: &[Token<'_>],
     at: usize,
-) -> Result<((Words, Plain), usize), Fail<Refused>>
+) -> Result<((Words, Boxed<Plain>), usize), Fail<Refused>>
     ensures { Gives RefSourceE Anywhere t.now at result }
 {
     let (name, end) = read_name(alloc, t, at)?;
@@ -174,28 +180,40 @@ pub(crate) fn read_axes(
     Ok(((dims, measures), to))
 }
 
-fn ref_tree(source: (Words, Plain), axes: (Items<Sel>, Items<Sel>), opts: Items<Opt>) -> RefTree
-    ensures { result ≡ ref_of source axes opts }
+fn ref_tree(
+    alloc: Global,
+    source: (Words, Boxed<Plain>),
+    axes: (Items<Sel>, Items<Sel>),
+    opts: Items<Opt>,
+) -> Result<Boxed<RefTree>, Memory>
+    ensures { IfOk result (λ r. r ≡ ref_of source axes opts) }
 {
     let (name, query) = source;
     let (dims, measures) = axes;
-    RefTree {
-        name,
-        query,
-        dims,
-        measures,
-        opts,
-    }
+    Boxed::new(
+        alloc,
+        RefTree {
+            name,
+            query: query.into_inner(),
+            dims,
+            measures,
+            opts,
+        },
+    )
 }
 
 // A REFERENCE, behind its word.
-fn read_ref(alloc: Global, t: &[Token<'_>], at: usize) -> Result<(RefTree, usize), Fail<Refused>>
+fn read_ref(
+    alloc: Global,
+    t: &[Token<'_>],
+    at: usize,
+) -> Result<(Boxed<RefTree>, usize), Fail<Refused>>
     ensures { Gives Refers (Past clause.OPTION) t.now at result }
 {
     let (source, mid) = read_source(alloc, t, at)?;
     let (axes, next) = read_axes(alloc, t, mid)?;
     let (opts, to) = read_many::<Opt>(alloc, t, next)?;
-    Ok((ref_tree(source, axes, opts), to))
+    Ok((ref_tree(alloc, source, axes, opts)?, to))
 }
 
 // The reference at a place, and the place behind it, where one stands there.
@@ -203,8 +221,7 @@ fn next_ref(
     alloc: Global,
     t: &[Token<'_>],
     at: usize,
-) -> Result<Option<(RefTree, usize)>, Fail<Refused>>
-    requires { at ≤ length t.now }
+) -> Result<Option<(Boxed<RefTree>, usize)>, Fail<Refused>>
     ensures { lists.Turns RefE (Past clause.OPTION) (Past clause.REFERENCE) t.now at result }
 {
     match behind_word(t, at, Keyword::Reference) {
@@ -232,7 +249,7 @@ impl Repeated for RefTree {
         alloc: Global,
         t: &[Token<'_>],
         at: usize,
-    ) -> Result<Option<(RefTree, usize)>, Fail<Refused>> {
+    ) -> Result<Option<(Boxed<RefTree>, usize)>, Fail<Refused>> {
         next_ref(alloc, t, at)
     }
 
@@ -321,13 +338,13 @@ fn read_until(
     alloc: Global,
     t: &[Token<'_>],
     at: usize,
-) -> Result<(Option<E>, usize), Fail<Refused>>
+) -> Result<(Option<Tree>, usize), Fail<Refused>>
     requires { at ≤ length t.now }
     ensures { Gives UntilE (Past clause.UNTIL) t.now at result }
 {
     match behind_word(t, at, Keyword::Until) {
         Some(behind) => {
-            let (e, to) = read_round(alloc, t, behind)?;
+            let (e, to) = read_round_tree(alloc, t, behind)?;
             past(t, to, clauses::UNTIL)?;
             Ok((Some(e), to))
         }
@@ -353,7 +370,7 @@ fn read_turns(
     alloc: Global,
     t: &[Token<'_>],
     at: usize,
-) -> Result<((Option<Num>, Option<E>), usize), Fail<Refused>>
+) -> Result<((Option<Num>, Option<Tree>), usize), Fail<Refused>>
     ensures { Gives Iterates (Past clause.UNTIL) t.now at result }
 {
     let (number, mid) = read_round_int(t, at)?;
@@ -366,7 +383,7 @@ fn read_iterate(
     alloc: Global,
     t: &[Token<'_>],
     at: usize,
-) -> Result<((Option<Num>, Option<E>), usize), Fail<Refused>>
+) -> Result<((Option<Num>, Option<Tree>), usize), Fail<Refused>>
     requires { at ≤ length t.now }
     ensures { Gives IterateE (Past clause.UNTIL) t.now at result }
 {
@@ -379,20 +396,33 @@ fn read_iterate(
     }
 }
 
-fn head_from(mode: Option<Mode>, auto: bool, iterate: (Option<Num>, Option<E>)) -> Head
-    ensures { result ≡ head_of mode auto iterate }
+fn head_from(
+    alloc: Global,
+    mode: Option<Mode>,
+    auto: bool,
+    iterate: (Option<Num>, Option<Tree>),
+) -> Result<Boxed<Head>, Memory>
+    ensures { IfOk result (λ h. h ≡ head_of mode auto iterate) }
 {
     let (iterate, until) = iterate;
-    Head {
-        mode,
-        auto,
-        iterate,
-        until,
-    }
+    let until = inner(until);
+    Boxed::new(
+        alloc,
+        Head {
+            mode,
+            auto,
+            iterate,
+            until,
+        },
+    )
 }
 
 // RULES, behind it.
-fn read_ruling(alloc: Global, t: &[Token<'_>], at: usize) -> Result<(Head, usize), Fail<Refused>>
+fn read_ruling(
+    alloc: Global,
+    t: &[Token<'_>],
+    at: usize,
+) -> Result<(Boxed<Head>, usize), Fail<Refused>>
     requires { at ≤ length t.now }
     ensures { Gives Ruling Opens t.now at result }
 {
@@ -400,7 +430,7 @@ fn read_ruling(alloc: Global, t: &[Token<'_>], at: usize) -> Result<(Head, usize
     let (auto, next) = read_auto(t, mid)?;
     let (iterate, to) = read_iterate(alloc, t, next)?;
     pass_sign(t, to, Symbol::Open)?;
-    Ok((head_from(mode, auto, iterate), to))
+    Ok((head_from(alloc, mode, auto, iterate)?, to))
 }
 
 /// RULES, where it stands there, up to the opening bracket of the rules.
@@ -408,7 +438,7 @@ pub(crate) fn read_head(
     alloc: Global,
     t: &[Token<'_>],
     at: usize,
-) -> Result<(Head, usize), Fail<Refused>>
+) -> Result<(Boxed<Head>, usize), Fail<Refused>>
     requires { at ≤ length t.now }
     ensures { Gives HeadE Opens t.now at result }
 {
@@ -416,7 +446,7 @@ pub(crate) fn read_head(
         Some(behind) => read_ruling(alloc, t, behind),
         None => {
             pass_sign(t, at, Symbol::Open)?;
-            Ok((head_from(None, false, (None, None)), at))
+            Ok((head_from(alloc, None, false, (None, None))?, at))
         }
     }
 }

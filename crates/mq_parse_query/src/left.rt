@@ -5,19 +5,21 @@ ghost use Rattle.mq_parse_expr.specs.Reading.{Anywhere, Gives, from};
 ghost use Rattle.std.proofs.Common.{arith};
 ghost use Rattle.mq_ast.specs.declared.levels.TheConstants as level;
 ghost use Rattle.mq_ast.specs.Prelude.{AloneE, DownE, EndsList, FinishE, ForListE, LitE, NameE, RangeE, Sign, StartE, Stops, Tok, Tuple};
-ghost use Rattle.mq_ast.specs.Prelude.{place_of, range_of};
+ghost use Rattle.mq_ast.specs.Prelude.{closer, place_of, range_of};
 ghost use Rattle.mq_ast.specs.Laws.{alone_same, lit_same, name_same, tuple_one};
-ghost use Rattle.mq_parse_query.specs.Pieces.{Closed, ForOpen, ForPlace, LeftEnd, LeftTuples, NoForOpen, PlainEnd};
+ghost use Rattle.mq_parse_query.specs.Pieces.{Closed, ForOpen, ForPlace, LeftEnd, LeftTuples, NoForOpen, NoQuery, PlainEnd};
 
+use crate::heap::opened;
 use crate::lists::{Listed, read_list};
 use crate::plain::read_plain;
 use mq_ast::parts::Range;
 use mq_ast::{E, ForList, Keyword, LeftPlace, LeftTree, Plain, Symbol, levels};
 use mq_lexer::Token;
 use mq_parse_expr::{
-    behind_sign, behind_word, pass_sign, pass_word, read_expr, read_name, read_tuple, settled,
+    Tree, behind_sign, behind_word, pass_sign, pass_word, put, read_name, read_tree, read_tuple,
+    settled,
 };
-use mq_values::{Fail, Items, Memory, Refused, Words};
+use mq_values::{Boxed, Fail, Items, Memory, Refused, Words};
 use std::alloc::Global;
 
 /// Parts with commas between them, and the closing sign behind the last.
@@ -27,8 +29,7 @@ pub(crate) fn read_closed<P: Listed>(
     at: usize,
     close: Symbol,
 ) -> Result<(Items<P::Tree>, usize), Fail<Refused>>
-    requires in_range { at ≤ length t.now }
-    requires closes { (ts : List Tok) → EndsList P.stop (Sign close ∷ ts) }
+    requires { (ts : List Tok) → EndsList P.stop (Sign close ∷ ts) }
     ensures { Gives (Closed (Sign close) P.reads) Anywhere t.now at result }
 {
     let (found, end) = read_list::<P>(alloc, t, at)?;
@@ -41,8 +42,7 @@ pub(crate) fn read_plain_end(
     alloc: Global,
     t: &[Token<'_>],
     at: usize,
-) -> Result<(Plain, usize), Fail<Refused>>
-    requires { at ≤ length t.now }
+) -> Result<(Boxed<Plain>, usize), Fail<Refused>>
     ensures { Gives PlainEnd Anywhere t.now at result }
 {
     let (plain, end) = read_plain(alloc, t, at)?;
@@ -109,62 +109,64 @@ impl Listed for Alone {
 
 // An expression, as a list of one.
 fn read_alone(alloc: Global, t: &[Token<'_>], at: usize) -> Result<(Items<E>, usize), Fail<Refused>>
-    requires { at ≤ length t.now }
     ensures { Gives AloneE (Stops level.EXPRESSION) t.now at result }
 {
-    let (e, to) = read_expr(alloc, t, at)?;
+    let (e, to) = read_tree(alloc, t, at)?;
     Ok((list_of(alloc, e)?, to))
 }
 
 // A list of one expression.
-fn list_of(alloc: Global, e: E) -> Result<Items<E>, Memory>
+fn list_of(alloc: Global, e: Tree) -> Result<Items<E>, Memory>
     ensures { IfOk result (λ xs. xs ≡ e ∷ []) }
 {
     let mut list = Items::new(alloc);
-    list.push(e)?;
+    put(&mut list, e)?;
     Ok(list)
 }
 
-// The values of a FOR between brackets, or a query.
-fn read_values(alloc: Global, t: &[Token<'_>], at: usize) -> Result<(ForList, usize), Fail<Refused>>
-    ensures { Gives (ForListE AloneE) Anywhere t.now at result }
+// What a FOR goes through: parts between brackets, each a list of expressions, or a query.
+fn read_for_list<P: Listed<Tree = Items<E>>>(
+    alloc: Global,
+    t: &[Token<'_>],
+    at: usize,
+) -> Result<(Boxed<ForList>, usize), Fail<Refused>>
+    requires closes { (ts : List Tok) → EndsList P.stop (closer ∷ ts) }
+    requires no_query { NoQuery P.reads }
+    ensures { Gives (ForListE P.reads) Anywhere t.now at result }
 {
     let open = pass_sign(t, at, Symbol::Open)?;
     match behind_word(t, open, Keyword::Select) {
         Some(_) => {
             let (plain, to) = read_plain_end(alloc, t, open)?;
-            Ok((ForList::Rows(plain), to))
+            Ok((rows_of(alloc, plain)?, to))
         }
         None => {
-            let (list, to) = read_closed::<Alone>(alloc, t, open, Symbol::Close)?;
-            Ok((ForList::Values(list), to))
+            let (list, to) = read_closed::<P>(alloc, t, open, Symbol::Close)?;
+            Ok((values_of(alloc, list)?, to))
         }
     }
 }
 
-// The rows of a FOR between brackets, or a query.
-fn read_tuples(alloc: Global, t: &[Token<'_>], at: usize) -> Result<(ForList, usize), Fail<Refused>>
-    ensures { Gives (ForListE Tuple) Anywhere t.now at result }
+// The rows of a query.
+fn rows_of(alloc: Global, plain: Boxed<Plain>) -> Result<Boxed<ForList>, Memory>
+    ensures { IfOk result (λ l. l ≡ ForList.Rows plain) }
 {
-    let open = pass_sign(t, at, Symbol::Open)?;
-    match behind_word(t, open, Keyword::Select) {
-        Some(_) => {
-            let (plain, to) = read_plain_end(alloc, t, open)?;
-            Ok((ForList::Rows(plain), to))
-        }
-        None => {
-            let (list, to) = read_closed::<Row>(alloc, t, open, Symbol::Close)?;
-            Ok((ForList::Values(list), to))
-        }
-    }
+    Boxed::new(alloc, ForList::Rows(plain.into_inner()))
+}
+
+// Values, one list of expressions each.
+fn values_of(alloc: Global, list: Items<Items<E>>) -> Result<Boxed<ForList>, Memory>
+    ensures { IfOk result (λ l. l ≡ ForList.Values list) }
+{
+    Boxed::new(alloc, ForList::Values(list))
 }
 
 // FROM, an expression and TO.
-fn read_start(alloc: Global, t: &[Token<'_>], at: usize) -> Result<(E, usize), Fail<Refused>>
+fn read_start(alloc: Global, t: &[Token<'_>], at: usize) -> Result<(Tree, usize), Fail<Refused>>
     ensures { Gives StartE Anywhere t.now at result }
 {
     let behind = pass_word(t, at, Keyword::From)?;
-    let (e, end) = read_expr(alloc, t, behind)?;
+    let (e, end) = read_tree(alloc, t, behind)?;
     let to = pass_word(t, end, Keyword::To)?;
     Ok((e, to))
 }
@@ -187,63 +189,89 @@ fn read_finish(
     alloc: Global,
     t: &[Token<'_>],
     at: usize,
-) -> Result<((E, bool), usize), Fail<Refused>>
-    requires { at ≤ length t.now }
+) -> Result<((Tree, bool), usize), Fail<Refused>>
     ensures { Gives FinishE Anywhere t.now at result }
 {
-    let (e, end) = read_expr(alloc, t, at)?;
+    let (e, end) = read_tree(alloc, t, at)?;
     let (down, to) = read_down(t, end)?;
     Ok(((e, down), to))
 }
 
-fn range_from(start: E, finish: (E, bool), step: E) -> Range
-    ensures { result ≡ range_of start finish step }
+fn range_from(
+    alloc: Global,
+    start: Tree,
+    finish: (Tree, bool),
+    step: Tree,
+) -> Result<Boxed<Range>, Memory>
+    ensures { IfOk result (λ r. r ≡ range_of start finish step) }
 {
     let (finish, down) = finish;
-    Range {
-        start,
-        finish,
-        down,
-        step,
-    }
+    Boxed::new(
+        alloc,
+        Range {
+            start: start.into_inner(),
+            finish: finish.into_inner(),
+            down,
+            step: step.into_inner(),
+        },
+    )
 }
 
 // FROM, TO, and INCREMENT or DECREMENT, each with its expression.
-fn read_range(alloc: Global, t: &[Token<'_>], at: usize) -> Result<(Range, usize), Fail<Refused>>
+fn read_range(
+    alloc: Global,
+    t: &[Token<'_>],
+    at: usize,
+) -> Result<(Boxed<Range>, usize), Fail<Refused>>
     ensures { Gives RangeE (Stops level.EXPRESSION) t.now at result }
 {
     let (start, mid) = read_start(alloc, t, at)?;
     let (finish, last) = read_finish(alloc, t, mid)?;
-    let (step, to) = read_expr(alloc, t, last)?;
-    Ok((range_from(start, finish, step), to))
+    let (step, to) = read_tree(alloc, t, last)?;
+    Ok((range_from(alloc, start, finish, step)?, to))
 }
 
-fn for_range(dim: Words, range: Range) -> LeftPlace
-    ensures { result ≡ place_of dim range }
+fn for_range(alloc: Global, dim: Words, range: Boxed<Range>) -> Result<Boxed<LeftPlace>, Memory>
+    ensures { IfOk result (λ p. p ≡ place_of dim range) }
 {
-    LeftPlace::ForRange {
-        dim,
-        start: range.start,
-        stop: range.finish,
-        step: range.step,
-        down: range.down,
-    }
+    let range = range.into_inner();
+    Boxed::new(
+        alloc,
+        LeftPlace::ForRange {
+            dim,
+            start: range.start,
+            stop: range.finish,
+            step: range.step,
+            down: range.down,
+        },
+    )
+}
+
+fn for_in(alloc: Global, dim: Words, list: Boxed<ForList>) -> Result<Boxed<LeftPlace>, Memory>
+    ensures { IfOk result (λ p. p ≡ LeftPlace.ForIn dim list) }
+{
+    let list = list.into_inner();
+    Boxed::new(alloc, LeftPlace::ForIn { dim, list })
 }
 
 // A FOR of one dimension, behind FOR.
-fn read_for(alloc: Global, t: &[Token<'_>], at: usize) -> Result<(LeftPlace, usize), Fail<Refused>>
+fn read_for(
+    alloc: Global,
+    t: &[Token<'_>],
+    at: usize,
+) -> Result<(Boxed<LeftPlace>, usize), Fail<Refused>>
     ensures { Gives ForPlace (Stops level.EXPRESSION) t.now at result }
 {
     let (dim, mid) = read_name(alloc, t, at)?;
     match behind_word(t, mid, Keyword::In) {
         Some(behind) => {
-            let (list, to) = read_values(alloc, t, behind)?;
+            let (list, to) = read_for_list::<Alone>(alloc, t, behind)?;
             settled(t, to, levels::EXPRESSION)?;
-            Ok((LeftPlace::ForIn { dim, list }, to))
+            Ok((for_in(alloc, dim, list)?, to))
         }
         None => {
             let (range, to) = read_range(alloc, t, mid)?;
-            Ok((for_range(dim, range), to))
+            Ok((for_range(alloc, dim, range)?, to))
         }
     }
 }
@@ -253,21 +281,32 @@ fn read_place(
     alloc: Global,
     t: &[Token<'_>],
     at: usize,
-) -> Result<(LeftPlace, usize), Fail<Refused>>
-    requires { at ≤ length t.now }
+) -> Result<(Boxed<LeftPlace>, usize), Fail<Refused>>
     ensures { Gives LitE (Stops level.EXPRESSION) t.now at result }
 {
     if let Some(to) = behind_word(t, at, Keyword::Any) {
         settled(t, to, levels::EXPRESSION)?;
-        return Ok((LeftPlace::Any, to));
+        return Ok((any_place(alloc)?, to));
     }
     match behind_word(t, at, Keyword::For) {
         Some(behind) => read_for(alloc, t, behind),
         None => {
-            let (e, to) = read_expr(alloc, t, at)?;
-            Ok((LeftPlace::Expr(e), to))
+            let (e, to) = read_tree(alloc, t, at)?;
+            Ok((one_place(alloc, e)?, to))
         }
     }
+}
+
+fn any_place(alloc: Global) -> Result<Boxed<LeftPlace>, Memory>
+    ensures { IfOk result (λ p. p ≡ LeftPlace.Any) }
+{
+    Boxed::new(alloc, LeftPlace::Any)
+}
+
+fn one_place(alloc: Global, e: Tree) -> Result<Boxed<LeftPlace>, Memory>
+    ensures { IfOk result (λ p. p ≡ LeftPlace.Expr e) }
+{
+    Boxed::new(alloc, LeftPlace::Expr(e.into_inner()))
 }
 
 impl Listed for LeftPlace {
@@ -282,7 +321,7 @@ impl Listed for LeftPlace {
         t: &[Token<'_>],
         at: usize,
     ) -> Result<(LeftPlace, usize), Fail<Refused>> {
-        read_place(alloc, t, at)
+        opened(read_place(alloc, t, at))
     }
 
     ghost one = { lit_same };
@@ -305,15 +344,31 @@ fn read_left_tuples(
     alloc: Global,
     t: &[Token<'_>],
     at: usize,
-) -> Result<(LeftTree, usize), Fail<Refused>>
-    requires { at ≤ length t.now }
+) -> Result<(Boxed<LeftTree>, usize), Fail<Refused>>
     ensures { Gives LeftTuples Anywhere t.now at result }
 {
     let (dims, end) = read_closed::<Naming>(alloc, t, at, Symbol::Close)?;
     let behind = pass_word(t, end, Keyword::In)?;
-    let (list, last) = read_tuples(alloc, t, behind)?;
+    let (list, last) = read_for_list::<Row>(alloc, t, behind)?;
     let to = pass_sign(t, last, Symbol::CloseSquare)?;
-    Ok((LeftTree::Tuples { dims, list }, to))
+    Ok((tuples_of(alloc, dims, list)?, to))
+}
+
+fn tuples_of(
+    alloc: Global,
+    dims: Items<Words>,
+    list: Boxed<ForList>,
+) -> Result<Boxed<LeftTree>, Memory>
+    ensures { IfOk result (λ l. l ≡ LeftTree.Tuples dims list) }
+{
+    let list = list.into_inner();
+    Boxed::new(alloc, LeftTree::Tuples { dims, list })
+}
+
+fn places_of(alloc: Global, places: Items<LeftPlace>) -> Result<Boxed<LeftTree>, Memory>
+    ensures { IfOk result (λ l. l ≡ LeftTree.Places places) }
+{
+    Boxed::new(alloc, LeftTree::Places(places))
 }
 
 /// What stands between the square brackets of a left side, and the closing one.
@@ -321,15 +376,14 @@ pub(crate) fn read_left(
     alloc: Global,
     t: &[Token<'_>],
     at: usize,
-) -> Result<(LeftTree, usize), Fail<Refused>>
-    requires { at ≤ length t.now }
+) -> Result<(Boxed<LeftTree>, usize), Fail<Refused>>
     ensures { Gives LeftEnd Anywhere t.now at result }
 {
     match behind_for(t, at) {
         Some(dims) => read_left_tuples(alloc, t, dims),
         None => {
             let (places, to) = read_closed::<LeftPlace>(alloc, t, at, Symbol::CloseSquare)?;
-            Ok((LeftTree::Places(places), to))
+            Ok((places_of(alloc, places)?, to))
         }
     }
 }

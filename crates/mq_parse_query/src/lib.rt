@@ -6,6 +6,7 @@
 mod columns;
 mod froms;
 mod heads;
+mod heap;
 mod left;
 mod lists;
 mod model;

@@ -7,8 +7,8 @@ ghost use Rattle.mq_parse_expr.specs.Reading.{Gives, from};
 
 use mq_ast::Symbol;
 use mq_lexer::Token;
-use mq_parse_expr::behind_sign;
-use mq_values::{Fail, Items, Refused};
+use mq_parse_expr::{behind_sign, put};
+use mq_values::{Boxed, Fail, Items, Refused};
 use std::alloc::Global;
 
 /// A part of which lists with commas are made.
@@ -22,9 +22,9 @@ pub trait Listed {
     /// Where a part ends.
     ghost stop: { List Tok → Type 0 };
 
-    /// The tree that reads the tokens from a place on, and the place behind it. SYNTAX where there is none.
+    /// The tree that reads the tokens from a place on, and the place behind it. SYNTAX where there is none, also behind the
+    /// last token.
     fn read(alloc: Global, t: &[Token<'_>], at: usize) -> Result<(Self::Tree, usize), Fail<Refused>>
-        requires { at ≤ length t.now }
         ensures { Gives reads stop t.now at result };
 
     /// A part reads tokens in one way only.
@@ -34,13 +34,13 @@ pub trait Listed {
     ghost before_comma: { (ts : List Tok) → stop (comma ∷ ts) };
 }
 
-/// One part or more, with commas between them, up to a place where no comma stands.
+/// One part or more, with commas between them, up to a place where no comma stands. SYNTAX exactly where there are none,
+/// also behind the last token.
 pub fn read_list<P: Listed>(
     alloc: Global,
     t: &[Token<'_>],
     at: usize,
 ) -> Result<(Items<P::Tree>, usize), Fail<Refused>>
-    requires { at ≤ length t.now }
     ensures { Gives (SomeOf P.reads) (EndsList P.stop) t.now at result }
 {
     let (first, mid) = P::read(alloc, t, at)?;
@@ -83,12 +83,12 @@ pub(crate) trait Repeated {
     /// Where the last of them ends.
     ghost end: { List Tok → Type 0 };
 
-    /// The part that begins at a place, and the place behind it; none where the last one has ended.
+    /// The part that begins at a place, on the heap, and the place behind it; none where the last one has ended.
     fn next(
         alloc: Global,
         t: &[Token<'_>],
         at: usize,
-    ) -> Result<Option<(Self::Tree, usize)>, Fail<Refused>>
+    ) -> Result<Option<(Boxed<Self::Tree>, usize)>, Fail<Refused>>
         requires { at ≤ length t.now }
         ensures { Turns reads stop end t.now at result };
 
@@ -117,7 +117,7 @@ pub(crate) fn read_many<P: Repeated>(
     let mut found = Items::new(alloc);
     let mut to = at;
     while let Some((part, next)) = P::next(alloc, t, to)? {
-        found.push(part)?;
+        put(&mut found, part)?;
         to = next;
     }
     Ok((found, to))

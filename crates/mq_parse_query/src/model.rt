@@ -1,9 +1,9 @@
 //! The MODEL clause (docs/LANGUAGE.md, "The MODEL clause").
 
-ghost use Rattle.std.specs.Prelude.{◌≡◌, ◌≤◌, length};
+ghost use Rattle.std.specs.Prelude.{◌≡◌, ◌≤◌, length, IfOk};
 ghost use Rattle.mq_ast.specs.declared.clauses.TheConstants as clause;
 ghost use Rattle.mq_ast.specs.Prelude.{BodyE, FrontE, ModelE, Past, TailE, model_of};
-ghost use Rattle.mq_parse_query.specs.Pieces.{Modelling};
+ghost use Rattle.mq_parse_query.specs.Pieces.{Modelling, tail_of};
 ghost use Rattle.mq_parse_expr.specs.Reading.{Anywhere, Gives};
 
 use crate::heads::{read_axes, read_head, read_main, read_parts, read_return};
@@ -13,7 +13,7 @@ use mq_ast::parts::{Body, Front, Head, Tail};
 use mq_ast::{Keyword, ModelTree, Opt, RefTree, RuleTree, Sel};
 use mq_lexer::Token;
 use mq_parse_expr::behind_word;
-use mq_values::{Fail, Items, Refused, Words};
+use mq_values::{Boxed, Fail, Items, Memory, Refused};
 use std::alloc::Global;
 
 fn read_front(alloc: Global, t: &[Token<'_>], at: usize) -> Result<(Front, usize), Fail<Refused>>
@@ -43,18 +43,39 @@ fn read_body(alloc: Global, t: &[Token<'_>], at: usize) -> Result<(Body, usize),
     Ok((Body { main, parts, axes }, to))
 }
 
-fn read_tail(alloc: Global, t: &[Token<'_>], at: usize) -> Result<(Tail, usize), Fail<Refused>>
+fn read_tail(
+    alloc: Global,
+    t: &[Token<'_>],
+    at: usize,
+) -> Result<(Boxed<Tail>, usize), Fail<Refused>>
     requires { at ≤ length t.now }
     ensures { Gives TailE Anywhere t.now at result }
 {
     let (opts, mid) = read_many::<Opt>(alloc, t, at)?;
     let (head, next) = read_head(alloc, t, mid)?;
     let (rules, to) = read_rules(alloc, t, next)?;
-    Ok((Tail { opts, head, rules }, to))
+    Ok((tail_with(alloc, opts, head, rules)?, to))
 }
 
-fn model_tree(front: Front, body: Body, tail: Tail) -> ModelTree
-    ensures { result ≡ model_of front body tail }
+fn tail_with(
+    alloc: Global,
+    opts: Items<Opt>,
+    head: Boxed<Head>,
+    rules: Items<RuleTree>,
+) -> Result<Boxed<Tail>, Memory>
+    ensures { IfOk result (λ e. e ≡ tail_of opts head rules) }
+{
+    let head = head.into_inner();
+    Boxed::new(alloc, Tail { opts, head, rules })
+}
+
+fn model_tree(
+    alloc: Global,
+    front: Front,
+    body: Body,
+    tail: Boxed<Tail>,
+) -> Result<Boxed<ModelTree>, Memory>
+    ensures { IfOk result (λ m. m ≡ model_of front body tail) }
 {
     let Front {
         opts,
@@ -67,28 +88,31 @@ fn model_tree(front: Front, body: Body, tail: Tail) -> ModelTree
         opts: main_opts,
         head,
         rules,
-    } = tail;
+    } = tail.into_inner();
     let Head {
         mode,
         auto,
         iterate,
         until,
     } = head;
-    ModelTree {
-        opts,
-        main_opts,
-        updated_only: updated,
-        refs,
-        main,
-        parts,
-        dims,
-        measures,
-        mode,
-        auto,
-        iterate,
-        until,
-        rules,
-    }
+    Boxed::new(
+        alloc,
+        ModelTree {
+            opts,
+            main_opts,
+            updated_only: updated,
+            refs,
+            main,
+            parts,
+            dims,
+            measures,
+            mode,
+            auto,
+            iterate,
+            until,
+            rules,
+        },
+    )
 }
 
 // A MODEL clause, behind its word.
@@ -96,14 +120,14 @@ fn read_modelling(
     alloc: Global,
     t: &[Token<'_>],
     at: usize,
-) -> Result<(ModelTree, usize), Fail<Refused>>
+) -> Result<(Boxed<ModelTree>, usize), Fail<Refused>>
     requires { at ≤ length t.now }
     ensures { Gives Modelling Anywhere t.now at result }
 {
     let (front, mid) = read_front(alloc, t, at)?;
     let (body, next) = read_body(alloc, t, mid)?;
     let (tail, to) = read_tail(alloc, t, next)?;
-    Ok((model_tree(front, body, tail), to))
+    Ok((model_tree(alloc, front, body, tail)?, to))
 }
 
 /// A MODEL clause.
@@ -111,8 +135,7 @@ pub(crate) fn read_model(
     alloc: Global,
     t: &[Token<'_>],
     at: usize,
-) -> Result<(ModelTree, usize), Fail<Refused>>
-    requires { at ≤ length t.now }
+) -> Result<(Boxed<ModelTree>, usize), Fail<Refused>>
     ensures { Gives ModelE Anywhere t.now at result }
 {
     match behind_word(t, at, Keyword::Model) {

@@ -1,21 +1,23 @@
 //! The plain part of a query (docs/LANGUAGE.md, "Queries").
 
-ghost use Rattle.std.specs.Prelude.{◌≡◌, ◌≤◌, true, false, [], length};
+ghost use Rattle.std.specs.Prelude.{◌≡◌, ◌≤◌, true, false, [], length, IfOk};
 ghost use Rattle.mq_ast.specs.declared.levels.TheConstants as level;
 ghost use Rattle.mq_ast.specs.Prelude.{GroupE, PlainE, ShownE, SourceE, Stops, WhereE, plain_of, shown_of, source_of};
 ghost use Rattle.mq_parse_expr.specs.Reading.{Anywhere, Gives};
 
 use crate::columns::read_sels;
 use crate::froms::read_from;
+use crate::heap::{inner, opened_choice};
 use crate::lists::{Listed, read_list};
 use mq_ast::parts::{Shown, Source};
 use mq_ast::{E, FromItem, Keyword, Path, Plain, Sel, Symbol, levels};
 use mq_lexer::Token;
-use mq_parse_expr::{behind_sign, behind_word, pass_word, read_expr, read_path, settled};
-use mq_values::{Fail, Items, ProdOp, Refused};
+use mq_parse_expr::{Tree, behind_sign, behind_word, pass_word, read_path, read_tree, settled};
+use mq_values::{Boxed, Fail, Items, Memory, ProdOp, Refused};
 use std::alloc::Global;
 
-/// The condition behind WHERE, where one stands there.
+/// The condition behind WHERE, where one stands there, up to a place where no token stands that goes on.
+/// SYNTAX exactly where there is neither.
 pub fn read_where(
     alloc: Global,
     t: &[Token<'_>],
@@ -24,11 +26,23 @@ pub fn read_where(
     requires { at ≤ length t.now }
     ensures { Gives WhereE (Stops level.FILTERED) t.now at result }
 {
+    opened_choice(read_filter(alloc, t, at))
+}
+
+// The condition behind WHERE, on the heap.
+fn read_filter(
+    alloc: Global,
+    t: &[Token<'_>],
+    at: usize,
+) -> Result<(Option<Tree>, usize), Fail<Refused>>
+    requires { at ≤ length t.now }
+    ensures { Gives WhereE (Stops level.FILTERED) t.now at result }
+{
     let Some(behind) = behind_word(t, at, Keyword::Where) else {
         settled(t, at, levels::FILTERED)?;
         return Ok((None, at));
     };
-    let (e, to) = read_expr(alloc, t, behind)?;
+    let (e, to) = read_tree(alloc, t, behind)?;
     settled(t, to, levels::FILTERED)?;
     Ok((Some(e), to))
 }
@@ -90,7 +104,6 @@ fn these(sels: Items<Sel>) -> Shown
 
 // What stands between SELECT and FROM, with FROM.
 fn read_shown(alloc: Global, t: &[Token<'_>], at: usize) -> Result<(Shown, usize), Fail<Refused>>
-    requires { at ≤ length t.now }
     ensures { Gives ShownE Anywhere t.now at result }
 {
     if let Some(star) = behind_sign(t, at, Symbol::Prod(ProdOp::Mul)) {
@@ -102,37 +115,53 @@ fn read_shown(alloc: Global, t: &[Token<'_>], at: usize) -> Result<(Shown, usize
     Ok((these(sels), to))
 }
 
-fn source_with(froms: Items<FromItem>, filter: Option<E>, group: Items<Path>) -> Source
-    ensures { result ≡ source_of froms filter group }
+fn source_with(
+    alloc: Global,
+    froms: Items<FromItem>,
+    filter: Option<Tree>,
+    group: Items<Path>,
+) -> Result<Boxed<Source>, Memory>
+    ensures { IfOk result (λ s. s ≡ source_of froms filter group) }
 {
-    Source {
-        froms,
-        filter,
-        group,
-    }
+    let filter = inner(filter);
+    Boxed::new(
+        alloc,
+        Source {
+            froms,
+            filter,
+            group,
+        },
+    )
 }
 
 // What stands behind FROM.
-fn read_source(alloc: Global, t: &[Token<'_>], at: usize) -> Result<(Source, usize), Fail<Refused>>
-    requires { at ≤ length t.now }
+fn read_source(
+    alloc: Global,
+    t: &[Token<'_>],
+    at: usize,
+) -> Result<(Boxed<Source>, usize), Fail<Refused>>
     ensures { Gives SourceE (Stops level.PLAIN) t.now at result }
 {
     let (froms, mid) = read_from(alloc, t, at)?;
-    let (filter, last) = read_where(alloc, t, mid)?;
+    let (filter, last) = read_filter(alloc, t, mid)?;
     let (group, to) = read_group(alloc, t, last)?;
-    Ok((source_with(froms, filter, group), to))
+    Ok((source_with(alloc, froms, filter, group)?, to))
 }
 
-fn plain_with(shown: Shown, source: Source) -> Plain
-    ensures { result ≡ plain_of shown source }
+fn plain_with(alloc: Global, shown: Shown, source: Boxed<Source>) -> Result<Boxed<Plain>, Memory>
+    ensures { IfOk result (λ p. p ≡ plain_of shown source) }
 {
-    Plain {
-        star: shown.star,
-        sels: shown.sels,
-        froms: source.froms,
-        filter: source.filter,
-        group: source.group,
-    }
+    let source = source.into_inner();
+    Boxed::new(
+        alloc,
+        Plain {
+            star: shown.star,
+            sels: shown.sels,
+            froms: source.froms,
+            filter: source.filter,
+            group: source.group,
+        },
+    )
 }
 
 /// SELECT with FROM, WHERE and GROUP BY.
@@ -140,12 +169,11 @@ pub(crate) fn read_plain(
     alloc: Global,
     t: &[Token<'_>],
     at: usize,
-) -> Result<(Plain, usize), Fail<Refused>>
-    requires { at ≤ length t.now }
+) -> Result<(Boxed<Plain>, usize), Fail<Refused>>
     ensures { Gives PlainE (Stops level.PLAIN) t.now at result }
 {
     let select = pass_word(t, at, Keyword::Select)?;
     let (shown, mid) = read_shown(alloc, t, select)?;
     let (source, to) = read_source(alloc, t, mid)?;
-    Ok((plain_with(shown, source), to))
+    Ok((plain_with(alloc, shown, source)?, to))
 }

@@ -5,13 +5,14 @@ ghost use Rattle.mq_ast.specs.declared.levels.TheConstants as level;
 ghost use Rattle.mq_ast.specs.Prelude.{EndE, OrderE, QueryE, Stops, query_of};
 ghost use Rattle.mq_parse_expr.specs.Reading.{Gives};
 
+use crate::heap::inner;
 use crate::model::read_model;
 use crate::order::read_order;
 use crate::plain::read_plain;
 use mq_ast::{Keyword, ModelTree, OrderKey, Plain, Query, levels};
 use mq_lexer::Token;
 use mq_parse_expr::{behind_word, settled};
-use mq_values::{Fail, Items, Refused};
+use mq_values::{Boxed, Fail, Items, Refused};
 use std::alloc::Global;
 
 // The keys of ORDER BY, where it stands there, up to a place where no token stands that goes on.
@@ -33,7 +34,7 @@ fn read_end(
     alloc: Global,
     t: &[Token<'_>],
     at: usize,
-) -> Result<((Option<ModelTree>, Items<OrderKey>), usize), Fail<Refused>>
+) -> Result<((Option<Boxed<ModelTree>>, Items<OrderKey>), usize), Fail<Refused>>
     requires { at ≤ length t.now }
     ensures { Gives EndE (Stops level.QUERY) t.now at result }
 {
@@ -50,25 +51,24 @@ fn read_end(
     }
 }
 
-fn query_tree(plain: Plain, end: (Option<ModelTree>, Items<OrderKey>)) -> Query
+fn query_tree(plain: Boxed<Plain>, end: (Option<Boxed<ModelTree>>, Items<OrderKey>)) -> Query
     ensures { result ≡ query_of plain end }
 {
     let (model, order) = end;
     Query {
-        plain,
-        model,
+        plain: plain.into_inner(),
+        model: inner(model),
         order,
     }
 }
 
 /// A query: its plain part, its MODEL clause and its ORDER BY, up to a place where no token stands that goes on.
-/// SYNTAX exactly where there is no such query.
+/// SYNTAX exactly where there is no such query, also behind the last token.
 pub fn read_query(
     alloc: Global,
     t: &[Token<'_>],
     at: usize,
 ) -> Result<(Query, usize), Fail<Refused>>
-    requires { at ≤ length t.now }
     ensures { Gives QueryE (Stops level.QUERY) t.now at result }
 {
     let (plain, mid) = read_plain(alloc, t, at)?;

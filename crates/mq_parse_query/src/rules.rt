@@ -12,10 +12,12 @@ ghost use Rattle.mq_parse_query.specs.Pieces.{Upserts};
 use crate::left::{read_closed, read_left};
 use crate::lists::Listed;
 use crate::order::read_order;
-use mq_ast::{E, Keyword, LeftTree, OrderKey, RuleTree, Symbol, Terminal, clauses};
+use mq_ast::{Keyword, LeftTree, OrderKey, RuleTree, Symbol, Terminal, clauses};
 use mq_lexer::Token;
-use mq_parse_expr::{behind_sign, behind_word, pass_sign, read_expr, read_name, terminal};
-use mq_values::{CmpOp, Fail, Items, Mode, Refused, Words};
+use mq_parse_expr::{
+    Tree, behind_sign, behind_word, pass_sign, read_name, read_tree, terminal, token_at,
+};
+use mq_values::{Boxed, CmpOp, Fail, Items, Mode, Refused, Words};
 use std::alloc::Global;
 
 // Which part of a MODEL clause begins so (docs/LANGUAGE.md, "The MODEL clause").
@@ -105,17 +107,21 @@ fn read_right(
     alloc: Global,
     t: &[Token<'_>],
     at: usize,
-) -> Result<((Items<OrderKey>, E), usize), Fail<Refused>>
+) -> Result<((Items<OrderKey>, Tree), usize), Fail<Refused>>
     requires { at ≤ length t.now }
     ensures { Gives RuleRight (Stops level.EXPRESSION) t.now at result }
 {
     let (order, end) = read_order(alloc, t, at)?;
     let behind = pass_sign(t, end, Symbol::Cmp(CmpOp::Eq))?;
-    let (right, to) = read_expr(alloc, t, behind)?;
+    let (right, to) = read_tree(alloc, t, behind)?;
     Ok(((order, right), to))
 }
 
-fn rule_tree(front: (Option<Mode>, Words), left: LeftTree, right: (Items<OrderKey>, E)) -> RuleTree
+fn rule_tree(
+    front: (Option<Mode>, Words),
+    left: Boxed<LeftTree>,
+    right: (Items<OrderKey>, Tree),
+) -> RuleTree
     ensures { result ≡ rule_of front left right }
 {
     let (mode, measure) = front;
@@ -123,9 +129,9 @@ fn rule_tree(front: (Option<Mode>, Words), left: LeftTree, right: (Items<OrderKe
     RuleTree {
         mode,
         measure,
-        left,
+        left: left.into_inner(),
         order,
-        right,
+        right: right.into_inner(),
     }
 }
 
@@ -148,7 +154,10 @@ impl Listed for RuleTree {
     ghost stop = { Stops level.EXPRESSION };
 
     fn read(alloc: Global, t: &[Token<'_>], at: usize) -> Result<(RuleTree, usize), Fail<Refused>> {
-        read_rule(alloc, t, at)
+        match token_at(t, at) {
+            Some(_) => read_rule(alloc, t, at),
+            None => Err(Fail::Cause(Refused::Syntax)),
+        }
     }
 
     ghost one = { rule_same };
@@ -162,7 +171,6 @@ pub(crate) fn read_rules(
     t: &[Token<'_>],
     at: usize,
 ) -> Result<(Items<RuleTree>, usize), Fail<Refused>>
-    requires { at ≤ length t.now }
     ensures { Gives RuleList Anywhere t.now at result }
 {
     let open = pass_sign(t, at, Symbol::Open)?;

@@ -1,9 +1,8 @@
 use Rattle.std.proofs.Common.{arith}
-use Rattle.std.proofs.lemmas.Result.{err_from_is_err_and}
 use Rattle.mq_ast.specs.declared.levels.TheConstants as level
 use Rattle.mq_ast.specs.Prelude.{AliasE, Stops, alias_none}
 use Rattle.mq_parse_query.specs.Pieces.{SomeName}
-use Rattle.mq_parse_expr.specs.StepLemmas.{exit, here, there, gives_as}
+use Rattle.mq_parse_expr.specs.StepLemmas.{quit, here, there, gives_as}
 use Rattle.mq_parse_query.proofs.PlainLemmas.{alias_behind, alias_bare, alias_no_behind, alias_no_bare, alias_no_end}
 use Rattle.mq_parse_query.proofs.columns.read_alias.Goals as goal
 
@@ -18,8 +17,7 @@ returns-in-Some-name_at c =
 
 pub returns-in_err-settled : goal.returns-in_err-settled
 returns-in_err-settled c =
-    let p = err_from_is_err_and c.from_residual.result c.from_residual.ensures.1 in
-    rw (p.1, p.2) (exit c.in_err-settled.field-0.0 c.in_err-settled.ensures (alias_no_end c.in_default.ensures c.in_default-name_at.ensures))
+    quit AliasE c.args.t.now c.args.at c.from_residual.result c.in_err-settled.field-0.0 c.from_residual.ensures.1 c.in_err-settled.ensures (alias_no_end c.in_default.ensures c.in_default-name_at.ensures)
 
 pub returns : goal.returns
 returns c = (omega arith, c.requires, alias_none, c.in_ok-settled.ensures)

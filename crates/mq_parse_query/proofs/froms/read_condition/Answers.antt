@@ -1,26 +1,22 @@
 use Rattle.std.proofs.Common.{arith}
-use Rattle.std.proofs.lemmas.Result.{err_from_is_err_and}
 use Rattle.mq_ast.specs.declared.levels.TheConstants as level
 use Rattle.mq_ast.specs.Prelude.{ConditionE, Stops, condition}
 use Rattle.mq_parse_expr.specs.Reading.{from}
-use Rattle.mq_parse_expr.specs.StepLemmas.{exit, here, there}
+use Rattle.mq_parse_expr.specs.StepLemmas.{quit, here, there}
 use Rattle.mq_parse_query.proofs.PlainLemmas.{condition_no_on, condition_no_expr, condition_no_end}
 use Rattle.mq_parse_query.proofs.froms.read_condition.Goals as goal
 
 pub returns-in_err-behind : goal.returns-in_err-behind
 returns-in_err-behind c =
-    let p = err_from_is_err_and c.from_residual.result c.from_residual.ensures.1 in
-    rw (p.1, p.2) (exit c.in_err-behind.field-0.0 c.in_err-behind.ensures (condition_no_on))
+    quit ConditionE c.args.t.now c.args.at c.from_residual.result c.in_err-behind.field-0.0 c.from_residual.ensures.1 c.in_err-behind.ensures (condition_no_on)
 
 pub returns-in_err-e : goal.returns-in_err-e
 returns-in_err-e c =
-    let p = err_from_is_err_and c.from_residual-in_err-e.result c.from_residual-in_err-e.ensures.1 in
-    rw (p.1, p.2) (exit c.in_err-e.field-0.0 c.in_err-e.ensures (λ h. here ConditionE (Stops level.ITEM) c.in_ok-behind.ensures.2 (condition_no_expr h)))
+    quit ConditionE c.args.t.now c.args.at c.from_residual-in_err-e.result c.in_err-e.field-0.0 c.from_residual-in_err-e.ensures.1 c.in_err-e.ensures (λ h. here ConditionE (Stops level.ITEM) c.in_ok-behind.ensures.2 (condition_no_expr h))
 
 pub returns-in_err-settled : goal.returns-in_err-settled
 returns-in_err-settled c =
-    let p = err_from_is_err_and c.from_residual-in_err-settled.result c.from_residual-in_err-settled.ensures.1 in
-    rw (p.1, p.2) (exit c.in_err-settled.field-0.0 c.in_err-settled.ensures (λ h. here ConditionE (Stops level.ITEM) c.in_ok-behind.ensures.2 (condition_no_end (from c.args.t.now c.in_ok-e.to) c.in_ok-e.ensures.2 c.in_ok-e.ensures.3 h)))
+    quit ConditionE c.args.t.now c.args.at c.from_residual-in_err-settled.result c.in_err-settled.field-0.0 c.from_residual-in_err-settled.ensures.1 c.in_err-settled.ensures (λ h. here ConditionE (Stops level.ITEM) c.in_ok-behind.ensures.2 (condition_no_end (from c.args.t.now c.in_ok-e.to) c.in_ok-e.ensures.2 c.in_ok-e.ensures.3 h))
 
 pub returns : goal.returns
 returns c =

@@ -1,15 +1,14 @@
 use Rattle.std.proofs.Common.{arith}
-use Rattle.std.proofs.lemmas.Result.{err_from_is_err_and}
 use Rattle.mq_ast.specs.declared.clauses.TheConstants as clause
 use Rattle.mq_ast.specs.Prelude.{ManyOf, Past, RefE}
-use Rattle.mq_parse_expr.specs.StepLemmas.{exit, here, there}
+use Rattle.mq_parse_expr.specs.StepLemmas.{here, there}
 use Rattle.mq_parse_query.proofs.ModelLemmas.{refs_no_ref, refs_no_end}
+use Rattle.mq_parse_query.proofs.ListLemmas.{quit_turn}
 use Rattle.mq_parse_query.proofs.heads.next_ref.Goals as goal
 
 pub returns-in_err-found-in-Some : goal.returns-in_err-found-in-Some
 returns-in_err-found-in-Some c =
-    let p = err_from_is_err_and c.from_residual.result c.from_residual.ensures.1 in
-    rw (p.1, p.2) (exit c.in_err-found-in-Some.field-0.0 c.in_err-found-in-Some.ensures (λ h. here (ManyOf RefE) (Past clause.REFERENCE) c.in-Some.ensures.2 (refs_no_ref h)))
+    quit_turn RefE (Past clause.OPTION) c.args.t.now c.args.at c.from_residual.result c.in_err-found-in-Some.field-0.0 c.from_residual.ensures.1 c.in_err-found-in-Some.ensures (λ h. here (ManyOf RefE) (Past clause.REFERENCE) c.in-Some.ensures.2 (refs_no_ref h))
 
 pub returns-in_ok-found-in-Some : goal.returns-in_ok-found-in-Some
 returns-in_ok-found-in-Some c =
@@ -19,5 +18,4 @@ returns-in_ok-found-in-Some c =
 
 pub returns-in_err-past-in-None : goal.returns-in_err-past-in-None
 returns-in_err-past-in-None c =
-    let p = err_from_is_err_and c.from_residual-in_err-past-in-None.result c.from_residual-in_err-past-in-None.ensures.1 in
-    rw (p.1, p.2) (exit c.in_err-past-in-None.field-0.0 c.in_err-past-in-None.ensures (refs_no_end c.in-None.ensures))
+    quit_turn RefE (Past clause.OPTION) c.args.t.now c.args.at c.from_residual-in_err-past-in-None.result c.in_err-past-in-None.field-0.0 c.from_residual-in_err-past-in-None.ensures.1 c.in_err-past-in-None.ensures (refs_no_end c.in-None.ensures)

@@ -1,9 +1,8 @@
 use Rattle.std.proofs.Common.{true, false, arith}
-use Rattle.std.proofs.lemmas.Result.{err_from_is_err_and}
 use Rattle.mq_ast.specs.declared.clauses.TheConstants as clause
 use Rattle.mq_ast.specs.Prelude.{AutoE, Past, auto_none}
 use Rattle.mq_parse_query.specs.Pieces.{AutoEnd}
-use Rattle.mq_parse_expr.specs.StepLemmas.{exit, here, there, gives_as}
+use Rattle.mq_parse_expr.specs.StepLemmas.{quit, here, there, gives_as}
 use Rattle.mq_parse_query.proofs.HeadLemmas.{auto_no_yes, auto_no_no, yes_auto, no_auto, auto_no_word}
 use Rattle.mq_parse_query.proofs.heads.read_auto.Goals as goal
 
@@ -19,8 +18,7 @@ returns-in-Some-behind_word c =
 
 pub returns-in_err-past-in-None : goal.returns-in_err-past-in-None
 returns-in_err-past-in-None c =
-    let p = err_from_is_err_and c.from_residual.result c.from_residual.ensures.1 in
-    rw (p.1, p.2) (exit c.in_err-past-in-None.field-0.0 c.in_err-past-in-None.ensures (auto_no_word c.in_default.ensures c.in-None.ensures))
+    quit AutoE c.args.t.now c.args.at c.from_residual.result c.in_err-past-in-None.field-0.0 c.from_residual.ensures.1 c.in_err-past-in-None.ensures (auto_no_word c.in_default.ensures c.in-None.ensures)
 
 pub returns-in_ok-past-in-None : goal.returns-in_ok-past-in-None
 returns-in_ok-past-in-None c = (omega arith, c.requires, auto_none, c.in_ok-past-in-None.ensures)

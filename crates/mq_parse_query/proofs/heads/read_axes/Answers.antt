@@ -1,19 +1,16 @@
 use Rattle.std.proofs.Common.{arith}
-use Rattle.std.proofs.lemmas.Result.{err_from_is_err_and}
-use Rattle.mq_ast.specs.Prelude.{axes}
-use Rattle.mq_parse_expr.specs.StepLemmas.{exit}
+use Rattle.mq_ast.specs.Prelude.{AxesE, axes}
+use Rattle.mq_parse_expr.specs.StepLemmas.{quit}
 use Rattle.mq_parse_query.proofs.ModelLemmas.{axes_no_dims, axes_no_cols}
 use Rattle.mq_parse_query.proofs.heads.read_axes.Goals as goal
 
 pub returns-in_err-dims : goal.returns-in_err-dims
 returns-in_err-dims c =
-    let p = err_from_is_err_and c.from_residual.result c.from_residual.ensures.1 in
-    rw (p.1, p.2) (exit c.in_err-dims.field-0.0 c.in_err-dims.ensures (axes_no_dims))
+    quit AxesE c.args.t.now c.args.at c.from_residual.result c.in_err-dims.field-0.0 c.from_residual.ensures.1 c.in_err-dims.ensures (axes_no_dims)
 
 pub returns-in_err-measures : goal.returns-in_err-measures
 returns-in_err-measures c =
-    let p = err_from_is_err_and c.from_residual-in_err-measures.result c.from_residual-in_err-measures.ensures.1 in
-    rw (p.1, p.2) (exit c.in_err-measures.field-0.0 c.in_err-measures.ensures (axes_no_cols c.in_ok-dims.ensures.2))
+    quit AxesE c.args.t.now c.args.at c.from_residual-in_err-measures.result c.in_err-measures.field-0.0 c.from_residual-in_err-measures.ensures.1 c.in_err-measures.ensures (axes_no_cols c.in_ok-dims.ensures.2)
 
 pub returns : goal.returns
 returns c =

@@ -1,31 +1,26 @@
 use Rattle.std.proofs.Common.{◌∷◌, ap, ◌∙◌, arith}
-use Rattle.std.proofs.lemmas.Result.{err_from_is_err_and}
 use Rattle.mq_lexer.specs.declared.keywords.Keyword.TheVariants as word
 use Rattle.mq_ast.specs.Prelude.{Cols, DimsE, Word, dims}
 use Rattle.mq_parse_expr.specs.Reading.{Anywhere}
-use Rattle.mq_parse_expr.specs.StepLemmas.{exit, here, there, till}
+use Rattle.mq_parse_expr.specs.StepLemmas.{quit, here, there, till}
 use Rattle.mq_parse_query.proofs.ModelLemmas.{dims_no_dimension, dims_no_by, dims_no_cols, dims_no_measures}
 use Rattle.mq_parse_query.proofs.heads.read_dims.Goals as goal
 
 pub returns-in_err-dimension : goal.returns-in_err-dimension
 returns-in_err-dimension c =
-    let p = err_from_is_err_and c.from_residual.result c.from_residual.ensures.1 in
-    rw (p.1, p.2) (exit c.in_err-dimension.field-0.0 c.in_err-dimension.ensures (dims_no_dimension))
+    quit DimsE c.args.t.now c.args.at c.from_residual.result c.in_err-dimension.field-0.0 c.from_residual.ensures.1 c.in_err-dimension.ensures (dims_no_dimension)
 
 pub returns-in_err-by : goal.returns-in_err-by
 returns-in_err-by c =
-    let p = err_from_is_err_and c.from_residual-in_err-by.result c.from_residual-in_err-by.ensures.1 in
-    rw (p.1, p.2) (exit c.in_err-by.field-0.0 c.in_err-by.ensures (λ h. here DimsE Anywhere c.in_ok-dimension.ensures.2 (dims_no_by h)))
+    quit DimsE c.args.t.now c.args.at c.from_residual-in_err-by.result c.in_err-by.field-0.0 c.from_residual-in_err-by.ensures.1 c.in_err-by.ensures (λ h. here DimsE Anywhere c.in_ok-dimension.ensures.2 (dims_no_by h))
 
 pub returns-in_err-dims : goal.returns-in_err-dims
 returns-in_err-dims c =
-    let p = err_from_is_err_and c.from_residual-in_err-dims.result c.from_residual-in_err-dims.ensures.1 in
-    rw (p.1, p.2) (exit c.in_err-dims.field-0.0 c.in_err-dims.ensures (λ h. here DimsE Anywhere (c.in_ok-dimension.ensures.2 ∙ ap (λ r. Word word.Dimension ∷ r) c.in_ok-by.ensures.2) (dims_no_cols h)))
+    quit DimsE c.args.t.now c.args.at c.from_residual-in_err-dims.result c.in_err-dims.field-0.0 c.from_residual-in_err-dims.ensures.1 c.in_err-dims.ensures (λ h. here DimsE Anywhere (c.in_ok-dimension.ensures.2 ∙ ap (λ r. Word word.Dimension ∷ r) c.in_ok-by.ensures.2) (dims_no_cols h))
 
 pub returns-in_err-to : goal.returns-in_err-to
 returns-in_err-to c =
-    let p = err_from_is_err_and c.from_residual-in_err-to.result c.from_residual-in_err-to.ensures.1 in
-    rw (p.1, p.2) (exit c.in_err-to.field-0.0 c.in_err-to.ensures (λ h. here DimsE Anywhere (c.in_ok-dimension.ensures.2 ∙ ap (λ r. Word word.Dimension ∷ r) c.in_ok-by.ensures.2) (dims_no_measures c.in_ok-dims.ensures.2 h)))
+    quit DimsE c.args.t.now c.args.at c.from_residual-in_err-to.result c.in_err-to.field-0.0 c.from_residual-in_err-to.ensures.1 c.in_err-to.ensures (λ h. here DimsE Anywhere (c.in_ok-dimension.ensures.2 ∙ ap (λ r. Word word.Dimension ∷ r) c.in_ok-by.ensures.2) (dims_no_measures c.in_ok-dims.ensures.2 h))
 
 pub returns : goal.returns
 returns c =

@@ -1,8 +1,7 @@
 use Rattle.std.proofs.Common.{◌∷◌, ap, arith}
-use Rattle.std.proofs.lemmas.Result.{err_from_is_err_and}
 use Rattle.mq_lexer.specs.declared.keywords.Keyword.TheVariants as word
 use Rattle.mq_ast.specs.Prelude.{HeadE, Opens, Word, head_none, terminal_at}
-use Rattle.mq_parse_expr.specs.StepLemmas.{exit, as_value, fronted}
+use Rattle.mq_parse_expr.specs.StepLemmas.{quit, as_value, fronted}
 use Rattle.mq_parse_query.proofs.HeadLemmas.{heading_no_open}
 use Rattle.mq_parse_query.proofs.heads.read_head.Goals as goal
 
@@ -11,8 +10,7 @@ returns-in-Some c = let s = c.in-Some.ensures in fronted HeadE Opens (λ us. Wor
 
 pub returns-in_err-pass_sign-in-None : goal.returns-in_err-pass_sign-in-None
 returns-in_err-pass_sign-in-None c =
-    let p = err_from_is_err_and c.from_residual.result c.from_residual.ensures.1 in
-    rw (p.1, p.2) (exit c.in_err-pass_sign-in-None.field-0.0 c.in_err-pass_sign-in-None.ensures (heading_no_open c.in-None.ensures))
+    quit HeadE c.args.t.now c.args.at c.from_residual.result c.in_err-pass_sign-in-None.field-0.0 c.from_residual.ensures.1 c.in_err-pass_sign-in-None.ensures (heading_no_open c.in-None.ensures)
 
-pub returns-in_ok-pass_sign-in-None : goal.returns-in_ok-pass_sign-in-None
-returns-in_ok-pass_sign-in-None c = (omega arith, c.requires, as_value HeadE c.head_from.ensures head_none, ap terminal_at c.in_ok-pass_sign-in-None.ensures.2)
+pub returns-in_ok-head_from-in-None : goal.returns-in_ok-head_from-in-None
+returns-in_ok-head_from-in-None c = (omega arith, c.requires, as_value HeadE c.in_ok-head_from-in-None.ensures head_none, ap terminal_at c.in_ok-pass_sign-in-None.ensures.2)

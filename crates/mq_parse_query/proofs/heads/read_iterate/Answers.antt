@@ -1,9 +1,8 @@
 use Rattle.std.proofs.Common.{◌∷◌, arith}
-use Rattle.std.proofs.lemmas.Result.{err_from_is_err_and}
 use Rattle.mq_ast.specs.declared.clauses.TheConstants as clause
 use Rattle.mq_lexer.specs.declared.keywords.Keyword.TheVariants as word
 use Rattle.mq_ast.specs.Prelude.{IterateE, Past, Word, iterate_none}
-use Rattle.mq_parse_expr.specs.StepLemmas.{exit, fronted}
+use Rattle.mq_parse_expr.specs.StepLemmas.{quit, fronted}
 use Rattle.mq_parse_query.proofs.HeadLemmas.{turning_no_word}
 use Rattle.mq_parse_query.proofs.heads.read_iterate.Goals as goal
 
@@ -12,8 +11,7 @@ returns-in-Some c = let s = c.in-Some.ensures in fronted IterateE (Past clause.U
 
 pub returns-in_err-past-in-None : goal.returns-in_err-past-in-None
 returns-in_err-past-in-None c =
-    let p = err_from_is_err_and c.from_residual.result c.from_residual.ensures.1 in
-    rw (p.1, p.2) (exit c.in_err-past-in-None.field-0.0 c.in_err-past-in-None.ensures (turning_no_word c.in-None.ensures))
+    quit IterateE c.args.t.now c.args.at c.from_residual.result c.in_err-past-in-None.field-0.0 c.from_residual.ensures.1 c.in_err-past-in-None.ensures (turning_no_word c.in-None.ensures)
 
 pub returns-in_ok-past-in-None : goal.returns-in_ok-past-in-None
 returns-in_ok-past-in-None c = (omega arith, c.requires, iterate_none, c.in_ok-past-in-None.ensures)

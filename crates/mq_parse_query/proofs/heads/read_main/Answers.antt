@@ -1,22 +1,19 @@
 use Rattle.std.proofs.Common.{◌∷◌, ap, ◌∙◌, arith}
-use Rattle.std.proofs.lemmas.Result.{err_from_is_err_and}
 use Rattle.mq_ast.specs.declared.clauses.TheConstants as clause
 use Rattle.mq_lexer.specs.declared.keywords.Keyword.TheVariants as word
 use Rattle.mq_ast.specs.Prelude.{MainE, Past, Word, main_none, main_some}
-use Rattle.mq_parse_expr.specs.StepLemmas.{exit, here, there}
+use Rattle.mq_parse_expr.specs.StepLemmas.{quit, here, there}
 use Rattle.mq_parse_expr.specs.NameLemmas.{named}
 use Rattle.mq_parse_query.proofs.ModelLemmas.{main_no_name, main_no_end, main_no_word}
 use Rattle.mq_parse_query.proofs.heads.read_main.Goals as goal
 
 pub returns-in_err-name-in-Some : goal.returns-in_err-name-in-Some
 returns-in_err-name-in-Some c =
-    let p = err_from_is_err_and c.from_residual.result c.from_residual.ensures.1 in
-    rw (p.1, p.2) (exit c.in_err-name-in-Some.field-0.0 c.in_err-name-in-Some.ensures (λ h. here MainE (Past clause.MAIN) c.in-Some.ensures.2 (main_no_name h)))
+    quit MainE c.args.t.now c.args.at c.from_residual.result c.in_err-name-in-Some.field-0.0 c.from_residual.ensures.1 c.in_err-name-in-Some.ensures (λ h. here MainE (Past clause.MAIN) c.in-Some.ensures.2 (main_no_name h))
 
 pub returns-in_err-past-in-Some : goal.returns-in_err-past-in-Some
 returns-in_err-past-in-Some c =
-    let p = err_from_is_err_and c.from_residual-in_err-past-in-Some.result c.from_residual-in_err-past-in-Some.ensures.1 in
-    rw (p.1, p.2) (exit c.in_err-past-in-Some.field-0.0 c.in_err-past-in-Some.ensures (λ h. here MainE (Past clause.MAIN) (c.in-Some.ensures.2 ∙ ap (λ r. Word word.Main ∷ r) (named c.in_ok-name-in-Some.ensures.2)) (main_no_end h)))
+    quit MainE c.args.t.now c.args.at c.from_residual-in_err-past-in-Some.result c.in_err-past-in-Some.field-0.0 c.from_residual-in_err-past-in-Some.ensures.1 c.in_err-past-in-Some.ensures (λ h. here MainE (Past clause.MAIN) (c.in-Some.ensures.2 ∙ ap (λ r. Word word.Main ∷ r) (named c.in_ok-name-in-Some.ensures.2)) (main_no_end h))
 
 pub returns-in_ok-past-in-Some : goal.returns-in_ok-past-in-Some
 returns-in_ok-past-in-Some c =
@@ -26,8 +23,7 @@ returns-in_ok-past-in-Some c =
 
 pub returns-in_err-past-in-None : goal.returns-in_err-past-in-None
 returns-in_err-past-in-None c =
-    let p = err_from_is_err_and c.from_residual-in_err-past-in-None.result c.from_residual-in_err-past-in-None.ensures.1 in
-    rw (p.1, p.2) (exit c.in_err-past-in-None.field-0.0 c.in_err-past-in-None.ensures (main_no_word c.in-None.ensures))
+    quit MainE c.args.t.now c.args.at c.from_residual-in_err-past-in-None.result c.in_err-past-in-None.field-0.0 c.from_residual-in_err-past-in-None.ensures.1 c.in_err-past-in-None.ensures (main_no_word c.in-None.ensures)
 
 pub returns-in_ok-past-in-None : goal.returns-in_ok-past-in-None
 returns-in_ok-past-in-None c = (omega arith, c.requires, main_none, c.in_ok-past-in-None.ensures)

@@ -1,32 +1,27 @@
 use Rattle.std.proofs.Common.{◌∷◌, ap, ◌∙◌, arith}
-use Rattle.std.proofs.lemmas.Result.{err_from_is_err_and}
 use Rattle.mq_lexer.specs.declared.keywords.Keyword.TheVariants as word
 use Rattle.mq_ast.specs.Prelude.{Name, RefSourceE, Word, ref_source}
 use Rattle.mq_parse_expr.specs.Reading.{Anywhere}
-use Rattle.mq_parse_expr.specs.StepLemmas.{exit, here, there}
+use Rattle.mq_parse_expr.specs.StepLemmas.{quit, here, there}
 use Rattle.mq_parse_expr.specs.NameLemmas.{named}
 use Rattle.mq_parse_query.proofs.ModelLemmas.{source_no_name, source_no_on, source_no_open, source_no_plain}
 use Rattle.mq_parse_query.proofs.heads.read_source.Goals as goal
 
 pub returns-in_err-name : goal.returns-in_err-name
 returns-in_err-name c =
-    let p = err_from_is_err_and c.from_residual.result c.from_residual.ensures.1 in
-    rw (p.1, p.2) (exit c.in_err-name.field-0.0 c.in_err-name.ensures (source_no_name))
+    quit RefSourceE c.args.t.now c.args.at c.from_residual.result c.in_err-name.field-0.0 c.from_residual.ensures.1 c.in_err-name.ensures (source_no_name)
 
 pub returns-in_err-on : goal.returns-in_err-on
 returns-in_err-on c =
-    let p = err_from_is_err_and c.from_residual-in_err-on.result c.from_residual-in_err-on.ensures.1 in
-    rw (p.1, p.2) (exit c.in_err-on.field-0.0 c.in_err-on.ensures (λ h. here RefSourceE Anywhere (named c.in_ok-name.ensures.2) (source_no_on h)))
+    quit RefSourceE c.args.t.now c.args.at c.from_residual-in_err-on.result c.in_err-on.field-0.0 c.from_residual-in_err-on.ensures.1 c.in_err-on.ensures (λ h. here RefSourceE Anywhere (named c.in_ok-name.ensures.2) (source_no_on h))
 
 pub returns-in_err-open : goal.returns-in_err-open
 returns-in_err-open c =
-    let p = err_from_is_err_and c.from_residual-in_err-open.result c.from_residual-in_err-open.ensures.1 in
-    rw (p.1, p.2) (exit c.in_err-open.field-0.0 c.in_err-open.ensures (λ h. here RefSourceE Anywhere (named c.in_ok-name.ensures.2 ∙ ap (λ r. Name c.in_ok-name.name ∷ r) c.in_ok-on.ensures.2) (source_no_open h)))
+    quit RefSourceE c.args.t.now c.args.at c.from_residual-in_err-open.result c.in_err-open.field-0.0 c.from_residual-in_err-open.ensures.1 c.in_err-open.ensures (λ h. here RefSourceE Anywhere (named c.in_ok-name.ensures.2 ∙ ap (λ r. Name c.in_ok-name.name ∷ r) c.in_ok-on.ensures.2) (source_no_open h))
 
 pub returns-in_err-plain : goal.returns-in_err-plain
 returns-in_err-plain c =
-    let p = err_from_is_err_and c.from_residual-in_err-plain.result c.from_residual-in_err-plain.ensures.1 in
-    rw (p.1, p.2) (exit c.in_err-plain.field-0.0 c.in_err-plain.ensures (λ h. here RefSourceE Anywhere (named c.in_ok-name.ensures.2 ∙ ap (λ r. Name c.in_ok-name.name ∷ r) (c.in_ok-on.ensures.2 ∙ ap (λ r. Word word.On ∷ r) c.in_ok-open.ensures.2)) (source_no_plain h)))
+    quit RefSourceE c.args.t.now c.args.at c.from_residual-in_err-plain.result c.in_err-plain.field-0.0 c.from_residual-in_err-plain.ensures.1 c.in_err-plain.ensures (λ h. here RefSourceE Anywhere (named c.in_ok-name.ensures.2 ∙ ap (λ r. Name c.in_ok-name.name ∷ r) (c.in_ok-on.ensures.2 ∙ ap (λ r. Word word.On ∷ r) c.in_ok-open.ensures.2)) (source_no_plain h))
 
 pub returns : goal.returns
 returns c =

@@ -1,13 +1,11 @@
-use Rattle.std.proofs.lemmas.Result.{err_from_is_err_and}
 use Rattle.mq_ast.specs.Prelude.{AloneE, alone}
-use Rattle.mq_parse_expr.specs.StepLemmas.{exit, as_value}
+use Rattle.mq_parse_expr.specs.StepLemmas.{quit, as_value}
 use Rattle.mq_parse_query.proofs.RuleLemmas.{alone_no_expr}
 use Rattle.mq_parse_query.proofs.left.read_alone.Goals as goal
 
 pub returns-in_err-e : goal.returns-in_err-e
 returns-in_err-e c =
-    let p = err_from_is_err_and c.from_residual.result c.from_residual.ensures.1 in
-    rw (p.1, p.2) (exit c.in_err-e.field-0.0 c.in_err-e.ensures (alone_no_expr))
+    quit AloneE c.args.t.now c.args.at c.from_residual.result c.in_err-e.field-0.0 c.from_residual.ensures.1 c.in_err-e.ensures (alone_no_expr)
 
 pub returns : goal.returns
 returns c =

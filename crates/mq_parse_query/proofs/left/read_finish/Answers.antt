@@ -1,19 +1,16 @@
 use Rattle.std.proofs.Common.{arith}
-use Rattle.std.proofs.lemmas.Result.{err_from_is_err_and}
-use Rattle.mq_ast.specs.Prelude.{finish}
-use Rattle.mq_parse_expr.specs.StepLemmas.{exit}
+use Rattle.mq_ast.specs.Prelude.{FinishE, finish}
+use Rattle.mq_parse_expr.specs.StepLemmas.{quit}
 use Rattle.mq_parse_query.proofs.RuleLemmas.{finish_no_expr, finish_no_down}
 use Rattle.mq_parse_query.proofs.left.read_finish.Goals as goal
 
 pub returns-in_err-e : goal.returns-in_err-e
 returns-in_err-e c =
-    let p = err_from_is_err_and c.from_residual.result c.from_residual.ensures.1 in
-    rw (p.1, p.2) (exit c.in_err-e.field-0.0 c.in_err-e.ensures (finish_no_expr))
+    quit FinishE c.args.t.now c.args.at c.from_residual.result c.in_err-e.field-0.0 c.from_residual.ensures.1 c.in_err-e.ensures (finish_no_expr)
 
 pub returns-in_err-down : goal.returns-in_err-down
 returns-in_err-down c =
-    let p = err_from_is_err_and c.from_residual-in_err-down.result c.from_residual-in_err-down.ensures.1 in
-    rw (p.1, p.2) (exit c.in_err-down.field-0.0 c.in_err-down.ensures (finish_no_down c.in_ok-e.ensures.2 c.in_ok-e.ensures.3))
+    quit FinishE c.args.t.now c.args.at c.from_residual-in_err-down.result c.in_err-down.field-0.0 c.from_residual-in_err-down.ensures.1 c.in_err-down.ensures (finish_no_down c.in_ok-e.ensures.2 c.in_ok-e.ensures.3)
 
 pub returns : goal.returns
 returns c =

@@ -1,19 +1,17 @@
 use Rattle.std.proofs.Common.{arith}
-use Rattle.std.proofs.lemmas.Result.{err_from_is_err_and}
 use Rattle.mq_ast.specs.Prelude.{PlainE}
-use Rattle.mq_parse_expr.specs.StepLemmas.{exit, till}
+use Rattle.mq_parse_expr.specs.StepLemmas.{quit, till}
+use Rattle.mq_parse_query.specs.Pieces.{PlainEnd}
 use Rattle.mq_parse_query.proofs.RuleLemmas.{plain_no_plain, plain_no_close}
 use Rattle.mq_parse_query.proofs.left.read_plain_end.Goals as goal
 
 pub returns-in_err-plain : goal.returns-in_err-plain
 returns-in_err-plain c =
-    let p = err_from_is_err_and c.from_residual.result c.from_residual.ensures.1 in
-    rw (p.1, p.2) (exit c.in_err-plain.field-0.0 c.in_err-plain.ensures (plain_no_plain))
+    quit PlainEnd c.args.t.now c.args.at c.from_residual.result c.in_err-plain.field-0.0 c.from_residual.ensures.1 c.in_err-plain.ensures (plain_no_plain)
 
 pub returns-in_err-to : goal.returns-in_err-to
 returns-in_err-to c =
-    let p = err_from_is_err_and c.from_residual-in_err-to.result c.from_residual-in_err-to.ensures.1 in
-    rw (p.1, p.2) (exit c.in_err-to.field-0.0 c.in_err-to.ensures (plain_no_close c.in_ok-plain.ensures.2 c.in_ok-plain.ensures.3))
+    quit PlainEnd c.args.t.now c.args.at c.from_residual-in_err-to.result c.in_err-to.field-0.0 c.from_residual-in_err-to.ensures.1 c.in_err-to.ensures (plain_no_close c.in_ok-plain.ensures.2 c.in_ok-plain.ensures.3)
 
 pub returns : goal.returns
 returns c =

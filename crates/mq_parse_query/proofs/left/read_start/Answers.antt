@@ -1,25 +1,21 @@
 use Rattle.std.proofs.Common.{arith}
-use Rattle.std.proofs.lemmas.Result.{err_from_is_err_and}
 use Rattle.mq_ast.specs.Prelude.{Expr, StartE, start}
 use Rattle.mq_parse_expr.specs.Reading.{Anywhere}
-use Rattle.mq_parse_expr.specs.StepLemmas.{exit, here, there, till}
+use Rattle.mq_parse_expr.specs.StepLemmas.{quit, here, there, till}
 use Rattle.mq_parse_query.proofs.RuleLemmas.{start_no_from, start_no_expr, start_no_to}
 use Rattle.mq_parse_query.proofs.left.read_start.Goals as goal
 
 pub returns-in_err-behind : goal.returns-in_err-behind
 returns-in_err-behind c =
-    let p = err_from_is_err_and c.from_residual.result c.from_residual.ensures.1 in
-    rw (p.1, p.2) (exit c.in_err-behind.field-0.0 c.in_err-behind.ensures (start_no_from))
+    quit StartE c.args.t.now c.args.at c.from_residual.result c.in_err-behind.field-0.0 c.from_residual.ensures.1 c.in_err-behind.ensures (start_no_from)
 
 pub returns-in_err-e : goal.returns-in_err-e
 returns-in_err-e c =
-    let p = err_from_is_err_and c.from_residual-in_err-e.result c.from_residual-in_err-e.ensures.1 in
-    rw (p.1, p.2) (exit c.in_err-e.field-0.0 c.in_err-e.ensures (λ h. here StartE Anywhere c.in_ok-behind.ensures.2 (start_no_expr h)))
+    quit StartE c.args.t.now c.args.at c.from_residual-in_err-e.result c.in_err-e.field-0.0 c.from_residual-in_err-e.ensures.1 c.in_err-e.ensures (λ h. here StartE Anywhere c.in_ok-behind.ensures.2 (start_no_expr h))
 
 pub returns-in_err-to : goal.returns-in_err-to
 returns-in_err-to c =
-    let p = err_from_is_err_and c.from_residual-in_err-to.result c.from_residual-in_err-to.ensures.1 in
-    rw (p.1, p.2) (exit c.in_err-to.field-0.0 c.in_err-to.ensures (λ h. here StartE Anywhere c.in_ok-behind.ensures.2 (start_no_to c.in_ok-e.ensures.2 c.in_ok-e.ensures.3 h)))
+    quit StartE c.args.t.now c.args.at c.from_residual-in_err-to.result c.in_err-to.field-0.0 c.from_residual-in_err-to.ensures.1 c.in_err-to.ensures (λ h. here StartE Anywhere c.in_ok-behind.ensures.2 (start_no_to c.in_ok-e.ensures.2 c.in_ok-e.ensures.3 h))
 
 pub returns : goal.returns
 returns c =

@@ -1,7 +1,6 @@
 use Rattle.std.proofs.Common.{arith}
-use Rattle.std.proofs.lemmas.Result.{err_from_is_err_and}
 use Rattle.mq_ast.specs.Prelude.{SomeOf, some_of}
-use Rattle.mq_parse_expr.specs.StepLemmas.{exit, as_value}
+use Rattle.mq_parse_expr.specs.StepLemmas.{quit, as_value}
 use Rattle.mq_parse_query.proofs.ListLemmas.{list_no_first, list_no_others}
 use Rattle.mq_parse_query.proofs.lists.read_list.Goals as goal
 
@@ -9,15 +8,13 @@ pub returns-in_err-first : goal.returns-in_err-first
 returns-in_err-first g c =
     let a = g.P.Listed in
     let law = g.met.P.Listed in
-    let p = err_from_is_err_and c.from_residual.result c.from_residual.ensures.1 in
-    rw (p.1, p.2) (exit c.in_err-first.field-0.0 c.in_err-first.ensures (list_no_first a.reads a.stop law.one law.before_comma))
+    quit (SomeOf a.reads) c.args.t.now c.args.at c.from_residual.result c.in_err-first.field-0.0 c.from_residual.ensures.1 c.in_err-first.ensures (list_no_first a.reads a.stop law.one law.before_comma)
 
 pub returns-in_err-all : goal.returns-in_err-all
 returns-in_err-all g c =
     let a = g.P.Listed in
     let law = g.met.P.Listed in
-    let p = err_from_is_err_and c.from_residual-in_err-all.result c.from_residual-in_err-all.ensures.1 in
-    rw (p.1, p.2) (exit c.in_err-all.field-0.0 c.in_err-all.ensures (list_no_others a.reads a.stop law.one law.before_comma c.in_ok-first.ensures.2 c.in_ok-first.ensures.3))
+    quit (SomeOf a.reads) c.args.t.now c.args.at c.from_residual-in_err-all.result c.in_err-all.field-0.0 c.from_residual-in_err-all.ensures.1 c.in_err-all.ensures (list_no_others a.reads a.stop law.one law.before_comma c.in_ok-first.ensures.2 c.in_ok-first.ensures.3)
 
 pub returns : goal.returns
 returns g c =

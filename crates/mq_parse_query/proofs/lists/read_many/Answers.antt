@@ -8,7 +8,7 @@ loop-found-preserved g c =
     let p = g.P.Repeated in
     let law = g.met.P.Repeated in
     let d = turns_some p.reads p.stop p.end c.args.t.now c.loop-found.to c.in_ok-part.field-0 (c.in-Some.part, c.in-Some.next) c.in_ok-part.ensures c.in-Some.is in
-    many_kept p.reads p.stop p.end law.one law.end_stops law.next_stops law.none_at_end c.args.t.now c.args.at c.loop-found.to c.in-Some.next c.loop-found.found c.push.new.self c.in-Some.part c.loop-found.invariant d.2 d.3 d.0 d.1 c.in_ok-push.ensures.ok
+    many_kept p.reads p.stop p.end law.one law.end_stops law.next_stops law.none_at_end c.args.t.now c.args.at c.loop-found.to c.in-Some.next c.loop-found.found c.put.new.found c.in-Some.part c.loop-found.invariant d.2 d.3 d.0 d.1 c.in_ok-put.ensures
 
 pub returns : goal.returns
 returns g c =

@@ -1,6 +1,5 @@
-use Rattle.std.proofs.lemmas.Result.{err_from_is_err_and}
 use Rattle.mq_ast.specs.Prelude.{EndsList, MoreOf, comma, more_comma, more_end}
-use Rattle.mq_parse_expr.specs.StepLemmas.{exit, one_more, cut_short, all_found}
+use Rattle.mq_parse_expr.specs.StepLemmas.{quit, one_more, cut_short, all_found}
 use Rattle.mq_parse_query.proofs.ListLemmas.{list_no_next, list_no_more}
 use Rattle.mq_parse_query.proofs.lists.read_more.Goals as goal
 
@@ -8,8 +7,7 @@ pub returns-in_err-part : goal.returns-in_err-part
 returns-in_err-part g c =
     let a = g.P.Listed in
     let law = g.met.P.Listed in
-    let p = err_from_is_err_and c.from_residual.result c.from_residual.ensures.1 in
-    rw (p.1, p.2) (exit c.in_err-part.field-0.0 c.in_err-part.ensures (λ h. cut_short (MoreOf a.reads) a.stop (EndsList a.stop) c.args.t.now c.args.at c.loop-behind.to c.loop-behind.found c.loop-behind.invariant comma c.in-Some.behind c.in-Some.ensures (list_no_next a.reads a.stop law.one law.before_comma h)))
+    quit (MoreOf a.reads) c.args.t.now c.args.at c.from_residual.result c.in_err-part.field-0.0 c.from_residual.ensures.1 c.in_err-part.ensures (λ h. cut_short (MoreOf a.reads) a.stop (EndsList a.stop) c.args.t.now c.args.at c.loop-behind.to c.loop-behind.found c.loop-behind.invariant comma c.in-Some.behind c.in-Some.ensures (list_no_next a.reads a.stop law.one law.before_comma h))
 
 pub loop-behind-preserved : goal.loop-behind-preserved
 loop-behind-preserved g c =

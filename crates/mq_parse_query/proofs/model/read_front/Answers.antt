@@ -1,24 +1,20 @@
 use Rattle.std.proofs.Common.{arith}
-use Rattle.std.proofs.lemmas.Result.{err_from_is_err_and}
-use Rattle.mq_ast.specs.Prelude.{front}
-use Rattle.mq_parse_expr.specs.StepLemmas.{exit}
+use Rattle.mq_ast.specs.Prelude.{FrontE, front}
+use Rattle.mq_parse_expr.specs.StepLemmas.{quit}
 use Rattle.mq_parse_query.proofs.QueryLemmas.{front_no_opts, front_no_return, front_no_refs}
 use Rattle.mq_parse_query.proofs.model.read_front.Goals as goal
 
 pub returns-in_err-opts : goal.returns-in_err-opts
 returns-in_err-opts c =
-    let p = err_from_is_err_and c.from_residual.result c.from_residual.ensures.1 in
-    rw (p.1, p.2) (exit c.in_err-opts.field-0.0 c.in_err-opts.ensures (front_no_opts))
+    quit FrontE c.args.t.now c.args.at c.from_residual.result c.in_err-opts.field-0.0 c.from_residual.ensures.1 c.in_err-opts.ensures (front_no_opts)
 
 pub returns-in_err-updated : goal.returns-in_err-updated
 returns-in_err-updated c =
-    let p = err_from_is_err_and c.from_residual-in_err-updated.result c.from_residual-in_err-updated.ensures.1 in
-    rw (p.1, p.2) (exit c.in_err-updated.field-0.0 c.in_err-updated.ensures (front_no_return c.in_ok-opts.ensures.2 c.in_ok-opts.ensures.3))
+    quit FrontE c.args.t.now c.args.at c.from_residual-in_err-updated.result c.in_err-updated.field-0.0 c.from_residual-in_err-updated.ensures.1 c.in_err-updated.ensures (front_no_return c.in_ok-opts.ensures.2 c.in_ok-opts.ensures.3)
 
 pub returns-in_err-refs : goal.returns-in_err-refs
 returns-in_err-refs c =
-    let p = err_from_is_err_and c.from_residual-in_err-refs.result c.from_residual-in_err-refs.ensures.1 in
-    rw (p.1, p.2) (exit c.in_err-refs.field-0.0 c.in_err-refs.ensures (front_no_refs c.in_ok-opts.ensures.2 c.in_ok-opts.ensures.3 c.in_ok-updated.ensures.2 c.in_ok-updated.ensures.3))
+    quit FrontE c.args.t.now c.args.at c.from_residual-in_err-refs.result c.in_err-refs.field-0.0 c.from_residual-in_err-refs.ensures.1 c.in_err-refs.ensures (front_no_refs c.in_ok-opts.ensures.2 c.in_ok-opts.ensures.3 c.in_ok-updated.ensures.2 c.in_ok-updated.ensures.3)
 
 pub returns : goal.returns
 returns c =

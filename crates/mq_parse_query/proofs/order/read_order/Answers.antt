@@ -1,34 +1,29 @@
 use Rattle.std.proofs.Common.{◌∷◌, ap, ◌∙◌, arith}
-use Rattle.std.proofs.lemmas.Result.{err_from_is_err_and}
 use Rattle.mq_lexer.specs.declared.keywords.Keyword.TheVariants as word
 use Rattle.mq_ast.specs.Prelude.{EndsOrder, OrderE, Word, order_none, order_some}
 use Rattle.mq_parse_expr.specs.Reading.{from}
-use Rattle.mq_parse_expr.specs.StepLemmas.{exit, here, there, as_value}
+use Rattle.mq_parse_expr.specs.StepLemmas.{quit, here, there, as_value}
 use Rattle.mq_parse_query.proofs.OrderLemmas.{order_no_order, order_no_by, order_no_keys, order_no_end}
 use Rattle.mq_parse_query.proofs.order.read_order.Goals as goal
 
 pub returns-in_err-ends_order : goal.returns-in_err-ends_order
 returns-in_err-ends_order c =
-    let p = err_from_is_err_and c.from_residual.result c.from_residual.ensures.1 in
-    rw (p.1, p.2) (exit c.in_err-ends_order.field-0.0 c.in_err-ends_order.ensures (order_no_order c.in_default.ensures))
+    quit OrderE c.args.t.now c.args.at c.from_residual.result c.in_err-ends_order.field-0.0 c.from_residual.ensures.1 c.in_err-ends_order.ensures (order_no_order c.in_default.ensures)
 
 pub returns-in_default : goal.returns-in_default
 returns-in_default c = (omega arith, c.requires, as_value OrderE c.new.ensures order_none, c.in_ok-ends_order.ensures)
 
 pub returns-in_err-by : goal.returns-in_err-by
 returns-in_err-by c =
-    let p = err_from_is_err_and c.from_residual-in_err-by.result c.from_residual-in_err-by.ensures.1 in
-    rw (p.1, p.2) (exit c.in_err-by.field-0.0 c.in_err-by.ensures (λ h. here OrderE EndsOrder c.in-Some.ensures.2 (order_no_by h)))
+    quit OrderE c.args.t.now c.args.at c.from_residual-in_err-by.result c.in_err-by.field-0.0 c.from_residual-in_err-by.ensures.1 c.in_err-by.ensures (λ h. here OrderE EndsOrder c.in-Some.ensures.2 (order_no_by h))
 
 pub returns-in_err-keys : goal.returns-in_err-keys
 returns-in_err-keys c =
-    let p = err_from_is_err_and c.from_residual-in_err-keys.result c.from_residual-in_err-keys.ensures.1 in
-    rw (p.1, p.2) (exit c.in_err-keys.field-0.0 c.in_err-keys.ensures (λ h. here OrderE EndsOrder (c.in-Some.ensures.2 ∙ ap (λ r. Word word.Order ∷ r) c.in_ok-by.ensures.2) (order_no_keys h)))
+    quit OrderE c.args.t.now c.args.at c.from_residual-in_err-keys.result c.in_err-keys.field-0.0 c.from_residual-in_err-keys.ensures.1 c.in_err-keys.ensures (λ h. here OrderE EndsOrder (c.in-Some.ensures.2 ∙ ap (λ r. Word word.Order ∷ r) c.in_ok-by.ensures.2) (order_no_keys h))
 
 pub returns-in_err-ends_order-2 : goal.returns-in_err-ends_order-2
 returns-in_err-ends_order-2 c =
-    let p = err_from_is_err_and c.from_residual-in_err-ends_order-2.result c.from_residual-in_err-ends_order-2.ensures.1 in
-    rw (p.1, p.2) (exit c.in_err-ends_order-2.field-0.0 c.in_err-ends_order-2.ensures (λ h. here OrderE EndsOrder (c.in-Some.ensures.2 ∙ ap (λ r. Word word.Order ∷ r) c.in_ok-by.ensures.2) (order_no_end (from c.args.t.now c.in_ok-keys.to) c.in_ok-keys.ensures.2 c.in_ok-keys.ensures.3 h)))
+    quit OrderE c.args.t.now c.args.at c.from_residual-in_err-ends_order-2.result c.in_err-ends_order-2.field-0.0 c.from_residual-in_err-ends_order-2.ensures.1 c.in_err-ends_order-2.ensures (λ h. here OrderE EndsOrder (c.in-Some.ensures.2 ∙ ap (λ r. Word word.Order ∷ r) c.in_ok-by.ensures.2) (order_no_end (from c.args.t.now c.in_ok-keys.to) c.in_ok-keys.ensures.2 c.in_ok-keys.ensures.3 h))
 
 pub returns : goal.returns
 returns c =

@@ -1,15 +1,13 @@
 use Rattle.std.proofs.Common.{◌∷◌, ap, ◌∙◌, arith}
-use Rattle.std.proofs.lemmas.Result.{err_from_is_err_and}
 use Rattle.mq_ast.specs.Prelude.{SelE, ShownE, SomeOf, shown_list, shown_star, star}
 use Rattle.mq_parse_expr.specs.Reading.{Anywhere}
-use Rattle.mq_parse_expr.specs.StepLemmas.{exit, here, there, till, as_value}
+use Rattle.mq_parse_expr.specs.StepLemmas.{quit, here, there, till, as_value}
 use Rattle.mq_parse_query.proofs.SourceLemmas.{shown_no_star, shown_no_from}
 use Rattle.mq_parse_query.proofs.plain.read_shown.Goals as goal
 
 pub returns-in_err-to : goal.returns-in_err-to
 returns-in_err-to c =
-    let p = err_from_is_err_and c.from_residual.result c.from_residual.ensures.1 in
-    rw (p.1, p.2) (exit c.in_err-to.field-0.0 c.in_err-to.ensures (λ h. here ShownE Anywhere c.in-Some.ensures.2 (shown_no_star h)))
+    quit ShownE c.args.t.now c.args.at c.from_residual.result c.in_err-to.field-0.0 c.from_residual.ensures.1 c.in_err-to.ensures (λ h. here ShownE Anywhere c.in-Some.ensures.2 (shown_no_star h))
 
 pub returns-in-Some : goal.returns-in-Some
 returns-in-Some c =
@@ -19,8 +17,7 @@ returns-in-Some c =
 
 pub returns-in_err-to-2 : goal.returns-in_err-to-2
 returns-in_err-to-2 c =
-    let p = err_from_is_err_and c.from_residual-in_err-to-2.result c.from_residual-in_err-to-2.ensures.1 in
-    rw (p.1, p.2) (exit c.in_err-to-2.field-0.0 c.in_err-to-2.ensures (shown_no_from c.in_default.ensures c.in_ok-sels.ensures.2 c.in_ok-sels.ensures.3))
+    quit ShownE c.args.t.now c.args.at c.from_residual-in_err-to-2.result c.in_err-to-2.field-0.0 c.from_residual-in_err-to-2.ensures.1 c.in_err-to-2.ensures (shown_no_from c.in_default.ensures c.in_ok-sels.ensures.2 c.in_ok-sels.ensures.3)
 
 pub returns : goal.returns
 returns c =

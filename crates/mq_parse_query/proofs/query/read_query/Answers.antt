@@ -1,19 +1,16 @@
 use Rattle.std.proofs.Common.{arith}
-use Rattle.std.proofs.lemmas.Result.{err_from_is_err_and}
 use Rattle.mq_ast.specs.Prelude.{QueryE, query}
-use Rattle.mq_parse_expr.specs.StepLemmas.{exit, as_value}
+use Rattle.mq_parse_expr.specs.StepLemmas.{quit, as_value}
 use Rattle.mq_parse_query.proofs.QueryLemmas.{query_no_plain, query_no_end}
 use Rattle.mq_parse_query.proofs.query.read_query.Goals as goal
 
 pub returns-in_err-plain : goal.returns-in_err-plain
 returns-in_err-plain c =
-    let p = err_from_is_err_and c.from_residual.result c.from_residual.ensures.1 in
-    rw (p.1, p.2) (exit c.in_err-plain.field-0.0 c.in_err-plain.ensures (query_no_plain))
+    quit QueryE c.args.t.now c.args.at c.from_residual.result c.in_err-plain.field-0.0 c.from_residual.ensures.1 c.in_err-plain.ensures (query_no_plain)
 
 pub returns-in_err-end : goal.returns-in_err-end
 returns-in_err-end c =
-    let p = err_from_is_err_and c.from_residual-in_err-end.result c.from_residual-in_err-end.ensures.1 in
-    rw (p.1, p.2) (exit c.in_err-end.field-0.0 c.in_err-end.ensures (query_no_end c.in_ok-plain.ensures.2 c.in_ok-plain.ensures.3))
+    quit QueryE c.args.t.now c.args.at c.from_residual-in_err-end.result c.in_err-end.field-0.0 c.from_residual-in_err-end.ensures.1 c.in_err-end.ensures (query_no_end c.in_ok-plain.ensures.2 c.in_ok-plain.ensures.3)
 
 pub returns : goal.returns
 returns c =

@@ -1,25 +1,21 @@
 use Rattle.std.proofs.Common.{◌∷◌, ap, ◌∙◌, arith}
-use Rattle.std.proofs.lemmas.Result.{err_from_is_err_and}
-use Rattle.mq_ast.specs.Prelude.{MaybeMode, Name, rule_front}
-use Rattle.mq_parse_expr.specs.StepLemmas.{exit, till}
+use Rattle.mq_ast.specs.Prelude.{RuleFront, MaybeMode, Name, rule_front}
+use Rattle.mq_parse_expr.specs.StepLemmas.{quit, till}
 use Rattle.mq_parse_expr.specs.NameLemmas.{named}
 use Rattle.mq_parse_query.proofs.RuleLemmas.{front_no_mode, front_no_name, front_no_open}
 use Rattle.mq_parse_query.proofs.rules.read_front.Goals as goal
 
 pub returns-in_err-mode : goal.returns-in_err-mode
 returns-in_err-mode c =
-    let p = err_from_is_err_and c.from_residual.result c.from_residual.ensures.1 in
-    rw (p.1, p.2) (exit c.in_err-mode.field-0.0 c.in_err-mode.ensures (front_no_mode))
+    quit RuleFront c.args.t.now c.args.at c.from_residual.result c.in_err-mode.field-0.0 c.from_residual.ensures.1 c.in_err-mode.ensures (front_no_mode)
 
 pub returns-in_err-measure : goal.returns-in_err-measure
 returns-in_err-measure c =
-    let p = err_from_is_err_and c.from_residual-in_err-measure.result c.from_residual-in_err-measure.ensures.1 in
-    rw (p.1, p.2) (exit c.in_err-measure.field-0.0 c.in_err-measure.ensures (front_no_name c.in_ok-mode.ensures.2 c.in_ok-mode.ensures.3))
+    quit RuleFront c.args.t.now c.args.at c.from_residual-in_err-measure.result c.in_err-measure.field-0.0 c.from_residual-in_err-measure.ensures.1 c.in_err-measure.ensures (front_no_name c.in_ok-mode.ensures.2 c.in_ok-mode.ensures.3)
 
 pub returns-in_err-to : goal.returns-in_err-to
 returns-in_err-to c =
-    let p = err_from_is_err_and c.from_residual-in_err-to.result c.from_residual-in_err-to.ensures.1 in
-    rw (p.1, p.2) (exit c.in_err-to.field-0.0 c.in_err-to.ensures (front_no_open c.in_ok-mode.ensures.2 c.in_ok-mode.ensures.3 (named c.in_ok-measure.ensures.2)))
+    quit RuleFront c.args.t.now c.args.at c.from_residual-in_err-to.result c.in_err-to.field-0.0 c.from_residual-in_err-to.ensures.1 c.in_err-to.ensures (front_no_open c.in_ok-mode.ensures.2 c.in_ok-mode.ensures.3 (named c.in_ok-measure.ensures.2))
 
 pub returns : goal.returns
 returns c =

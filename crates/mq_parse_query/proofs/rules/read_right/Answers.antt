@@ -1,24 +1,20 @@
 use Rattle.std.proofs.Common.{arith}
-use Rattle.std.proofs.lemmas.Result.{err_from_is_err_and}
-use Rattle.mq_ast.specs.Prelude.{OrderE, rule_right}
-use Rattle.mq_parse_expr.specs.StepLemmas.{exit, till}
+use Rattle.mq_ast.specs.Prelude.{RuleRight, OrderE, rule_right}
+use Rattle.mq_parse_expr.specs.StepLemmas.{quit, till}
 use Rattle.mq_parse_query.proofs.RuleLemmas.{right_no_order, right_no_equal, right_no_expr}
 use Rattle.mq_parse_query.proofs.rules.read_right.Goals as goal
 
 pub returns-in_err-order : goal.returns-in_err-order
 returns-in_err-order c =
-    let p = err_from_is_err_and c.from_residual.result c.from_residual.ensures.1 in
-    rw (p.1, p.2) (exit c.in_err-order.field-0.0 c.in_err-order.ensures (right_no_order))
+    quit RuleRight c.args.t.now c.args.at c.from_residual.result c.in_err-order.field-0.0 c.from_residual.ensures.1 c.in_err-order.ensures (right_no_order)
 
 pub returns-in_err-behind : goal.returns-in_err-behind
 returns-in_err-behind c =
-    let p = err_from_is_err_and c.from_residual-in_err-behind.result c.from_residual-in_err-behind.ensures.1 in
-    rw (p.1, p.2) (exit c.in_err-behind.field-0.0 c.in_err-behind.ensures (right_no_equal c.in_ok-order.ensures.2 c.in_ok-order.ensures.3))
+    quit RuleRight c.args.t.now c.args.at c.from_residual-in_err-behind.result c.in_err-behind.field-0.0 c.from_residual-in_err-behind.ensures.1 c.in_err-behind.ensures (right_no_equal c.in_ok-order.ensures.2 c.in_ok-order.ensures.3)
 
 pub returns-in_err-right : goal.returns-in_err-right
 returns-in_err-right c =
-    let p = err_from_is_err_and c.from_residual-in_err-right.result c.from_residual-in_err-right.ensures.1 in
-    rw (p.1, p.2) (exit c.in_err-right.field-0.0 c.in_err-right.ensures (right_no_expr c.in_ok-order.ensures.2 c.in_ok-order.ensures.3 c.in_ok-behind.ensures.2))
+    quit RuleRight c.args.t.now c.args.at c.from_residual-in_err-right.result c.in_err-right.field-0.0 c.from_residual-in_err-right.ensures.1 c.in_err-right.ensures (right_no_expr c.in_ok-order.ensures.2 c.in_ok-order.ensures.3 c.in_ok-behind.ensures.2)
 
 pub returns : goal.returns
 returns c =

@@ -1,19 +1,16 @@
 use Rattle.std.proofs.Common.{arith}
-use Rattle.std.proofs.lemmas.Result.{err_from_is_err_and}
 use Rattle.mq_ast.specs.Prelude.{SelE, sel}
-use Rattle.mq_parse_expr.specs.StepLemmas.{exit, as_value}
+use Rattle.mq_parse_expr.specs.StepLemmas.{quit, as_value}
 use Rattle.mq_parse_query.proofs.PlainLemmas.{sel_no_expr, sel_no_alias}
 use Rattle.mq_parse_query.proofs.columns.SelListed.read.Goals as goal
 
 pub returns-in_err-e : goal.returns-in_err-e
 returns-in_err-e c =
-    let p = err_from_is_err_and c.from_residual.result c.from_residual.ensures.1 in
-    rw (p.1, p.2) (exit c.in_err-e.field-0.0 c.in_err-e.ensures (sel_no_expr))
+    quit SelE c.args.t.now c.args.at c.from_residual.result c.in_err-e.field-0.0 c.from_residual.ensures.1 c.in_err-e.ensures (sel_no_expr)
 
 pub returns-in_err-alias : goal.returns-in_err-alias
 returns-in_err-alias c =
-    let p = err_from_is_err_and c.from_residual-in_err-alias.result c.from_residual-in_err-alias.ensures.1 in
-    rw (p.1, p.2) (exit c.in_err-alias.field-0.0 c.in_err-alias.ensures (sel_no_alias c.in_ok-e.ensures.2 c.in_ok-e.ensures.3))
+    quit SelE c.args.t.now c.args.at c.from_residual-in_err-alias.result c.in_err-alias.field-0.0 c.from_residual-in_err-alias.ensures.1 c.in_err-alias.ensures (sel_no_alias c.in_ok-e.ensures.2 c.in_ok-e.ensures.3)
 
 pub returns : goal.returns
 returns c =

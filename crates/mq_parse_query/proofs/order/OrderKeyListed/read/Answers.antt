@@ -1,19 +1,16 @@
 use Rattle.std.proofs.Common.{arith}
-use Rattle.std.proofs.lemmas.Result.{err_from_is_err_and}
 use Rattle.mq_ast.specs.Prelude.{KeyE}
-use Rattle.mq_parse_expr.specs.StepLemmas.{exit, as_value}
+use Rattle.mq_parse_expr.specs.StepLemmas.{quit, as_value}
 use Rattle.mq_parse_query.proofs.OrderLemmas.{key_no_name, key_no_direction, key_whole}
 use Rattle.mq_parse_query.proofs.order.OrderKeyListed.read.Goals as goal
 
 pub returns-in_err-name : goal.returns-in_err-name
 returns-in_err-name c =
-    let p = err_from_is_err_and c.from_residual.result c.from_residual.ensures.1 in
-    rw (p.1, p.2) (exit c.in_err-name.field-0.0 c.in_err-name.ensures (key_no_name))
+    quit KeyE c.args.t.now c.args.at c.from_residual.result c.in_err-name.field-0.0 c.from_residual.ensures.1 c.in_err-name.ensures (key_no_name)
 
 pub returns-in_err-desc : goal.returns-in_err-desc
 returns-in_err-desc c =
-    let p = err_from_is_err_and c.from_residual-in_err-desc.result c.from_residual-in_err-desc.ensures.1 in
-    rw (p.1, p.2) (exit c.in_err-desc.field-0.0 c.in_err-desc.ensures (key_no_direction c.in_ok-name.ensures.2))
+    quit KeyE c.args.t.now c.args.at c.from_residual-in_err-desc.result c.in_err-desc.field-0.0 c.from_residual-in_err-desc.ensures.1 c.in_err-desc.ensures (key_no_direction c.in_ok-name.ensures.2)
 
 pub returns : goal.returns
 returns c =
