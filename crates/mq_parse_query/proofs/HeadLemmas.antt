@@ -1,5 +1,5 @@
 -- Where the pieces of the head of `rules` read nothing, by their parts, and how they are put together.
-use Rattle.std.proofs.Common.{◌≡◌, ◌≤◌, Bool, true, false, List, ◌∷◌, refl, ap, ◌∙◌, arith}
+use Rattle.std.proofs.Common.{◌≤◌, Bool, true, false, List, ◌∷◌, refl, ap, ◌∙◌, arith}
 use Rattle.std.specs.Prelude.{Option, Some}
 use Rattle.mq_values.specs.Number.{Number}
 use Rattle.mq_values.specs.declared.operators.Mode.{Mode}

@@ -1,5 +1,5 @@
 -- Where the pieces of a MODEL clause and of a query read nothing, by their parts, and how they are put together.
-use Rattle.std.proofs.Common.{◌≡◌, ◌≢◌, ℕ, ◌+◌, ◌<◌, ◌≤◌, Bool, true, false, List, ◌∷◌, length, refl, sym, ap, ◌∙◌, subst, arith}
+use Rattle.std.proofs.Common.{◌≡◌, ◌≢◌, ℕ, ◌+◌, ◌<◌, ◌≤◌, Bool, List, ◌∷◌, length, refl, sym, ap, ◌∙◌, subst, arith}
 use Rattle.std.specs.Prelude.{Option, Some, None, MatchOption}
 use Rattle.mq_lexer.specs.declared.sorts.Token.{Token}
 use Rattle.mq_ast.specs.declared.queries.Opt.{Opt}
@@ -14,7 +14,7 @@ use Rattle.mq_ast.specs.declared.terminals.Terminal.TheVariants as terminal
 use Rattle.mq_lexer.specs.declared.keywords.Keyword.TheVariants as word
 use Rattle.mq_ast.specs.Prelude.{AxesE, Cols, DimsE, MainE, ManyOf, Name, NameE, Not, OptE, PartsE, Past, RefE, RefSourceE, ReturnE}
 use Rattle.mq_ast.specs.Prelude.{Tok, WhichE, Word, axes, dims, main_none, main_some, many_end, many_more, name, opener, opt_ignore}
-use Rattle.mq_ast.specs.Prelude.{opt_keep, opt_unique, part, parts_none, parts_some, query, ref_source, reference, return_none}
+use Rattle.mq_ast.specs.Prelude.{opt_keep, opt_unique, part, parts_none, parts_some, ref_source, reference, return_none}
 use Rattle.mq_ast.specs.Prelude.{return_rows, terminal_at, which_all, which_updated}
 use Rattle.mq_ast.specs.Laws.{axes_same, begin, cols_same, cut, dims_same, ref_source_same, refs_past, which_same}
 use Rattle.mq_parse_expr.specs.StepLemmas.{till}

@@ -14,7 +14,7 @@ use Rattle.mq_ast.specs.declared.levels.TheConstants as level
 use Rattle.mq_ast.specs.declared.terminals.Terminal.TheVariants as terminal
 use Rattle.mq_lexer.specs.declared.keywords.Keyword.TheVariants as word
 use Rattle.mq_ast.specs.Prelude.{AxesE, BodyE, EndE, EndsOrder, FrontE, HeadE, MainE, ManyOf, ModelE, Not, Opens, OptE, OrderE, PartsE}
-use Rattle.mq_ast.specs.Prelude.{Past, PlainE, QueryE, RefE, ReturnE, RuleList, Stops, TailE, Tok, Word, body, ending, front, key}
+use Rattle.mq_ast.specs.Prelude.{Past, PlainE, QueryE, RefE, ReturnE, RuleList, Stops, TailE, Tok, Word, body, ending, front}
 use Rattle.mq_ast.specs.Prelude.{loose, model, model_none, model_some, query, tail, terminal_at}
 use Rattle.mq_ast.specs.Laws.{axes_past, begin, end_stop, ends_keys, head_past, head_same, main_same, model_body_past, model_body_same}
 use Rattle.mq_ast.specs.Laws.{model_front_same, model_same, no_order, opts_same, order_no_model, order_same, parts_past, parts_same}

@@ -18,8 +18,8 @@ use Rattle.mq_lexer.specs.declared.keywords.Keyword.TheVariants as word
 use Rattle.mq_ast.specs.Prelude.{AloneE, DownE, EndsList, EndsOrder, Expr, FinishE, ForListE, LitE, MaybeMode, Name, NameE, Not}
 use Rattle.mq_ast.specs.Prelude.{OneTree, OrderE, Past, PlainE, RangeE, RuleE, RuleFront, RuleList, RuleRight, Sign, SomeOf, StartE}
 use Rattle.mq_ast.specs.Prelude.{Stops, Tok, Tuple, Word, alone, close_square, closer, comma, down_no, down_yes, equal, finish}
-use Rattle.mq_ast.specs.Prelude.{for_rows, for_values, key, left_places, left_tuples, lit_any, lit_expr, lit_in, lit_range, loose}
-use Rattle.mq_ast.specs.Prelude.{mode_none, mode_some, mode_update, mode_upsert, mode_upsert_all, name, opener, part, plain, range}
+use Rattle.mq_ast.specs.Prelude.{for_rows, for_values, left_places, left_tuples, lit_any, lit_expr, lit_in, lit_range, loose}
+use Rattle.mq_ast.specs.Prelude.{mode_none, mode_some, mode_update, mode_upsert, mode_upsert_all, name, opener, part, range}
 use Rattle.mq_ast.specs.Prelude.{rule, rule_front, rule_right, rules_none, rules_some, start, terminal_at}
 use Rattle.mq_ast.specs.Laws.{Same, begin, cut, down_stop, expr_no_any, expr_no_for, expr_same, finish_same, left_same, lits_no_tuple}
 use Rattle.mq_ast.specs.Laws.{maybe_mode_same, names_same, order_same, plain_front, plain_same, range_no_in, rows_same, rule_front_same}

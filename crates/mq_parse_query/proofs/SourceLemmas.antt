@@ -10,7 +10,7 @@ use Rattle.mq_ast.specs.declared.levels.TheConstants as level
 use Rattle.mq_ast.specs.declared.terminals.Terminal.TheVariants as terminal
 use Rattle.mq_lexer.specs.declared.keywords.Keyword.TheVariants as word
 use Rattle.mq_ast.specs.Prelude.{EndsList, Expr, FromE, GroupE, Not, PathE, PlainE, SelE, ShownE, SomeOf, SourceE, Stops, Tok, WhereE}
-use Rattle.mq_ast.specs.Prelude.{Word, group_none, group_some, loose, plain, query, shown_list, shown_star, source, star, terminal_at}
+use Rattle.mq_ast.specs.Prelude.{Word, group_none, group_some, loose, plain, shown_list, shown_star, source, star, terminal_at}
 use Rattle.mq_ast.specs.Prelude.{where_none, where_some}
 use Rattle.mq_ast.specs.Laws.{begin, ends_paths, expr_same, from_same, group_stop, paths_same, sels_no_star, sels_same, shown_same}
 use Rattle.mq_ast.specs.Laws.{where_same, where_stop}
