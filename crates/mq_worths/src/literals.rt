@@ -1,0 +1,72 @@
+//! Values as they stand in the table: a number, a text between quotes with no quote in it, or NULL.
+
+use crate::notation::{Read, no_tree};
+use mq_values::{Kind, MAX_SCALE, Num, Text, Value, ValueFault};
+use std::alloc::Global;
+
+pub(crate) fn value(alloc: Global, word: &str) -> Read<Value> {
+    if word == "NULL" {
+        return Ok(Value::Null);
+    }
+    match word.strip_prefix('\'') {
+        Some(rest) => text(alloc, rest),
+        None => number(alloc, word),
+    }
+}
+
+// What stands in front of the quote that closes.
+fn text(alloc: Global, rest: &str) -> Read<Value> {
+    let Some((content, "")) = rest.split_once('\'') else {
+        return no_tree();
+    };
+    match Text::new(alloc, content)? {
+        Some(text) => Ok(Value::Text(text)),
+        None => no_tree(),
+    }
+}
+
+fn number(alloc: Global, word: &str) -> Read<Value> {
+    let Some((whole, part)) = word.split_once('.') else {
+        return number_at(word, 0);
+    };
+    let mut digits = String::new(alloc);
+    digits.push_str(whole)?;
+    digits.push_str(part)?;
+    number_at(digits.as_str(), part.len())
+}
+
+fn number_at(digits: &str, scale: usize) -> Read<Value> {
+    match (digits.parse::<i128>(), u8::try_from(scale)) {
+        (Ok(mant), Ok(scale)) if scale <= MAX_SCALE => Ok(Value::Num(Num::new(mant, scale))),
+        _ => no_tree(),
+    }
+}
+
+/// A kind: INT, TEXT, or DECIMAL with its scale behind a colon.
+pub(crate) fn kind(word: &str) -> Read<Kind> {
+    match word {
+        "INT" => Ok(Kind::Int),
+        "TEXT" => Ok(Kind::Text),
+        _ => match word.split_once(':') {
+            Some(("DECIMAL", digits)) => Ok(Kind::Decimal(scale(digits)?)),
+            _ => no_tree(),
+        },
+    }
+}
+
+pub(crate) fn scale(digits: &str) -> Read<u8> {
+    match digits.parse::<u8>() {
+        Ok(scale) => Ok(scale),
+        Err(_) => no_tree(),
+    }
+}
+
+/// A fault by its name.
+pub(crate) fn fault(name: &str) -> Option<ValueFault> {
+    match name {
+        "OVERFLOW" => Some(ValueFault::Overflow),
+        "DIVIDE_BY_ZERO" => Some(ValueFault::DivideByZero),
+        "TEXT_TOO_LONG" => Some(ValueFault::TextTooLong),
+        _ => None,
+    }
+}
