@@ -7,6 +7,7 @@ use mq_values::Value;
 use std::marker::Model;
 
 /// A row of a table, lent by it. Contracts see it as its values.
+#[derive(Drop)]
 pub struct RowView<'a> {
     row: &'a Row,
 }
