@@ -11,8 +11,8 @@ use mq_ir::{Expr, Test};
 use mq_values::{Boxed, DimTest, Fail, Items, Kind, Value, ValueFault, cast};
 use std::alloc::Global;
 
-/// The value of `e` where `env` is, brought to `kind` at once, or the first fault. A value of another sort than
-/// the kind's is null (docs/MEANING.md, "Left sides").
+/// The value of `e` where `env` is, brought to `kind` at once, or the first fault. A text that is brought to a kind of
+/// numbers is null (docs/MEANING.md, "Left sides").
 pub fn converted<V: Env>(
     alloc: Global,
     e: &Expr,

@@ -1,0 +1,4 @@
+pub mod LeftSides
+pub mod Rows
+pub mod Spreads
+pub mod Steps
