@@ -1,5 +1,5 @@
 // What the contracts do not say: expected rows by hand, and that each call succeeds where memory is left.
-use crate::{Staged, TableSet, Tables};
+use crate::{TableSet, Tables};
 use mq_ir::{BoundSum, Change, Column, Expr, Leaf, Row, Schema, TableDef};
 use mq_values::{
     Boxed, CmpOp, Fail as Failure, Items, Kind, Memory, Num, Refused, Shared, SumOp, Value, Words,
@@ -107,61 +107,92 @@ fn holds(alloc: Global, tables: &Tables, wanted: &[[Option<i128>; 2]]) -> Result
     Ok(true)
 }
 
-/// Why a change was refused.
-fn refusal(staged: Result<Staged, Failure<Refused>>) -> Option<Refused> {
-    match staged {
-        Err(Failure::Cause(refused)) => Some(refused),
-        _ => None,
+/// What came of a change that was staged and, where it was not refused, committed.
+#[derive(Debug, Drop, PartialEq, Eq)]
+enum Came {
+    Counted(u64),
+    Not(Refused),
+}
+
+fn came(alloc: Global, tables: &mut Tables, change: &Change) -> Result<Came, Memory> {
+    match tables.stage(alloc, change) {
+        Ok(staged) => Ok(Came::Counted(tables.commit(staged))),
+        Err(Failure::Cause(refused)) => Ok(Came::Not(refused)),
+        Err(Failure::Memory) => Err(Memory),
     }
+}
+
+/// The old places of the first two rows that a change would make.
+fn places(
+    alloc: Global,
+    tables: &Tables,
+    change: &Change,
+) -> Result<(Option<u32>, Option<u32>), Failure<Refused>> {
+    let staged = tables.stage(alloc, change)?;
+    Ok((staged.from(0), staged.from(1)))
+}
+
+fn inserted(
+    alloc: Global,
+    tables: &mut Tables,
+    rows: &[[Option<i128>; 2]],
+) -> Result<Came, Memory> {
+    let change = insert(alloc, rows)?;
+    came(alloc, tables, &change)
+}
+
+fn repeated(alloc: Global, key: i128) -> Result<Came, Memory> {
+    Ok(Came::Not(Refused::DuplicateKey(row(alloc, &[Some(key)])?)))
 }
 
 #[test]
 fn inserts_are_judged_whole(rt: HostRuntime) -> Result<(), Fail> {
     let alloc = rt.alloc();
     let mut tables = with_table(alloc)?;
-    let change = insert(alloc, &[[Some(1), Some(10)], [Some(2), None]])?;
-    let staged = tables.stage(alloc, &change)?;
-    assert_eq!(rt; staged.table(), "T");
-    assert_eq!(rt; staged.rows().len(), 2);
-    assert_eq!(rt; staged.from(1), None);
-    assert_eq!(rt; tables.commit(staged), 2);
+    let two = [[Some(1), Some(10)], [Some(2), None]];
     assert!(rt;
-        holds(alloc, &tables, &[[Some(1), Some(10)], [Some(2), None]])?,
+        inserted(alloc, &mut tables, &two)? == Came::Counted(2),
         "two rows"
     );
+    assert!(rt; holds(alloc, &tables, &two)?, "two rows stand");
 
-    let twice = insert(alloc, &[[Some(3), None], [Some(1), None]])?;
-    let repeated = Some(Refused::DuplicateKey(row(alloc, &[Some(1)])?));
+    let old = inserted(alloc, &mut tables, &[[Some(3), None], [Some(1), None]])?;
+    assert!(rt; old == repeated(alloc, 1)?, "a key of an old row");
+    let rows = [
+        [Some(4), None],
+        [Some(3), None],
+        [Some(4), None],
+        [Some(3), None],
+    ];
+    let new = inserted(alloc, &mut tables, &rows)?;
     assert!(rt;
-        refusal(tables.stage(alloc, &twice)) == repeated,
-        "a key of an old row"
+        new == repeated(alloc, 4)?,
+        "the first key that repeats a new one"
     );
-    let twice = insert(alloc, &[[Some(4), None], [Some(3), None], [Some(4), None]])?;
-    let repeated = Some(Refused::DuplicateKey(row(alloc, &[Some(4)])?));
+    let null = inserted(alloc, &mut tables, &[[Some(5), None], [None, Some(1)]])?;
     assert!(rt;
-        refusal(tables.stage(alloc, &twice)) == repeated,
-        "a key of a new row"
-    );
-    let null = insert(alloc, &[[None, Some(1)]])?;
-    let not_null = Some(Refused::NotNull(Words::new(alloc, "A")?));
-    assert!(rt;
-        refusal(tables.stage(alloc, &null)) == not_null,
+        null == Came::Not(Refused::NotNull(Words::new(alloc, "A")?)),
         "a null in the key"
     );
     assert!(rt;
-        holds(alloc, &tables, &[[Some(1), Some(10)], [Some(2), None]])?,
-        "as before"
+        holds(alloc, &tables, &two)?,
+        "a refused change alters nothing"
     );
+    Ok(())
+}
 
-    let third = tables.stage(alloc, &insert(alloc, &[[Some(3), Some(10)]])?)?;
-    assert_eq!(rt; (third.from(1), third.from(2)), (Some(1), None));
-    assert_eq!(rt; tables.commit(third), 1);
-    let Some(view) = tables.row("T", 2) else {
-        return Err(Fail::new("no third row"));
+#[test]
+fn rows_are_lent(rt: HostRuntime) -> Result<(), Fail> {
+    let alloc = rt.alloc();
+    let mut tables = with_table(alloc)?;
+    let _two = inserted(alloc, &mut tables, &[[Some(1), Some(10)], [Some(2), None]])?;
+    let ten = match tables.row("T", 0) {
+        Some(view) => *view.value(1) == number(10),
+        None => false,
     };
-    assert!(rt; *view.value(1) == number(10), "a value of the third row");
+    assert!(rt; ten, "a value of the first row");
     assert!(rt;
-        tables.row("T", 3).is_none() && tables.row("U", 0).is_none(),
+        tables.row("T", 2).is_none() && tables.row("U", 0).is_none(),
         "no row"
     );
     tables.remove("T");
@@ -169,107 +200,140 @@ fn inserts_are_judged_whole(rt: HostRuntime) -> Result<(), Fail> {
     Ok(())
 }
 
+/// UPDATE T SET the column = e.
+fn updated(
+    alloc: Global,
+    tables: &mut Tables,
+    column: u32,
+    e: Expr,
+    filter: Option<Expr>,
+) -> Result<Came, Memory> {
+    let change = update(alloc, column, e, filter)?;
+    came(alloc, tables, &change)
+}
+
 #[test]
 fn updates_are_judged_on_the_result(rt: HostRuntime) -> Result<(), Fail> {
     let alloc = rt.alloc();
     let mut tables = with_table(alloc)?;
-    let change = insert(alloc, &[[Some(1), Some(10)], [Some(2), Some(20)]])?;
-    let staged = tables.stage(alloc, &change)?;
-    tables.commit(staged);
-
-    let swap = update(alloc, 0, three_less(alloc)?, None)?;
-    let staged = tables.stage(alloc, &swap)?;
-    assert_eq!(rt; staged.from(0), None);
-    assert_eq!(rt; tables.commit(staged), 2);
+    let _two = inserted(
+        alloc,
+        &mut tables,
+        &[[Some(1), Some(10)], [Some(2), Some(20)]],
+    )?;
+    let swapped = updated(alloc, &mut tables, 0, three_less(alloc)?, None)?;
+    assert!(rt; swapped == Came::Counted(2), "both rows");
     assert!(rt;
         holds(alloc, &tables, &[[Some(2), Some(10)], [Some(1), Some(20)]])?,
-        "swapped"
+        "swapped keys"
     );
-
-    let same = update(alloc, 0, Expr::Lit(number(7)), None)?;
-    let repeated = Some(Refused::DuplicateKey(row(alloc, &[Some(7)])?));
-    assert!(rt;
-        refusal(tables.stage(alloc, &same)) == repeated,
-        "two keys made one"
-    );
-
-    let some = update(alloc, 1, Expr::Lit(Value::Null), Some(b_is(alloc, 20)?))?;
-    let staged = tables.stage(alloc, &some)?;
-    assert_eq!(rt; (staged.from(0), staged.from(1)), (Some(0), None));
-    assert_eq!(rt; tables.commit(staged), 1);
+    let one = updated(alloc, &mut tables, 0, Expr::Lit(number(7)), None)?;
+    assert!(rt; one == repeated(alloc, 7)?, "two keys made one");
+    let some = updated(
+        alloc,
+        &mut tables,
+        1,
+        Expr::Lit(Value::Null),
+        Some(b_is(alloc, 20)?),
+    )?;
+    assert!(rt; some == Came::Counted(1), "one row");
     assert!(rt;
         holds(alloc, &tables, &[[Some(2), Some(10)], [Some(1), None]])?,
         "one updated"
     );
-
     Ok(())
+}
+
+/// DELETE FROM T, where B = n or of all rows.
+fn delete(alloc: Global, n: Option<i128>) -> Result<Change, Memory> {
+    let filter = match n {
+        Some(n) => Some(b_is(alloc, n)?),
+        None => None,
+    };
+    Ok(Change::Delete {
+        table: Words::new(alloc, "T")?,
+        filter,
+    })
+}
+
+fn deleted(alloc: Global, tables: &mut Tables, n: Option<i128>) -> Result<Came, Memory> {
+    let change = delete(alloc, n)?;
+    came(alloc, tables, &change)
+}
+
+fn places_without(
+    alloc: Global,
+    tables: &Tables,
+    n: i128,
+) -> Result<(Option<u32>, Option<u32>), Failure<Refused>> {
+    let change = delete(alloc, Some(n))?;
+    places(alloc, tables, &change)
 }
 
 #[test]
 fn deletes_pass_over_the_unknown(rt: HostRuntime) -> Result<(), Fail> {
     let alloc = rt.alloc();
     let mut tables = with_table(alloc)?;
-    let change = insert(
-        alloc,
-        &[[Some(1), None], [Some(2), Some(5)], [Some(3), Some(6)]],
-    )?;
-    let staged = tables.stage(alloc, &change)?;
-    tables.commit(staged);
-    let some = Change::Delete {
-        table: Words::new(alloc, "T")?,
-        filter: Some(b_is(alloc, 5)?),
+    let rows = [[Some(1), None], [Some(2), Some(5)], [Some(3), Some(6)]];
+    let _three = inserted(alloc, &mut tables, &rows)?;
+    let Ok(places) = places_without(alloc, &tables, 5) else {
+        return Err(Fail::new("no places"));
     };
-    let staged = tables.stage(alloc, &some)?;
-    assert_eq!(rt; (staged.from(0), staged.from(1)), (Some(0), Some(2)));
-    assert_eq!(rt; tables.commit(staged), 1);
+    assert_eq!(rt; places, (Some(0), Some(2)));
+    assert!(rt;
+        deleted(alloc, &mut tables, Some(5))? == Came::Counted(1),
+        "one row"
+    );
     assert!(rt;
         holds(alloc, &tables, &[[Some(1), None], [Some(3), Some(6)]])?,
         "two are left"
     );
-    let all = Change::Delete {
-        table: Words::new(alloc, "T")?,
-        filter: None,
-    };
-    let staged = tables.stage(alloc, &all)?;
-    assert_eq!(rt; tables.commit(staged), 2);
+    assert!(rt;
+        deleted(alloc, &mut tables, None)? == Came::Counted(2),
+        "the others"
+    );
     assert!(rt; holds(alloc, &tables, &[])?, "none is left");
     Ok(())
 }
 
-/// So many rows, all of them one row.
-fn append(alloc: Global, row: &Row, count: u32) -> Result<Change, Memory> {
+/// So many rows of W, all of them one row.
+fn appended(alloc: Global, tables: &mut Tables, row: &Row, count: u32) -> Result<Came, Memory> {
     let mut rows = Items::new(alloc);
     for _ in 0..count {
         rows.push(row.copy()?)?;
     }
-    Ok(Change::Append {
+    let change = Change::Append {
         table: Words::new(alloc, "W")?,
         rows,
-    })
+    };
+    came(alloc, tables, &change)
 }
 
-/// W has eight columns and no key: the limits on rows and on values lie at the same row.
-#[test]
-fn the_limits_on_rows_and_values(rt: HostRuntime) -> Result<(), Fail> {
-    let alloc = rt.alloc();
-    let mut tables = with_table(alloc)?;
+/// Adds W, which has eight columns and no key.
+fn add_wide(alloc: Global, tables: &mut Tables) -> Result<(), Memory> {
     let mut cols = Items::new(alloc);
     for name in ["A", "B", "C", "D", "E", "F", "G", "H"] {
         cols.push(column(alloc, name, false)?)?;
     }
+    let key = Items::new(alloc);
     tables.add(TableDef {
         name: Words::new(alloc, "W")?,
-        schema: Schema {
-            cols,
-            key: Items::new(alloc),
-        },
-    })?;
+        schema: Schema { cols, key },
+    })
+}
+
+/// The limits on rows and on values lie at the same row of W.
+#[test]
+fn the_limits_on_rows_and_values(rt: HostRuntime) -> Result<(), Fail> {
+    let alloc = rt.alloc();
+    let mut tables = with_table(alloc)?;
+    add_wide(alloc, &mut tables)?;
     let wide = row(alloc, &[Some(1), None, None, None, None, None, None, None])?;
-    let staged = tables.stage(alloc, &append(alloc, &wide, 500_000)?)?;
-    assert_eq!(rt; tables.commit(staged), 500_000);
-    let rows = refusal(tables.stage(alloc, &append(alloc, &wide, 1)?));
-    assert!(rt; rows == Some(Refused::Limit(3)), "one row more");
-    let values = refusal(tables.stage(alloc, &insert(alloc, &[[Some(1), None]])?));
-    assert!(rt; values == Some(Refused::Limit(4)), "one value more");
+    let all = appended(alloc, &mut tables, &wide, 500_000)?;
+    assert!(rt; all == Came::Counted(500_000), "as many as there may be");
+    let row = appended(alloc, &mut tables, &wide, 1)?;
+    assert!(rt; row == Came::Not(Refused::Limit(3)), "one row more");
+    let value = inserted(alloc, &mut tables, &[[Some(1), None]])?;
+    assert!(rt; value == Came::Not(Refused::Limit(4)), "one value more");
     Ok(())
 }
