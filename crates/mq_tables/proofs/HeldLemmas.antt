@@ -168,9 +168,9 @@ rows_put name rows ts i t h e r =
 
 -- rows that stand are put into their table
 pub committed : (ts before after : Tables) (s : Staged) (name : List ℕ) (rows : List Tuple) → ts ≡ before → name ≡ s.table → rows ≡ s.rows → StandsOn before s → HaveOwnNames ts → RowsFit ts
-    → after ≡ with_rows ts name rows → HaveOwnNames after × RowsFit after
+    → after ≡ with_rows ts name rows → RowsFit after
 committed ts before after s name rows e n r stands own fit a =
     let t = stands.table in
     let there : table_at ts name ≡ Some t = ap (table_at ts) n ∙ ap (λ (z : Tables). table_at z s.table) e ∙ stands.is_there in
     let rows_fit : list_all (is_row_of t.schema) rows ≡ true = ap (list_all (is_row_of t.schema)) r ∙ stands.fit in
-    subst (λ (z : Tables). HaveOwnNames z × RowsFit z) (sym a) (names_changed name rows ts own, fits_changed name rows ts t own fit there rows_fit)
+    subst RowsFit (sym a) (fits_changed name rows ts t own fit there rows_fit)

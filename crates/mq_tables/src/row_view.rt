@@ -27,6 +27,13 @@ impl<'a> RowView<'a> {
         RowView { row }
     }
 
+    /// How many columns the row has.
+    pub fn width(&self) -> usize
+        ensures { result ≡ length self.now }
+    {
+        self.row.as_slice().len()
+    }
+
     /// The value of a column that is there, counted from 0. It is the table's own, and no copy.
     pub fn value(&self, column: u32) -> &'a Value
         requires { column < length self.now }

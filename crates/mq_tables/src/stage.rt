@@ -2,6 +2,7 @@
 ghost use Rattle.std.specs.Prelude.{◌≡◌, length, IfOk};
 ghost use Rattle.mq_values.specs.Answers.{Gives};
 ghost use Rattle.mq_ir.specs.Changes as spec;
+ghost use Rattle.mq_tables.specs.Held.{RowsFit};
 ghost use Rattle.mq_tables.specs.Staging as staging;
 
 use crate::drafts::{Draft, drafted};
@@ -20,7 +21,7 @@ impl Tables {
     /// of a change that fits its table stands on these tables.
     pub fn stage(&self, alloc: Global, c: &Change) -> Result<Staged, Fail<Refused>>
         ensures exact { Gives result (staging.staging self.now c.now) }
-        ensures stands { staging.ChangeFits self.now c.now → IfOk result (staging.StandsOn self.now) }
+        ensures stands { RowsFit self.now → staging.ChangeFits self.now c.now → IfOk result (staging.StandsOn self.now) }
     {
         let name = table_of(c);
         let Some(table) = self.table(name.as_str()) else {

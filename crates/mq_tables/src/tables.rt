@@ -39,13 +39,13 @@ pub struct Tables {
 
 impl Model for Tables {
     ghost use Rattle.mq_ir.specs.Tables.{Tables as Seen};
-    ghost use Rattle.mq_tables.specs.Held.{HaveOwnNames, RowsFit};
+    ghost use Rattle.mq_tables.specs.Held.{HaveOwnNames};
 
     ghost Value = { Seen };
 
     ghost view = { λ t. t.tables.items };
 
-    ghost invariant = { λ t. HaveOwnNames t.tables.items × RowsFit t.tables.items };
+    ghost invariant = { λ t. HaveOwnNames t.tables.items };
 }
 
 impl TableSet for Tables {
@@ -74,10 +74,9 @@ impl Tables {
         self.tables.iter().find(|table| name == table.name())
     }
 
-    /// All tables, in order of creation. Each row is a row of its table.
+    /// All tables, in order of creation.
     pub fn as_slice(&self) -> &[Table]
-        ensures all { result.now ≡ self.now }
-        ensures fit { RowsFit self.now }
+        ensures { result.now ≡ self.now }
     {
         self.tables.as_slice()
     }
@@ -87,6 +86,7 @@ impl Tables {
         requires { table_at self.old t.name ≡ None }
         ensures ok { OnOk result (self.new ≡ self.old ++ record { name = t.name; schema = t.schema; rows = [] } ∷ []) }
         ensures err { OnErr result (self.new ≡ self.old) }
+        ensures fit { RowsFit self.old → RowsFit self.new }
     {
         self.tables.push(Table::new(t))?;
         Ok(())
@@ -94,7 +94,8 @@ impl Tables {
 
     /// Removes the table of this name. It takes no memory.
     pub fn remove(&mut self, name: &str)
-        ensures { self.new ≡ filter (λ t. not (is_name name.now t.name)) self.old }
+        ensures others { self.new ≡ filter (λ t. not (is_name name.now t.name)) self.old }
+        ensures fit { RowsFit self.old → RowsFit self.new }
     {
         keep_others(&mut self.tables, name);
     }
@@ -109,11 +110,12 @@ impl Tables {
         Some(RowView::new(row))
     }
 
-    /// Puts the rows of a staged change into its table, and answers how many rows are counted. It takes no memory.
+    /// Puts the rows of a staged change into its table, and answers how many rows are counted. Where the change
+    /// stands on these tables, rows that fit their tables still do. It takes no memory.
     pub fn commit(&mut self, s: Staged) -> u64
-        requires { StandsOn self.old s }
         ensures rows { self.new ≡ with_rows self.old s.table s.rows }
         ensures counted { result ≡ s.counted }
+        ensures fit { StandsOn self.old s → RowsFit self.old → RowsFit self.new }
     {
         let Staged {
             table,

@@ -187,7 +187,7 @@ fn rows_are_lent(rt: HostRuntime) -> Result<(), Fail> {
     let mut tables = with_table(alloc)?;
     let _two = inserted(alloc, &mut tables, &[[Some(1), Some(10)], [Some(2), None]])?;
     let ten = match tables.row("T", 0) {
-        Some(view) => *view.value(1) == number(10),
+        Some(view) => view.width() == 2 && *view.value(1) == number(10),
         None => false,
     };
     assert!(rt; ten, "a value of the first row");
@@ -316,8 +316,12 @@ fn add_wide(alloc: Global, tables: &mut Tables) -> Result<(), Memory> {
         cols.push(column(alloc, name, false)?)?;
     }
     let key = Items::new(alloc);
+    let name = Words::new(alloc, "W")?;
+    if tables.table(name.as_str()).is_some() {
+        return Ok(());
+    }
     tables.add(TableDef {
-        name: Words::new(alloc, "W")?,
+        name,
         schema: Schema { cols, key },
     })
 }
