@@ -1,0 +1,96 @@
+-- The FORs of a left side: what they go through, and whether it goes with the dimensions that they stand for.
+use Rattle.std.specs.Prelude.{ℕ, ◌+◌, List, [], ◌∷◌, ◌++◌, length, map, zip, Bool, true, false, not, ◌&&◌, ◌||◌, ◌==◌, Option, Some, None, Result, Ok, Err, position}
+use Rattle.std.specs.List.{list_all}
+use Rattle.std.specs.Option.{ok_or, option_and_then, option_map, option_map_or}
+use Rattle.mq_lexer.specs.Words.{folded}
+use Rattle.mq_values.specs.declared.faults.Refused.{Refused}
+use Rattle.mq_ast.specs.declared.expressions.E.{E}
+use Rattle.mq_ast.specs.declared.queries.ForList.{ForList}
+use Rattle.mq_ast.specs.declared.queries.ForList.TheVariants as for_list
+use Rattle.mq_ast.specs.declared.queries.LeftPlace.{LeftPlace}
+use Rattle.mq_ast.specs.declared.queries.LeftPlace.TheVariants as place
+use Rattle.mq_ast.specs.declared.queries.LeftTree.{LeftTree}
+use Rattle.mq_ast.specs.declared.queries.LeftTree.TheVariants as tree
+use Rattle.mq_ir.specs.declared.catalog.Catalog.{Catalog}
+use Rattle.mq_ir.specs.declared.expression.Expr.{Expr}
+use Rattle.mq_ir.specs.declared.expression.Expr.TheOpen as layer
+use Rattle.mq_ir.specs.declared.expression.Test.{Test, out-Test}
+use Rattle.mq_ir.specs.declared.expression.Test.TheVariants as test
+use Rattle.mq_ir.specs.declared.query.Left.TheVariants as left
+use Rattle.mq_ir.specs.declared.query.LeftItem.{LeftItem}
+use Rattle.mq_ir.specs.declared.query.LeftItem.TheVariants as item
+use Rattle.mq_ir.specs.declared.query.ListSource.TheVariants as source
+use Rattle.mq_ir.specs.declared.query.PlainPart.{PlainPart}
+use Rattle.mq_ir.specs.Fits.{numbers_each_once}
+use Rattle.mq_ir.specs.Results.{◌>>=◌, each}
+use Rattle.mq_ir.specs.Tables.{is_name}
+use Rattle.mq_binder.specs.declared.found.LeftFound.{LeftFound}
+use Rattle.mq_binder.specs.declared.found.LeftItemFound.{LeftItemFound}
+use Rattle.mq_binder.specs.declared.found.ListFound.{ListFound}
+use Rattle.mq_binder.specs.declared.found.PlainFound.{PlainFound}
+use Rattle.mq_binder.specs.declared.kinds.ExprKind.{ExprKind}
+use Rattle.mq_binder.specs.declared.kinds.ExprKind.TheVariants as kind
+use Rattle.mq_binder.specs.declared.misuse_numbers.TheConstants.{MISUSE_OF_FOR, MISUSE_OF_PLACE_COUNT}
+use Rattle.mq_binder.specs.declared.scopes.Found.{Found}
+use Rattle.mq_binder.specs.declared.scopes.Named.{Named}
+use Rattle.mq_binder.specs.declared.scopes.Owner.TheVariants as owner
+use Rattle.mq_binder.specs.declared.scopes.Part.TheVariants as part
+use Rattle.mq_binder.specs.declared.scopes.Printed.{Printed}
+use Rattle.mq_binder.specs.declared.scopes.Scope.{Scope}
+use Rattle.mq_binder.specs.ExpressionWalk.{bound}
+use Rattle.mq_binder.specs.Forms.{is_condition}
+use Rattle.mq_binder.specs.Kinds.{is_index}
+use Rattle.mq_binder.specs.Misuses.{other_place_count}
+use Rattle.mq_binder.specs.Names.{Name}
+use Rattle.mq_binder.specs.OperatorNodes.{exprs_of, kinds_of}
+use Rattle.mq_binder.specs.PlaceTests.{fits_dimension, place_of}
+use Rattle.mq_binder.specs.PlainWalk.{plain_bound}
+use Rattle.mq_binder.specs.Positions.{bracketed, dimension_at, place_kind, standing}
+use Rattle.mq_binder.specs.Refusals.{kind_mismatch, misuse, refused_where}
+
+-- What a FOR goes through. Its subquery is a query of its own, and is put behind the subqueries of the FORs before it.
+abbrev pub value_row : Scope → List E → Result (List Found) Refused
+value_row scope = each (λ (e : E). bound scope e (standing part.Left))
+
+abbrev pub values_found : List PlainPart → List (List Found) → ListFound
+values_found lists rows = record { source = source.Values (map exprs_of rows); kinds = map kinds_of rows; lists = lists }
+
+abbrev pub rows_found : List PlainPart → PlainFound → ListFound
+rows_found lists p = record {
+  source = source.Rows (length lists);
+  kinds = map (λ (c : Printed). c.kind) p.printed ∷ [];
+  lists = lists ++ p.part ∷ [];
+}
+
+abbrev pub list_bound : Catalog → Scope → List PlainPart → ForList → Result ListFound Refused
+list_bound catalog scope lists (for_list.Values rows) = each (value_row scope) rows >>= (λ found. Ok (values_found lists found))
+list_bound catalog scope lists (for_list.Rows p) = plain_bound catalog p >>= (λ found. Ok (rows_found lists found))
+
+-- values against the dimensions that they are for, as far as they pair
+abbrev pub pairs_fit : List (Option ExprKind) → List ExprKind → Bool
+pairs_fit dims kinds = list_all (λ (p : Option ExprKind × ExprKind). fits_dimension p.0 p.1) (zip dims kinds)
+
+abbrev pub has_width : ℕ → List ExprKind → Bool
+has_width n kinds = length kinds == n
+
+-- A FOR: the kinds of its values, then whether it names what it stands for, and the width of its values.
+abbrev pub for_checked : List (Option ExprKind) → Bool → ListFound → Result ListFound Refused
+for_checked dims is_named found =
+    refused_where (not (list_all (pairs_fit dims) found.kinds)) kind_mismatch (
+    refused_where (not (is_named && list_all (has_width (length dims)) found.kinds)) (misuse MISUSE_OF_FOR) (Ok found))
+
+-- a place of one FOR names the dimension of its place
+abbrev pub names_place : Scope → ℕ → Name → Bool
+names_place scope n name = option_map_or (λ (d : Named). is_name (folded name) d.name) (dimension_at scope owner.Main n) false
+
+-- FOR .. FROM wants a dimension of numbers
+abbrev pub steps_fit : Option ExprKind → List ExprKind → Bool
+steps_fit None kinds = true
+steps_fit (Some (kind.Number s)) kinds = list_all (is_index (kind.Number s)) kinds
+steps_fit (Some _) kinds = false
+
+abbrev pub steps_checked : Scope → ℕ → Name → Bool → Found → Found → Found → Result LeftItem Refused
+steps_checked scope n dim down start stop step =
+    refused_where (not (steps_fit (place_kind scope owner.Main n) (start.kind ∷ stop.kind ∷ step.kind ∷ []))) kind_mismatch (
+    refused_where (not (names_place scope n dim)) (misuse MISUSE_OF_FOR) (
+    Ok (item.Steps start.e stop.e step.e down)))

@@ -1,0 +1,84 @@
+-- The lists of a model or a reference: partition columns, dimensions and measures, and its options.
+use Rattle.std.specs.Prelude.{ℕ, List, [], ◌∷◌, ◌++◌, length, map, filter, Bool, true, false, ◌||◌, nat_lt, if◌then◌else◌, Option, Some, None, Result, Ok, Err}
+use Rattle.std.specs.List.{list_any}
+use Rattle.std.specs.Option.{ok_or}
+use Rattle.mq_values.specs.declared.faults.Refused.{Refused}
+use Rattle.mq_values.specs.declared.value.Kind.{Kind}
+use Rattle.mq_ast.specs.declared.queries.Opt.{Opt}
+use Rattle.mq_ast.specs.declared.queries.Opt.TheVariants as opt
+use Rattle.mq_ast.specs.declared.queries.Sel.{Sel}
+use Rattle.mq_ir.specs.declared.expression.Expr.{Expr}
+use Rattle.mq_ir.specs.Results.{◌>>=◌}
+use Rattle.mq_ir.specs.Tables.{is_name}
+use Rattle.mq_binder.specs.declared.found.ListItem.{ListItem}
+use Rattle.mq_binder.specs.declared.misuse_numbers.TheConstants.{MISUSE_OF_ITEM_WITHOUT_NAME, MISUSE_OF_OPTIONS}
+use Rattle.mq_binder.specs.declared.scopes.Found.{Found}
+use Rattle.mq_binder.specs.declared.scopes.Named.{Named}
+use Rattle.mq_binder.specs.declared.scopes.Position.{Position}
+use Rattle.mq_binder.specs.declared.scopes.Scope.{Scope}
+use Rattle.mq_binder.specs.ExpressionWalk.{bound}
+use Rattle.mq_binder.specs.Forms.{name_of}
+use Rattle.mq_binder.specs.Kinds.{column_kind}
+use Rattle.mq_binder.specs.Names.{Name}
+use Rattle.mq_binder.specs.Steps.{each_behind}
+use Rattle.mq_binder.specs.Refusals.{duplicate_name, kind_mismatch, limit, misuse, refused_where}
+
+-- an item has a kind
+abbrev pub item_kind : Found → Result Kind Refused
+item_kind f = ok_or (column_kind f.kind) kind_mismatch
+
+-- An item of a list, behind items of these names: its name is new, it has a kind, and it has a name.
+abbrev pub item_checked : List Name → Option Name → Found → Result ListItem Refused
+item_checked taken None f = item_kind f >>= (λ k. Err (misuse MISUSE_OF_ITEM_WITHOUT_NAME))
+item_checked taken (Some name) f =
+    refused_where (list_any (is_name name) taken) (duplicate_name name) (
+    item_kind f >>= (λ k. Ok (record { e = f.e; column = record { name = name; kind = f.kind }; kind = k })))
+
+abbrev pub list_item : Scope → Position → List Name → Sel → Result ListItem Refused
+list_item scope at taken sel = bound scope sel.e at >>= item_checked taken (name_of sel)
+
+abbrev pub listed_name : ListItem → Name
+listed_name item = item.column.name
+
+abbrev pub items_listed : Scope → Position → List Name → List Sel → Result (List ListItem) Refused
+items_listed scope at = each_behind (list_item scope at) listed_name
+
+-- a list with the limit of its length
+abbrev pub limited : {A : Type 0} → ℕ → ℕ → List A → Result (List A) Refused
+limited most number items = refused_where (nat_lt most (length items)) (limit number) (Ok items)
+
+-- what a list gives
+abbrev pub list_exprs : List ListItem → List Expr
+list_exprs = map (λ (i : ListItem). i.e)
+
+abbrev pub list_columns : List ListItem → List Named
+list_columns = map (λ (i : ListItem). i.column)
+
+abbrev pub list_kinds : List ListItem → List Kind
+list_kinds = map (λ (i : ListItem). i.kind)
+
+abbrev pub list_names : List ListItem → List Name
+list_names = map listed_name
+
+-- IGNORE NAV and KEEP NAV in one list, or one option twice
+abbrev pub is_nav : Opt → Bool
+is_nav opt.UniqueDimension = false
+is_nav _ = true
+
+abbrev pub is_unique : Opt → Bool
+is_unique opt.UniqueDimension = true
+is_unique _ = false
+
+abbrev pub is_ignore : Opt → Bool
+is_ignore opt.IgnoreNav = true
+is_ignore _ = false
+
+abbrev pub options_clash : List Opt → Bool
+options_clash opts = nat_lt 1 (length (filter is_nav opts)) || nat_lt 1 (length (filter is_unique opts))
+
+abbrev pub options_checked : {A : Type 0} → List Opt → Result A Refused → Result A Refused
+options_checked opts next = refused_where (options_clash opts) (misuse MISUSE_OF_OPTIONS) next
+
+-- whether NAV is ignored: by the own option, else by the one around it
+abbrev pub ignores_nav : List Opt → Bool → Bool
+ignores_nav opts around = if list_any is_nav opts then list_any is_ignore opts else around

@@ -1,0 +1,119 @@
+-- A MODEL clause: its options and references, its lists with their limits, the main options, the rules and UNTIL.
+use Rattle.std.specs.Prelude.{ℕ, pos, negsuc, List, [], ◌∷◌, ◌++◌, length, map, Bool, true, false, not, ◌||◌, ◌&&◌, nat_lt, nat_le, Option, Some, None, is_some, Result, Ok, Err, unwrap_or, if◌then◌else◌}
+use Rattle.std.specs.Option.{option_map}
+use Rattle.mq_values.specs.Number.{Number}
+use Rattle.mq_values.specs.declared.faults.Refused.{Refused}
+use Rattle.mq_values.specs.declared.limits.TheConstants.{MAX_DIMENSIONS, MAX_MEASURES, MAX_PARTITION_COLUMNS, MAX_RULES, MAX_TURNS}
+use Rattle.mq_values.specs.declared.operators.Mode.{Mode}
+use Rattle.mq_values.specs.declared.operators.Mode.TheVariants as mode
+use Rattle.mq_ast.specs.declared.queries.ModelTree.{ModelTree}
+use Rattle.mq_ir.specs.declared.catalog.Catalog.{Catalog}
+use Rattle.mq_ir.specs.declared.expression.Expr.{Expr}
+use Rattle.mq_ir.specs.declared.limit_numbers.TheConstants.{LIMIT_OF_DIMENSIONS, LIMIT_OF_MEASURES, LIMIT_OF_PARTITION_COLUMNS, LIMIT_OF_RULES, LIMIT_OF_TURNS}
+use Rattle.mq_ir.specs.declared.query.ColRef.{ColRef}
+use Rattle.mq_ir.specs.declared.query.Iterate.{Iterate}
+use Rattle.mq_ir.specs.declared.query.ModelPart.{ModelPart}
+use Rattle.mq_ir.specs.Results.{◌>>=◌}
+use Rattle.mq_binder.specs.declared.found.Base.{Base}
+use Rattle.mq_binder.specs.declared.found.ListItem.{ListItem}
+use Rattle.mq_binder.specs.declared.found.ModelFound.{ModelFound}
+use Rattle.mq_binder.specs.declared.found.ReferenceFound.{ReferenceFound}
+use Rattle.mq_ir.specs.declared.query.PlainPart.{PlainPart}
+use Rattle.mq_ir.specs.declared.query.Rule.{Rule}
+use Rattle.mq_binder.specs.declared.misuse_numbers.TheConstants.{MISUSE_OF_ITERATE}
+use Rattle.mq_binder.specs.declared.scopes.Part.TheVariants as part
+use Rattle.mq_binder.specs.declared.scopes.Scope.{Scope}
+use Rattle.mq_binder.specs.ExpressionWalk.{bound_filter}
+use Rattle.mq_binder.specs.FromWalk.{group_of, grouped_by, row_scope}
+use Rattle.mq_binder.specs.ListWalk.{ignores_nav, items_listed, limited, list_columns, list_exprs, list_kinds, list_names, options_checked}
+use Rattle.mq_binder.specs.PlainWalk.{any_aggregate}
+use Rattle.mq_binder.specs.Positions.{standing}
+use Rattle.mq_binder.specs.ReferenceWalk.{references_bound}
+use Rattle.mq_binder.specs.Refusals.{limit, misuse, refused_where}
+use Rattle.mq_binder.specs.RuleWalk.{rules_bound}
+
+-- the three lists of a model
+pub record Lists : Type 0 where
+  pub parts : List ListItem
+  pub dims : List ListItem
+  pub measures : List ListItem
+
+abbrev pub lists_bound : Scope → ModelTree → Result Lists Refused
+lists_bound scope m =
+    items_listed scope (standing part.Item) [] m.parts >>= limited MAX_PARTITION_COLUMNS LIMIT_OF_PARTITION_COLUMNS >>= (λ parts.
+    items_listed scope (standing part.Item) (list_names parts) m.dims >>= limited MAX_DIMENSIONS LIMIT_OF_DIMENSIONS >>= (λ dims.
+    items_listed scope (standing part.Item) (list_names parts ++ list_names dims) m.measures >>= limited MAX_MEASURES LIMIT_OF_MEASURES >>= (λ measures.
+    Ok (record { parts = parts; dims = dims; measures = measures }))))
+
+abbrev pub all_items : Lists → List ListItem
+all_items lists = lists.parts ++ lists.dims ++ lists.measures
+
+-- the number of ITERATE is a whole number from 1 on
+abbrev pub turns_of : Number → Option ℕ
+turns_of n = elim n.mant [ pos turns ↦ if nat_lt 0 turns && nat_le turns MAX_TURNS then Some turns else None | negsuc k ↦ None ]
+
+abbrev pub turns_bound : Option Number → Result (Option ℕ) Refused
+turns_bound None = Ok None
+turns_bound (Some n) = elim (turns_of n) [ Some turns ↦ Ok (Some turns) | None ↦ Err (limit LIMIT_OF_TURNS) ]
+
+-- the main options, the number of rules, that of ITERATE, and ITERATE with AUTOMATIC ORDER
+abbrev pub head_bound : ModelTree → Result (Option ℕ) Refused
+head_bound m =
+    options_checked m.main_opts (
+    refused_where (nat_lt MAX_RULES (length m.rules)) (limit LIMIT_OF_RULES) (
+    turns_bound m.iterate >>= (λ turns. refused_where (m.auto && is_some turns) (misuse MISUSE_OF_ITERATE) (Ok turns))))
+
+-- what rules and UNTIL may name
+abbrev pub rule_scope : List ReferenceFound → Lists → Bool → Scope
+rule_scope refs lists iterates = record {
+  aliases = [];
+  columns = [];
+  group = None;
+  shown = [];
+  model = record {
+    dims = list_columns lists.dims;
+    measures = list_columns lists.measures;
+    refs = map (λ (r : ReferenceFound). r.names) refs;
+    iterates = iterates;
+  };
+}
+
+abbrev pub model_part : ModelTree → List ReferenceFound → Lists → Option Iterate → List Rule × List PlainPart → ModelPart
+model_part m refs lists iterate found = record {
+  parts = length lists.parts;
+  dims = list_kinds lists.dims;
+  measures = list_kinds lists.measures;
+  ignore_nav = ignores_nav m.main_opts (ignores_nav m.opts false);
+  updated_only = m.updated_only;
+  auto = m.auto;
+  iterate = iterate;
+  rules = found.0;
+  refs = map (λ (r : ReferenceFound). r.part) refs;
+  lists = found.1;
+}
+
+-- UNTIL stands behind ITERATE
+abbrev pub iterate_of : Option ℕ → Option Expr → Option Iterate
+iterate_of turns until = option_map (λ n. record { turns = n; until = until }) turns
+
+abbrev pub rules_over : Catalog → ModelTree → List ReferenceFound → Lists → Option ℕ → Scope → Result ModelPart Refused
+rules_over catalog m refs lists turns scope =
+    rules_bound catalog scope (unwrap_or m.mode mode.Upsert) m.auto m.rules >>= (λ found.
+    bound_filter scope (standing part.Until) m.until >>= (λ until. Ok (model_part m refs lists (iterate_of turns until) found)))
+
+abbrev pub lists_and_rules : Catalog → Option (List ColRef) → Scope → ModelTree → List ReferenceFound → Result ModelFound Refused
+lists_and_rules catalog group scope m refs =
+    lists_bound scope m >>= (λ lists.
+    head_bound m >>= (λ turns.
+    rules_over catalog m refs lists turns (rule_scope refs lists (is_some turns)) >>= (λ part.
+    Ok (record { part = part; items = list_exprs (all_items lists); columns = list_columns (all_items lists); group = group }))))
+
+-- the columns of GROUP BY, where the items of the model have an aggregate or GROUP BY stands there
+abbrev pub model_group : ModelTree → Base → Option (List ColRef)
+model_group m base = group_of base.cols (any_aggregate m.parts || any_aggregate m.dims || any_aggregate m.measures)
+
+abbrev pub model_bound : Catalog → Base → ModelTree → Result ModelFound Refused
+model_bound catalog base m =
+    options_checked m.opts (
+    references_bound catalog (ignores_nav m.opts false) m.refs >>= (λ refs.
+    lists_and_rules catalog (model_group m base) (grouped_by (model_group m base) base.scope) m refs))
