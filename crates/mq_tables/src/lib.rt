@@ -13,8 +13,6 @@ mod stage;
 mod staged;
 mod table;
 mod tables;
-#[cfg(test)]
-mod tests;
 
 pub use row_view::RowView;
 pub use staged::Staged;
