@@ -11,8 +11,6 @@ mod places;
 mod sources;
 mod spreads;
 mod steps;
-#[cfg(test)]
-mod tests;
 mod turn;
 
 pub use left_sides::{UnfoldFault, unfold};
