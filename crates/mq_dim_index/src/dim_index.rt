@@ -103,6 +103,7 @@ impl DimIndex {
     pub fn stored(&self, key: &[Value]) -> Option<&Key>
         ensures there { is_some result ≡ is_there self.now key.now }
         ensures same { IfSome result (λ found. found.now ≡ key.now) }
+        ensures ascending { IsStrictlySortedBy cmp_key self.now }
     {
         match search(&self.keys, key) {
             Ok(at) => Some(&self.keys[at]),

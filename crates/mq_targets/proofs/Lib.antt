@@ -1,0 +1,3 @@
+pub mod AmongLemmas
+pub mod OrderLemmas
+pub mod PlaceLemmas
