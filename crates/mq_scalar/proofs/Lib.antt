@@ -1,3 +1,4 @@
 pub mod CaseLemmas
 pub mod ExitLemmas
 pub mod LoopLemmas
+pub mod OutcomeLemmas

@@ -3,6 +3,7 @@ ghost use Rattle.std.specs.Prelude.{◌≡◌, map};
 ghost use Rattle.mq_values.specs.Answers.{Gives};
 ghost use Rattle.mq_ir.specs.Expression.{ev, holds as spec_holds, worth_of};
 ghost use Rattle.mq_ir.specs.Operators.{called};
+ghost use Rattle.mq_ir.specs.Worth.{truth_in, value_in};
 
 use crate::cases::{arm_taken, eval_if, or_else};
 use crate::chains::{product, sum};
@@ -19,30 +20,78 @@ use std::alloc::Global;
 /// The value of `e` where `env` is, or its first fault. A condition in the place of a value is null
 /// (docs/MEANING.md, "Expressions").
 #[cycle(evaluation)]
+#[tactic(auto, using(crate::proofs::OutcomeLemmas::outcome_laws))]
 pub fn eval<V: Env>(alloc: Global, e: &Expr, env: &mut V) -> Result<Value, Fail<ValueFault>>
     ensures exact { Gives result (ev (V.gives env.old) e.now) }
     ensures same { V.gives env.new ≡ V.gives env.old }
 {
-    match worth(alloc, e, env)? {
-        Worth::Value(v) => Ok(v),
-        Worth::Truth(_) => Ok(Value::Null),
+    match e {
+        Expr::Lit(v) => Ok(v.copy()?),
+        Expr::Leaf(leaf) => env.leaf(alloc, leaf),
+        _ => computed(alloc, e, env),
+    }
+}
+
+// The same of an expression that is neither a literal nor a leaf, which need no frame of this size.
+#[inline(never)]
+#[cycle(evaluation)]
+#[tactic(auto, using(crate::proofs::OutcomeLemmas::outcome_laws))]
+fn computed<V: Env>(alloc: Global, e: &Expr, env: &mut V) -> Result<Value, Fail<ValueFault>>
+    ensures exact { Gives result (ev (V.gives env.old) e.now) }
+    ensures same { V.gives env.new ≡ V.gives env.old }
+{
+    match e {
+        Expr::Sum(first, terms) => {
+            let first = eval(alloc, first.get(), env)?;
+            sum(alloc, first, terms.as_slice(), env)
+        }
+        Expr::Prod(first, factors) => {
+            let first = eval(alloc, first.get(), env)?;
+            product(alloc, first, factors.as_slice(), env)
+        }
+        _ => Ok(value_of(worth(alloc, e, env)?)),
+    }
+}
+
+// The value that an expression is worth; a condition has none.
+fn value_of(worth: Worth) -> Value
+    ensures { result ≡ value_in worth }
+{
+    match worth {
+        Worth::Value(v) => v,
+        Worth::Truth(_) => Value::Null,
     }
 }
 
 /// Whether the condition `e` holds where `env` is (`None`: unknown), or its first fault. A value in the place of
 /// a condition is unknown (docs/MEANING.md, "Expressions").
 #[cycle(evaluation)]
+#[tactic(auto, using(crate::proofs::OutcomeLemmas::outcome_laws))]
 pub fn holds<V: Env>(alloc: Global, e: &Expr, env: &mut V) -> Result<Option<bool>, Fail<ValueFault>>
     ensures exact { Gives result (spec_holds (V.gives env.old) e.now) }
     ensures same { V.gives env.new ≡ V.gives env.old }
 {
-    match worth(alloc, e, env)? {
-        Worth::Value(_) => Ok(None),
-        Worth::Truth(truth) => Ok(truth),
+    match e {
+        Expr::Cmp(a, op, b) => {
+            let v = eval(alloc, a.get(), env)?;
+            compared_to(alloc, &v, *op, b.get(), env)
+        }
+        _ => Ok(truth_of(worth(alloc, e, env)?)),
     }
 }
 
-// What `e` is worth: a value, or whether it holds.
+// The truth that an expression is worth; a value has none.
+fn truth_of(worth: Worth) -> Option<bool>
+    ensures { result ≡ truth_in worth }
+{
+    match worth {
+        Worth::Value(_) => None,
+        Worth::Truth(truth) => truth,
+    }
+}
+
+// What `e` is worth: a value, or whether it holds. It has a large frame, so the forms that are met most have a way past it.
+#[inline(never)]
 #[cycle(evaluation)]
 #[tactic(auto, using(mq_ir::specs::ExpressionLaws::worth_laws))]
 fn worth<V: Env>(alloc: Global, e: &Expr, env: &mut V) -> Result<Worth, Fail<ValueFault>>
