@@ -3,13 +3,6 @@
 //! It has no contracts but that of a place: what it writes is compared with a table that was worked out by hand.
 #![tactic(auto)]
 
-mod answers;
-mod conditions;
-mod dimension;
-mod expressions;
-mod literals;
-mod notation;
-mod operators;
 mod place;
 mod reads;
 mod rows;

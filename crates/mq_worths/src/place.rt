@@ -4,6 +4,7 @@ ghost use Rattle.mq_values.specs.Answers.{Gives};
 ghost use Rattle.mq_worths.specs.Place.{leaves_over};
 
 use mq_ir::Leaf;
+use mq_notation::leaves::Leaves;
 use mq_scalar::Env;
 use mq_values::{Fail, Items, Memory, Value, ValueFault, Words};
 use std::alloc::Global;
@@ -36,14 +37,20 @@ impl Place {
         self.columns.push(column)
     }
 
-    /// The number of the column of this name.
-    pub fn column(&self, name: &str) -> Option<u32> {
+    // The number of the column of this name.
+    fn column(&self, name: &str) -> Option<u32> {
         for (number, known) in self.names.iter().enumerate() {
             if known.as_str() == name {
                 return u32::try_from(number).ok();
             }
         }
         None
+    }
+}
+
+impl Leaves for Place {
+    fn leaf(&self, word: &str) -> Option<Leaf> {
+        Some(Leaf::Column(0, self.column(word)?))
     }
 }
 

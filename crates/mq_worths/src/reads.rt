@@ -1,40 +1,17 @@
 //! What mq_reads computes of values in hand: aggregates, NAV, and the calls on presence.
 
-use crate::literals::{kind, value};
-use crate::notation::{Read, no_tree};
+use mq_notation::leaves::aggregate_named;
+use mq_notation::literals::{kind, value};
+use mq_notation::notation::{Read, no_tree};
 use mq_reads::{Aggregation, aggregate, nav, presentnnv, presentv};
 use mq_values::{Agg, Fail, Value, ValueFault};
 use std::alloc::Global;
 
-// An aggregate by its name.
-fn named(name: &str) -> Option<Agg> {
-    match name {
-        "SUM" => Some(Agg::Sum),
-        "AVG" => Some(Agg::Avg),
-        "MIN" => Some(Agg::Min),
-        "MAX" => Some(Agg::Max),
-        "COUNT" => Some(Agg::Count),
-        _ => None,
-    }
-}
-
-/// Values with a blank between them; none where the text is empty.
-pub(crate) fn values(alloc: Global, text: &str) -> Read<Vec<Value>> {
-    let mut found = Vec::new(alloc);
-    if text.is_empty() {
-        return Ok(found);
-    }
-    for word in text.split(' ') {
-        found.push(value(alloc, word)?)?;
-    }
-    Ok(found)
-}
-
 /// What the aggregate of this name comes to, all values at once, or, behind "each", one by one.
 pub(crate) fn aggregated(name: &str, values: &[Value]) -> Option<Result<Value, Fail<ValueFault>>> {
     match name.strip_prefix("each-") {
-        Some(name) => Some(one_by_one(named(name)?, values)),
-        None => Some(aggregate(named(name)?, values)),
+        Some(name) => Some(one_by_one(aggregate_named(name)?, values)),
+        None => Some(aggregate(aggregate_named(name)?, values)),
     }
 }
 

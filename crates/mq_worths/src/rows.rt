@@ -1,14 +1,15 @@
 //! A row of the table: what is asked, and of what, with a tab between them.
 
-use crate::answers::{add, add_truth, add_value, truth};
-use crate::dimension::{self, OfTests};
-use crate::expressions::{self, OfExpressions};
-use crate::notation::{Read, Unreadable, no_tree, tree};
 use crate::place::{Column, Place};
-use crate::{literals, reads};
-use mq_ir::Expr;
-use mq_scalar::{eval, holds};
-use mq_values::{Boxed, DimTest, Fail, Memory, Num, Value, Words};
+use crate::reads;
+use mq_notation::answers::{add, add_truth, add_value, fault_name, truth};
+use mq_notation::dimension::dim_test;
+use mq_notation::expressions::{expression, place_test};
+use mq_notation::forms::add_test;
+use mq_notation::literals;
+use mq_notation::notation::{Read, no_tree};
+use mq_scalar::{converted, eval, holds, test_of};
+use mq_values::{Boxed, DimTest, Fail, Kind, Memory, Num, Value, Words};
 use std::alloc::Global;
 
 /// The row, and behind a tab what it asks for. A row without a tab stays as it is, and so does one that
@@ -40,9 +41,11 @@ fn add_answer(
         "column" => add_column(alloc, place, text),
         "value" => add_worth(alloc, place, text, answer),
         "truth" => add_whether(alloc, place, text, answer),
-        "test" => add_told(alloc, test_of(alloc, text)?.get(), answer),
+        "converted" => add_converted(alloc, place, text, answer),
+        "symbolic" => add_evaluated(alloc, place, text, answer),
+        "test" => add_told(alloc, dim_test(alloc, text)?.get(), answer),
         "copy" => add_told(alloc, copy_of(alloc, text)?.get(), answer),
-        "meets" => add_met(alloc, test_of(alloc, text)?.get(), answer),
+        "meets" => add_met(alloc, dim_test(alloc, text)?.get(), answer),
         _ => add_read(alloc, asked, text, answer),
     }
 }
@@ -59,6 +62,33 @@ fn add_whether(alloc: Global, place: &mut Place, text: &str, answer: &mut Vec<u8
     Ok(add_truth(holds(alloc, e.get(), place), answer)?)
 }
 
+// `KIND EXPRESSION`: its value, brought to the kind.
+fn add_converted(alloc: Global, place: &mut Place, text: &str, answer: &mut Vec<u8>) -> Read<()> {
+    let (kind, text) = behind_kind(text)?;
+    let e = expression(alloc, place, text)?;
+    add("\t", answer)?;
+    Ok(add_value(&converted(alloc, e.get(), kind, place), answer)?)
+}
+
+// `KIND TEST`: the test over a dimension of this kind, with its operands evaluated.
+fn add_evaluated(alloc: Global, place: &mut Place, text: &str, answer: &mut Vec<u8>) -> Read<()> {
+    let (kind, text) = behind_kind(text)?;
+    let test = place_test(alloc, place, text)?;
+    add("\t", answer)?;
+    match test_of(alloc, test.get(), kind, place) {
+        Ok(test) => Ok(add_test(&test, answer)?),
+        Err(Fail::Cause(fault)) => Ok(add(fault_name(fault), answer)?),
+        Err(Fail::Memory) => Err(Fail::Memory),
+    }
+}
+
+fn behind_kind(text: &str) -> Read<(Kind, &str)> {
+    match text.split_once(' ') {
+        Some((name, rest)) => Ok((literals::kind(name)?, rest)),
+        None => no_tree(),
+    }
+}
+
 // A column: its name, and its value or fault.
 fn add_column(alloc: Global, place: &mut Place, text: &str) -> Read<()> {
     let Some((name, word)) = text.split_once(' ') else {
@@ -71,21 +101,8 @@ fn add_column(alloc: Global, place: &mut Place, text: &str) -> Read<()> {
     Ok(place.add(Words::new(alloc, name)?, column)?)
 }
 
-fn expression(alloc: Global, place: &Place, text: &str) -> Read<Boxed<Expr>> {
-    let mut parts = Vec::new(alloc);
-    parts.push(tree(alloc, &OfExpressions { place }, text)?)?;
-    expressions::tree(alloc, &mut parts)
-}
-
-fn test_of(alloc: Global, text: &str) -> Read<Boxed<DimTest>> {
-    match tree(alloc, &OfTests, text)? {
-        dimension::Part::Test(test) => Ok(Boxed::new(alloc, test)?),
-        dimension::Part::Value(_) => no_tree(),
-    }
-}
-
 fn copy_of(alloc: Global, text: &str) -> Read<Boxed<DimTest>> {
-    let test = test_of(alloc, text)?;
+    let test = dim_test(alloc, text)?;
     Ok(Boxed::new(alloc, test.get().copy(alloc)?)?)
 }
 
@@ -129,7 +146,7 @@ fn add_read(alloc: Global, asked: &str, text: &str, answer: &mut Vec<u8>) -> Rea
             add("\t", answer)?;
             Ok(add_value(&Ok(by_value), answer)?)
         }
-        _ => match reads::aggregated(asked, &reads::values(alloc, text)?) {
+        _ => match reads::aggregated(asked, &literals::values(alloc, text)?) {
             Some(worth) => Ok(add_value(&worth, answer)?),
             None => no_tree(),
         },

@@ -6,16 +6,16 @@ use std::alloc::Global;
 
 /// The row is no tree.
 #[derive(Clone, Copy)]
-pub(crate) struct Unreadable;
+pub struct Unreadable;
 
-pub(crate) type Read<T> = Result<T, Fail<Unreadable>>;
+pub type Read<T> = Result<T, Fail<Unreadable>>;
 
-pub(crate) fn no_tree<T>() -> Read<T> {
+pub fn no_tree<T>() -> Read<T> {
     Err(Fail::Cause(Unreadable))
 }
 
 /// What the words and nodes of a kind of trees stand for.
-pub(crate) trait Notation {
+pub trait Notation {
     type Part: Drop;
 
     fn word(&self, alloc: Global, word: &str) -> Read<Self::Part>;
@@ -25,7 +25,7 @@ pub(crate) trait Notation {
 }
 
 /// The one tree that the text writes.
-pub(crate) fn tree<N: Notation>(alloc: Global, notation: &N, text: &str) -> Read<N::Part> {
+pub fn tree<N: Notation>(alloc: Global, notation: &N, text: &str) -> Read<N::Part> {
     let mut parts = Vec::new(alloc);
     let mut open = Vec::new(alloc);
     for word in text.split(' ') {

@@ -1,10 +1,10 @@
-//! Values as they stand in the table: a number, a text between quotes with no quote in it, or NULL.
+//! Values as they stand in tables: a number, a text between quotes with no quote in it, or NULL.
 
 use crate::notation::{Read, no_tree};
 use mq_values::{Kind, MAX_SCALE, Num, Text, Value, ValueFault};
 use std::alloc::Global;
 
-pub(crate) fn value(alloc: Global, word: &str) -> Read<Value> {
+pub fn value(alloc: Global, word: &str) -> Read<Value> {
     if word == "NULL" {
         return Ok(Value::Null);
     }
@@ -43,7 +43,7 @@ fn number_at(digits: &str, scale: usize) -> Read<Value> {
 }
 
 /// A kind: INT, TEXT, or DECIMAL with its scale behind a colon.
-pub(crate) fn kind(word: &str) -> Read<Kind> {
+pub fn kind(word: &str) -> Read<Kind> {
     match word {
         "INT" => Ok(Kind::Int),
         "TEXT" => Ok(Kind::Text),
@@ -54,7 +54,7 @@ pub(crate) fn kind(word: &str) -> Read<Kind> {
     }
 }
 
-pub(crate) fn scale(digits: &str) -> Read<u8> {
+pub fn scale(digits: &str) -> Read<u8> {
     match digits.parse::<u8>() {
         Ok(scale) => Ok(scale),
         Err(_) => no_tree(),
@@ -62,11 +62,31 @@ pub(crate) fn scale(digits: &str) -> Read<u8> {
 }
 
 /// A fault by its name.
-pub(crate) fn fault(name: &str) -> Option<ValueFault> {
+pub fn fault(name: &str) -> Option<ValueFault> {
     match name {
         "OVERFLOW" => Some(ValueFault::Overflow),
         "DIVIDE_BY_ZERO" => Some(ValueFault::DivideByZero),
         "TEXT_TOO_LONG" => Some(ValueFault::TextTooLong),
         _ => None,
     }
+}
+
+/// A number of an item, column, measure, dimension or reference.
+pub fn number_of(digits: &str) -> Read<u32> {
+    match digits.parse::<u32>() {
+        Ok(number) => Ok(number),
+        Err(_) => no_tree(),
+    }
+}
+
+/// Values with a blank between them; none where the text is empty.
+pub fn values(alloc: Global, text: &str) -> Read<Vec<Value>> {
+    let mut found = Vec::new(alloc);
+    if text.is_empty() {
+        return Ok(found);
+    }
+    for word in text.split(' ') {
+        found.push(value(alloc, word)?)?;
+    }
+    Ok(found)
 }

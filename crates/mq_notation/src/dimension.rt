@@ -1,19 +1,19 @@
-//! Tests of a dimension as the table writes them.
+//! Tests of a dimension as tables write them, with values for their operands.
 
 use crate::literals;
-use crate::notation::{Notation, Read, no_tree};
+use crate::notation::{Notation, Read, no_tree, tree};
 use mq_values::{Boxed, CmpOp, DimTest, Items, Value};
 use std::alloc::Global;
 
 /// A part of a test.
 #[derive(Drop)]
-pub(crate) enum Part {
+pub enum Part {
     Value(Value),
     Test(DimTest),
 }
 
 #[derive(Clone, Copy)]
-pub(crate) struct OfTests;
+pub struct OfTests;
 
 impl Notation for OfTests {
     type Part = Part;
@@ -48,7 +48,7 @@ fn test(alloc: Global, head: &str, parts: &mut Vec<Part>) -> Read<DimTest> {
 }
 
 /// A comparison by its sign.
-pub(crate) fn comparison(sign: &str) -> Option<CmpOp> {
+pub fn comparison(sign: &str) -> Option<CmpOp> {
     match sign {
         "=" => Some(CmpOp::Eq),
         "<>" => Some(CmpOp::Ne),
@@ -57,6 +57,14 @@ pub(crate) fn comparison(sign: &str) -> Option<CmpOp> {
         ">" => Some(CmpOp::Gt),
         ">=" => Some(CmpOp::Ge),
         _ => None,
+    }
+}
+
+/// The test that the text writes.
+pub fn dim_test(alloc: Global, text: &str) -> Read<Boxed<DimTest>> {
+    match tree(alloc, &OfTests, text)? {
+        Part::Test(test) => Ok(Boxed::new(alloc, test)?),
+        Part::Value(_) => no_tree(),
     }
 }
 

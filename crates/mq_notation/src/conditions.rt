@@ -3,11 +3,11 @@
 use crate::dimension::comparison;
 use crate::expressions::{Part, leaf, made, tree, trees};
 use crate::notation::Read;
-use crate::operators;
+use crate::{operators, place_tests};
 use mq_ir::Expr;
 use std::alloc::Global;
 
-pub(crate) fn node(alloc: Global, head: &str, parts: &mut Vec<Part>) -> Read<Part> {
+pub fn node(alloc: Global, head: &str, parts: &mut Vec<Part>) -> Read<Part> {
     match head {
         "or" => made(alloc, Expr::Or(trees(alloc, parts)?)),
         "and" => made(alloc, Expr::And(trees(alloc, parts)?)),
@@ -37,6 +37,9 @@ fn in_list(alloc: Global, not: bool, parts: &mut Vec<Part>) -> Read<Part> {
 }
 
 fn compared(alloc: Global, head: &str, parts: &mut Vec<Part>) -> Read<Part> {
+    if let Some(head) = head.strip_prefix('?') {
+        return place_tests::node(alloc, head, parts);
+    }
     let Some(op) = comparison(head) else {
         return operators::node(alloc, head, parts);
     };

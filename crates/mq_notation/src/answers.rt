@@ -1,8 +1,8 @@
 //! How answers are written.
 
-use mq_values::{Fail, Memory, Value, ValueFault, print};
+use mq_values::{Fail, Memory, Num, Value, ValueFault, print};
 
-pub(crate) fn truth(truth: Option<bool>) -> &'static str {
+pub fn truth(truth: Option<bool>) -> &'static str {
     match truth {
         Some(true) => "TRUE",
         Some(false) => "FALSE",
@@ -10,7 +10,8 @@ pub(crate) fn truth(truth: Option<bool>) -> &'static str {
     }
 }
 
-fn fault_name(fault: ValueFault) -> &'static str {
+/// The name of a fault.
+pub fn fault_name(fault: ValueFault) -> &'static str {
     match fault {
         ValueFault::Overflow => "OVERFLOW",
         ValueFault::DivideByZero => "DIVIDE_BY_ZERO",
@@ -18,12 +19,12 @@ fn fault_name(fault: ValueFault) -> &'static str {
     }
 }
 
-pub(crate) fn add(text: &str, answer: &mut Vec<u8>) -> Result<(), Memory> {
+pub fn add(text: &str, answer: &mut Vec<u8>) -> Result<(), Memory> {
     Ok(answer.extend_from_slice(text.as_bytes())?)
 }
 
 /// Adds the value, or the name of the fault.
-pub(crate) fn add_value(
+pub fn add_value(
     worth: &Result<Value, Fail<ValueFault>>,
     answer: &mut Vec<u8>,
 ) -> Result<(), Memory> {
@@ -35,7 +36,7 @@ pub(crate) fn add_value(
 }
 
 /// Adds the truth, or the name of the fault.
-pub(crate) fn add_truth(
+pub fn add_truth(
     found: Result<Option<bool>, Fail<ValueFault>>,
     answer: &mut Vec<u8>,
 ) -> Result<(), Memory> {
@@ -44,4 +45,9 @@ pub(crate) fn add_truth(
         Err(Fail::Cause(fault)) => add(fault_name(fault), answer),
         Err(Fail::Memory) => Err(Memory),
     }
+}
+
+/// Adds a number, in decimal.
+pub fn add_number(number: u64, answer: &mut Vec<u8>) -> Result<(), Memory> {
+    print(&Value::Num(Num::new(number as i128, 0)), answer)
 }

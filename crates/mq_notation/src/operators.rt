@@ -1,13 +1,14 @@
 //! Nodes that have values.
 
 use crate::expressions::{Part, leaf, made, tree, trees};
+use crate::leaves;
 use crate::literals::{kind, scale};
 use crate::notation::{Read, no_tree};
 use mq_ir::{BoundArm, BoundProd, BoundSum, Expr};
 use mq_values::{Func, Items, ProdOp, SumOp};
 use std::alloc::Global;
 
-pub(crate) fn node(alloc: Global, head: &str, parts: &mut Vec<Part>) -> Read<Part> {
+pub fn node(alloc: Global, head: &str, parts: &mut Vec<Part>) -> Read<Part> {
     match head {
         "sum" => sum(alloc, parts),
         "+" => Ok(Part::Term(SumOp::Add, tree(alloc, parts)?)),
@@ -67,7 +68,7 @@ fn choice(alloc: Global, head: &str, parts: &mut Vec<Part>) -> Read<Part> {
 
 fn case(alloc: Global, parts: &mut Vec<Part>) -> Read<Part> {
     let subject = match parts.last() {
-        Some(Part::Tree(_) | Part::Column(_)) => Some(tree(alloc, parts)?),
+        Some(Part::Tree(_) | Part::Leaf(_)) => Some(tree(alloc, parts)?),
         _ => None,
     };
     let arms = arms(alloc, parts)?;
@@ -126,13 +127,13 @@ fn call(alloc: Global, head: &str, parts: &mut Vec<Part>) -> Read<Part> {
         Some(("CAST", name)) => made(alloc, Expr::Cast(tree(alloc, parts)?, kind(name)?)),
         Some(("CONVERT", name)) => made(alloc, Expr::Convert(tree(alloc, parts)?, kind(name)?)),
         Some(("ROUND", digits)) => called(alloc, Func::Round(scale(digits)?), parts),
-        Some(_) => no_tree(),
+        Some(_) => leaves::node(alloc, head, parts),
         None => match head {
             "ABS" => called(alloc, Func::Abs, parts),
             "FLOOR" => called(alloc, Func::Floor, parts),
             "LENGTH" => called(alloc, Func::Length, parts),
             "NVL" => called(alloc, Func::Nvl, parts),
-            _ => no_tree(),
+            _ => leaves::node(alloc, head, parts),
         },
     }
 }
