@@ -5,7 +5,5 @@
 
 mod dim_index;
 mod search;
-#[cfg(test)]
-mod tests;
 
 pub use dim_index::DimIndex;

@@ -7,8 +7,6 @@ mod assigned;
 mod choosing;
 mod order;
 mod places;
-#[cfg(test)]
-mod tests;
 
 pub use assigned::Targets;
 pub use choosing::{have_width, targets};
