@@ -1,21 +1,22 @@
 -- What a change comes to, judgement by judgement.
-use Rattle.std.proofs.Common.{◌≡◌, ℕ, ◌+◌, ◌≤◌, List, Option, Some, None, length, Result, Ok, Err, refl, sym, ap, ◌∙◌, arith}
+use Rattle.std.proofs.Common.{◌≡◌, ℕ, ◌+◌, ◌≤◌, List, Option, Some, None, length, Result, Ok, Err, IfOk, refl, sym, ap, ◌∙◌, arith}
 use Rattle.std.specs.Option.{ok_or}
+use Rattle.mq_values.specs.Answers.{Gives}
+use Rattle.mq_values.specs.declared.memory.Fail.{Fail}
 use Rattle.mq_values.specs.declared.faults.Refused.{Refused}
 use Rattle.mq_values.specs.declared.faults.Refused.TheVariants as refused
 use Rattle.mq_values.specs.declared.limits.TheConstants.{MAX_ROWS}
 use Rattle.mq_ir.specs.declared.statement.Change.{Change}
-use Rattle.mq_ir.specs.Changes.{key_fault, rows_added, rows_changed, size_fault, table_of}
-use Rattle.mq_ir.specs.declared.statement.Schema.{Schema}
-use Rattle.mq_ir.specs.Keys.{Tuple}
+use Rattle.mq_ir.specs.Changes.{rows_added, rows_changed, size_fault, table_of}
 use Rattle.mq_ir.specs.Results.{◌>>=◌}
 use Rattle.mq_ir.specs.Statement.{staged, unless_refused}
 use Rattle.mq_ir.specs.Tables.{Table, Tables, table_at}
 use Rattle.mq_tables.specs.declared.drafts.Draft.{Draft}
-use Rattle.mq_tables.specs.Drafts.{drafted}
-use Rattle.mq_tables.specs.Staging.{Staged, origins_of, staging}
-use Rattle.mq_tables.proofs.StageLemmas.{from_draft, in_order, keyed, staged_from}
-use Rattle.mq_tables.proofs.StandLemmas.{within_limit}
+use Rattle.mq_tables.specs.Drafts.{drafted, keyed}
+use Rattle.mq_tables.specs.Held.{RowsFit}
+use Rattle.mq_tables.specs.Staging.{ChangeFits, Staged, StandsOn, origins_of, staging}
+use Rattle.mq_tables.proofs.StageLemmas.{from_draft, in_order}
+use Rattle.mq_tables.proofs.StandLemmas.{staging_stands, within_limit}
 
 -- what a judgement said
 pub judged_none : (o : Option Refused) (u : Unit {0}) → unless_refused o (Ok tt) ≡ Ok u → o ≡ None
@@ -70,21 +71,12 @@ pub rows_refused : (tables : Tables) (change : Change) (name : List ℕ) (t : Ta
     → drafted t change ≡ Err e → staging tables change ≡ Err e
 rows_refused tables change name t e n h s d = after_size tables change name t n h s ∙ ap (λ r. r >>= keyed t) d
 
-pub keys_refused : (tables : Tables) (change : Change) (name : List ℕ) (t : Table) (draft : Draft) (schema : Schema) (rows : List Tuple) (e : Refused) → name ≡ table_of change
-    → table_at tables name ≡ Some t → size_fault tables t (rows_added change) ≡ None → drafted t change ≡ Ok draft → schema ≡ t.schema → rows ≡ draft.rows
-    → ◌≡◌ {A = Result (Unit {0}) Refused} (unless_refused (key_fault schema rows) (Ok tt)) (Err e) → staging tables change ≡ Err e
-keys_refused tables change name t draft schema rows e n h s d c r k =
-    after_size tables change name t n h s
-    ∙ ap (λ r. r >>= keyed t) d
-    ∙ ap (λ o. unless_refused o (Ok (staged_from t draft)))
-    (ap (λ z. key_fault z draft.rows) (sym c) ∙ ap (key_fault schema) (sym r) ∙ judged_some (key_fault schema rows) e k)
+-- a draft is what it comes to once its keys are judged
+pub after_draft : (tables : Tables) (change : Change) (name : List ℕ) (t : Table) (draft : Draft) → name ≡ table_of change → table_at tables name ≡ Some t
+    → size_fault tables t (rows_added change) ≡ None → drafted t change ≡ Ok draft → staging tables change ≡ keyed t draft
+after_draft tables change name t draft n h z d = after_size tables change name t n h z ∙ ap (λ r. r >>= keyed t) d
 
-pub all_judged : (tables : Tables) (change : Change) (name : List ℕ) (t : Table) (draft : Draft) (schema : Schema) (rows : List Tuple) (u : Unit {0}) (s : Staged) → name ≡ table_of change
-    → table_at tables name ≡ Some t → size_fault tables t (rows_added change) ≡ None → drafted t change ≡ Ok draft → schema ≡ t.schema → rows ≡ draft.rows
-    → unless_refused (key_fault schema rows) (Ok tt) ≡ Ok u → s ≡ staged_from t draft → staging tables change ≡ Ok s
-all_judged tables change name t draft schema rows u s n h z d c r k e =
-    after_size tables change name t n h z
-    ∙ ap (λ r. r >>= keyed t) d
-    ∙ ap (λ o. unless_refused o (Ok (staged_from t draft)))
-    (ap (λ z. key_fault z draft.rows) (sym c) ∙ ap (key_fault schema) (sym r) ∙ judged_none (key_fault schema rows) u k)
-    ∙ ap Ok (sym e)
+-- what comes of a change stands on the tables
+pub gives_stands : (tables : Tables) (change : Change) (r : Result Staged (Fail Refused)) → Gives r (staging tables change) → RowsFit tables → ChangeFits tables change → IfOk r (StandsOn tables)
+gives_stands tables change (Ok s) g fit f = staging_stands tables change s fit f g
+gives_stands tables change (Err e) g fit f = tt

@@ -2,8 +2,12 @@ pub mod FitLemmas
 pub mod HeldLemmas
 pub mod JudgeLemmas
 pub mod KeyLemmas
+pub mod KeyOrderLemmas
+pub mod KeyedLemmas
+pub mod OldPlaceLemmas
 pub mod OriginLemmas
 pub mod SetLemmas
+pub mod SparedLemmas
 pub mod StageLemmas
 pub mod StandLemmas
 pub mod VisitLemmas

@@ -10,14 +10,8 @@ use Rattle.mq_ir.specs.Results.{◌>>=◌, each}
 use Rattle.mq_ir.specs.Statement.{staged, unless_refused}
 use Rattle.mq_ir.specs.Tables.{Table, Tables}
 use Rattle.mq_tables.specs.declared.drafts.Draft.{Draft}
-use Rattle.mq_tables.specs.Drafts.{appended, deleted, drafted, updated}
+use Rattle.mq_tables.specs.Drafts.{appended, deleted, drafted, keyed, staged_from, updated}
 use Rattle.mq_tables.specs.Staging.{Staged, new_places, origins_of, stays}
-
-abbrev pub staged_from : Table → Draft → Staged
-staged_from table draft = record { table = table.name; had = length table.rows; rows = draft.rows; counted = draft.counted; origins = draft.origins }
-
-abbrev pub keyed : Table → Draft → Result Staged Refused
-keyed table draft = unless_refused (key_fault table.schema draft.rows) (Ok (staged_from table draft))
 
 -- the change of the rows, and then where they come from
 abbrev pub whole : Table → Result Changed Refused → Result (List (Option ℕ)) Refused → Result Staged Refused

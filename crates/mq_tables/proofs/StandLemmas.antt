@@ -25,11 +25,11 @@ use Rattle.mq_ir.specs.Results.{◌>>=◌, each}
 use Rattle.mq_ir.specs.Statement.{staged, unless_refused}
 use Rattle.mq_ir.specs.Tables.{Table, Tables, is_name, table_at}
 use Rattle.mq_tables.specs.declared.drafts.Draft.{Draft}
-use Rattle.mq_tables.specs.Drafts.{appended, deleted, drafted, updated}
+use Rattle.mq_tables.specs.Drafts.{appended, deleted, drafted, keyed, staged_from, updated}
 use Rattle.mq_tables.specs.Held.{RowsFit}
 use Rattle.mq_tables.specs.Staging.{ChangeFits, Staged, StandsOn, StoodAt, new_places, origins_of, place_unless_true, staging, stays}
 use Rattle.mq_tables.proofs.FitLemmas.{all_filtered, all_pass, both_true, deleted_is, each_cons, each_length, each_nil, inserted_fits, updated_fits}
-use Rattle.mq_tables.proofs.StageLemmas.{from_draft, in_order, keyed, staged_from, whole}
+use Rattle.mq_tables.proofs.StageLemmas.{from_draft, in_order, whole}
 
 -- ---- the table of a name
 found_passes : {A : Type 0} (p : A → Bool) (xs : List A) (x : A) → find p xs ≡ Some x → p x ≡ true
@@ -136,11 +136,11 @@ record Sound (t : Table) (change : Change) (draft : Draft) : Type 0 where
   fit : list_all (is_row_of t.schema) draft.rows ≡ true
   stood : AllZip (StoodAt t.rows) draft.rows draft.origins
 
-then_is : {A B : Type 0} (r : Result A Refused) (f : A → Result B Refused) (y : B) (P : Type 0) → (r >>= f) ≡ Ok y → ((x : A) → r ≡ Ok x → f x ≡ Ok y → P) → P
+pub then_is : {A B : Type 0} (r : Result A Refused) (f : A → Result B Refused) (y : B) (P : Type 0) → (r >>= f) ≡ Ok y → ((x : A) → r ≡ Ok x → f x ≡ Ok y → P) → P
 then_is (Ok x) f y P h k = k x refl h
 then_is (Err e) f y P h k = absurd (cc)
 
-ok_is : {A : Type 0} (x y : A) → ◌≡◌ {A = Result A Refused} (Ok x) (Ok y) → x ≡ y
+pub ok_is : {A : Type 0} (x y : A) → ◌≡◌ {A = Result A Refused} (Ok x) (Ok y) → x ≡ y
 ok_is x y h = cc
 
 filtered_le : {A : Type 0} (p : A → Bool) (xs : List A) → length (filter p xs) ≤ length xs

@@ -1,6 +1,6 @@
 -- The rows that a change makes, row by row.
-use Rattle.std.specs.Prelude.{ℕ, List, [], ◌∷◌, ◌++◌, length, map, true, false, not, ◌&&◌, if◌then◌else◌, Option, Some, None, Result, Ok, Err, slice_get}
-use Rattle.std.specs.List.{enumerate_from}
+use Rattle.std.specs.Prelude.{◌≡◌, ℕ, Bool, List, [], ◌∷◌, ◌++◌, length, map, true, false, not, ◌&&◌, if◌then◌else◌, Option, Some, None, Result, Ok, Err, slice_get, take, nat_eq}
+use Rattle.std.specs.List.{enumerate_from, list_all, list_any}
 use Rattle.std.specs.Option.{option_map_or}
 use Rattle.mq_values.specs.Aggregate.{is_value}
 use Rattle.mq_values.specs.declared.faults.Refused.{Refused}
@@ -13,14 +13,15 @@ use Rattle.mq_ir.specs.declared.statement.Change.{Change}
 use Rattle.mq_ir.specs.declared.statement.Change.TheVariants.{Insert, Append, Update, Delete}
 use Rattle.mq_ir.specs.declared.statement.Column.{Column}
 use Rattle.mq_ir.specs.declared.statement.Schema.{Schema}
-use Rattle.mq_ir.specs.Changes.{Visited, column_value, deleted_row, inserted_row, set_values, updated_row, visited_as, with_values}
+use Rattle.mq_ir.specs.Changes.{Visited, column_value, deleted_row, inserted_row, key_fault, row_key, set_values, updated_row, visited_as, with_values}
 use Rattle.mq_ir.specs.Expression.{Outcome}
 use Rattle.mq_ir.specs.Keys.{Tuple}
 use Rattle.mq_ir.specs.Results.{◌>>=◌, each, marked}
+use Rattle.mq_ir.specs.Statement.{unless_refused}
 use Rattle.mq_ir.specs.Tables.{Table}
 use Rattle.mq_ir.specs.Unfolding.{converted}
 use Rattle.mq_tables.specs.declared.drafts.Draft.{Draft}
-use Rattle.mq_tables.specs.Staging.{new_places, place_unless_true, places_left, stays}
+use Rattle.mq_tables.specs.Staging.{Staged, new_places, place_unless_true, places_left, stays}
 
 -- a value that stands for a column, where it may be null
 abbrev pub asked_for_null : Column → Value → Result Value Refused
@@ -63,3 +64,21 @@ drafted table (Insert name rows) = each (inserted_row table.schema) (enumerate_f
 drafted table (Append name rows) = Ok (appended table.rows rows)
 drafted table (Update name sets filter) = rows_updated table.schema sets filter table.rows
 drafted table (Delete name filter) = rows_deleted filter table.rows
+
+-- no column of the key is set
+abbrev pub spares_key : List (ℕ × Expr) → List ℕ → Bool
+spares_key sets key = list_all (λ set. not (list_any (nat_eq set.0) key)) sets
+
+-- rows that a change makes of a table, where the keys of the old rows are still known
+abbrev pub KeepsKeys : Table → Change → List Tuple → Type 0
+KeepsKeys t (Insert name new) rows = take (length t.rows) rows ≡ t.rows
+KeepsKeys t (Append name new) rows = take (length t.rows) rows ≡ t.rows
+KeepsKeys t (Update name sets filter) rows = spares_key sets t.schema.key ≡ true → map (row_key t.schema) rows ≡ map (row_key t.schema) t.rows
+KeepsKeys t (Delete name filter) rows = Unit {0}
+
+-- a draft whose keys are judged
+abbrev pub staged_from : Table → Draft → Staged
+staged_from table draft = record { table = table.name; had = length table.rows; rows = draft.rows; counted = draft.counted; origins = draft.origins }
+
+abbrev pub keyed : Table → Draft → Result Staged Refused
+keyed table draft = unless_refused (key_fault table.schema draft.rows) (Ok (staged_from table draft))

@@ -1,5 +1,7 @@
 pub mod Drafts
 pub mod Held
+pub mod KeyOrder
+pub mod OldPlaces
 pub mod Rows
 pub mod Sizes
 pub mod Staging

@@ -5,7 +5,10 @@
 
 mod columns;
 mod drafts;
+mod key_order;
+mod keyed_rows;
 mod keys;
+mod laws;
 mod row_view;
 mod scopes;
 mod sizes;
@@ -14,6 +17,7 @@ mod staged;
 mod table;
 mod tables;
 
+pub use laws::old_places_ascend;
 pub use row_view::RowView;
 pub use staged::Staged;
 pub use table::Table;

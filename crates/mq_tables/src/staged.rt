@@ -2,8 +2,9 @@
 ghost use Rattle.std.specs.Prelude.{◌≡◌, ◌++◌, Some, None, map, slice_index_or};
 ghost use Rattle.std.specs.List.{range_with_len};
 
+use crate::keyed_rows::KeyedRows;
 use mq_ir::Row;
-use mq_values::{Items, Shared, Words};
+use mq_values::{Items, Words};
 use std::marker::Model;
 
 /// The rows that a table would have after a change, and where they come from. Contracts see it as `Staged` of
@@ -12,7 +13,7 @@ use std::marker::Model;
 pub struct Staged {
     pub(crate) table: Words,
     pub(crate) had: usize,
-    pub(crate) rows: Shared<Row>,
+    pub(crate) rows: KeyedRows,
     pub(crate) counted: usize,
     pub(crate) origins: Origins,
 }

@@ -1,8 +1,9 @@
 //! A table with its rows.
 ghost use Rattle.std.specs.Prelude.{◌≡◌, [], IfOk};
 
+use crate::keyed_rows::KeyedRows;
 use mq_ir::{Row, Schema, TableDef};
-use mq_values::{Memory, Shared, Words};
+use mq_values::{Memory, Words};
 use std::marker::Model;
 
 /// A table: its name, its columns, and its rows in order of insertion (docs/MEANING.md, "Changes").
@@ -10,7 +11,7 @@ use std::marker::Model;
 pub struct Table {
     name: Words,
     schema: Schema,
-    rows: Shared<Row>,
+    rows: KeyedRows,
 }
 
 impl Model for Table {
@@ -29,7 +30,7 @@ impl Table {
         Table {
             name: def.name,
             schema: def.schema,
-            rows: Shared::empty(),
+            rows: KeyedRows::empty(),
         }
     }
 
@@ -58,8 +59,15 @@ impl Table {
         self.rows.as_slice()
     }
 
+    /// The rows with their keys.
+    pub fn keyed_rows(&self) -> &KeyedRows
+        ensures { result.now ≡ self.now.rows }
+    {
+        &self.rows
+    }
+
     // Puts these rows in the place of those that stand here.
-    pub fn set_rows(&mut self, rows: Shared<Row>)
+    pub fn set_rows(&mut self, rows: KeyedRows)
         ensures { self.new ≡ record self.old { rows = rows } }
     {
         self.rows = rows;

@@ -8,11 +8,12 @@ ghost use Rattle.mq_tables.specs.Held.{HaveOwnNames, RowsFit};
 ghost use Rattle.mq_tables.specs.Rows.{row_at, rows_at};
 ghost use Rattle.mq_tables.specs.Staging.{StandsOn};
 
+use crate::keyed_rows::KeyedRows;
 use crate::row_view::RowView;
 use crate::staged::Staged;
 use crate::table::Table;
 use mq_ir::{Row, TableDef};
-use mq_values::{Memory, Shared};
+use mq_values::Memory;
 use std::alloc::Global;
 use std::marker::Model;
 
@@ -129,7 +130,7 @@ impl Tables {
 }
 
 // Puts rows into the table of this name, where there is one.
-fn put_rows(tables: &mut Vec<Table>, name: &str, rows: Shared<Row>)
+fn put_rows(tables: &mut Vec<Table>, name: &str, rows: KeyedRows)
     requires { HaveOwnNames tables.old.items }
     ensures { tables.new.items ≡ with_rows tables.old.items name.now rows }
 {

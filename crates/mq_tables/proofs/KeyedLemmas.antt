@@ -1,0 +1,96 @@
+-- Rows whose keys are kept, and new rows behind them.
+use Rattle.std.proofs.Common.{◌≡◌, ℕ, ◌+◌, ◌≤◌, List, [], ◌∷◌, ◌++◌, Bool, true, false, ◌||◌, length, map, take, drop, Option, Some, None, Result, Ok, Err, refl, sym, ap, ◌∙◌, subst}
+use Rattle.std.specs.Prelude.{◌≢◌, if◌then◌else◌}
+use Rattle.std.specs.Option.{option_map}
+use Rattle.std.proofs.lemmas.List.{map-append, take-append-drop}
+use Rattle.mq_values.specs.Answers.{Gives}
+use Rattle.mq_values.specs.declared.memory.Fail.{Fail}
+use Rattle.mq_values.specs.declared.memory.Fail.TheVariants as fail
+use Rattle.mq_values.specs.declared.faults.Refused.{Refused}
+use Rattle.mq_values.specs.declared.faults.Refused.TheVariants as refused
+use Rattle.mq_ir.specs.declared.statement.Schema.{Schema}
+use Rattle.mq_ir.specs.Changes.{first_repeated, key_fault, row_key}
+use Rattle.mq_ir.specs.Keys.{Tuple, is_among, is_same}
+use Rattle.mq_ir.specs.Statement.{unless_refused}
+use Rattle.mq_tables.specs.KeyOrder.{AreKept, AreKeys, Grows, HoldsBoth, judged, keys_by}
+use Rattle.mq_tables.proofs.KeyLemmas.{keyed_fault, no_key, repeated_alike}
+use Rattle.mq_tables.proofs.KeyOrderLemmas.{among_both, moved, or_false}
+
+-- keys of which the first ones repeat none
+behind : (earlier other a b : List Tuple) → first_repeated earlier a ≡ None → ((q : Tuple) → is_among other q ≡ (is_among a q || is_among earlier q))
+    → first_repeated earlier (a ++ b) ≡ first_repeated other b
+behind earlier other [] b n h = repeated_alike earlier other (λ q. sym (h q)) b
+behind earlier other (k ∷ a) b n h =
+    by (is_among earlier k) n (λ m. behind (k ∷ earlier) other a b m (λ q. h q ∙ moved (is_same q k) (is_among a q) (is_among earlier q)))
+  where
+    by : (t : Bool) → (if t then Some k else first_repeated (k ∷ earlier) a) ≡ None → (first_repeated (k ∷ earlier) a ≡ None → first_repeated (k ∷ earlier) (a ++ b) ≡ first_repeated other b)
+        → (if t then Some k else first_repeated (k ∷ earlier) (a ++ b)) ≡ first_repeated other b
+    by true e f = absurd (cc)
+    by false e f = f e
+
+after_known : (a b order : List Tuple) → AreKeys a order → first_repeated [] (a ++ b) ≡ first_repeated order b
+after_known a b order known = behind [] order a b known.apart (λ q. known.all q ∙ sym (or_false (is_among a q)))
+
+module _ (schema : Schema) (rows : List Tuple) (old : ℕ) where
+  abbrev pub keys : List Tuple
+  keys = map (row_key schema) rows
+
+  abbrev pub front : List Tuple
+  front = map (row_key schema) (take old rows)
+
+  abbrev pub new : List Tuple
+  new = map (row_key schema) (drop old rows)
+
+  in_parts : keys ≡ front ++ new
+  in_parts = ap (map (row_key schema)) (sym (take-append-drop old rows)) ∙ map-append (row_key schema) (take old rows) (drop old rows)
+
+  pub grown_keys : (order all : List Tuple) → AreKeys front order → (first_repeated order new ≡ None) × HoldsBoth new order all → AreKeys keys all
+  grown_keys order all known grown = record {
+    all = λ q.
+        grown.1 q
+        ∙ ap (λ b. is_among new q || b) (known.all q)
+        ∙ turned (is_among new q) (is_among front q)
+        ∙ sym (ap (λ l. is_among l q) in_parts ∙ among_both front new q);
+    apart = ap (first_repeated []) in_parts ∙ after_known front new order known ∙ grown.0;
+  }
+    where
+      turned : (a b : Bool) → (a || b) ≡ (b || a)
+      turned true true = refl
+      turned true false = refl
+      turned false b = sym (or_false b)
+
+  pub grown_refused : (order : List Tuple) (e : Refused) → schema.key ≢ [] → AreKeys front order → option_map refused.DuplicateKey (first_repeated order new) ≡ Some e → key_fault schema rows ≡ Some e
+  grown_refused order e k known h =
+      keyed_fault schema rows k ∙ ap (λ l. option_map refused.DuplicateKey (first_repeated [] l)) in_parts ∙ ap (option_map refused.DuplicateKey) (after_known front new order known) ∙ h
+
+  abbrev Behind : List Tuple → List Tuple → List Tuple → Type 0
+  Behind part order all = (first_repeated order (map (row_key schema) part) ≡ None) × HoldsBoth (map (row_key schema) part) order all
+
+  pub grown_kept : (order all part : List Tuple) → part ≡ drop old rows → AreKeys front order → Behind part order all → AreKeys keys all
+  grown_kept order all part e known grown = grown_keys order all known (subst (λ (l : List Tuple). Behind l order all) e grown)
+
+  pub grown_exit : (order part : List Tuple) (e : Fail Refused) → part ≡ drop old rows → schema.key ≢ [] → AreKeys front order → Grows order (map (row_key schema) part) (Err e)
+      → Gives {T = List Tuple} (Err e) (judged schema rows)
+  grown_exit order part (fail.Cause e) p k known h =
+      ap (λ o. unless_refused o (Ok rows)) (grown_refused order e k known (ap (λ (l : List Tuple). option_map refused.DuplicateKey (first_repeated order (map (row_key schema) l))) (sym p) ∙ h))
+  grown_exit order part fail.Memory p k known h = tt
+
+-- the keys of no row
+pub of_none : (schema : Schema) (rows : List Tuple) → AreKeys (map (row_key schema) (take 0 rows)) []
+of_none schema rows = record { all = λ q. refl; apart = refl }
+
+-- keys that are kept repeat none
+pub kept_apart : (schema : Schema) (rows order : List Tuple) → schema.key ≢ [] → AreKeys (map (row_key schema) rows) order → key_fault schema rows ≡ None
+kept_apart schema rows order k known = keyed_fault schema rows k ∙ ap (option_map refused.DuplicateKey) known.apart
+
+-- keys that are those of other rows
+pub same_kept : (schema : Schema) (rows before order : List Tuple) (columns : List ℕ) → columns ≢ [] → columns ≡ schema.key → AreKept columns before order
+    → map (row_key schema) rows ≡ map (row_key schema) before → key_fault schema rows ≡ None
+same_kept schema rows before order columns n e kept s =
+    kept_apart schema rows order (λ z. n (e ∙ z)) (subst (λ (l : List Tuple). AreKeys l order) (sym s) (subst (λ (cs : List ℕ). AreKeys (keys_by cs before) order) e (kept n)))
+
+-- keys that are kept by the columns of the key
+pub kept_front : (schema : Schema) (rows before order : List Tuple) (columns : List ℕ) (n : ℕ) → columns ≢ [] → columns ≡ schema.key → AreKept columns before order
+    → take n rows ≡ before → AreKeys (map (row_key schema) (take n rows)) order
+kept_front schema rows before order columns n d e kept s =
+    subst (λ (l : List Tuple). AreKeys (map (row_key schema) l) order) (sym s) (subst (λ (cs : List ℕ). AreKeys (keys_by cs before) order) e (kept d))
