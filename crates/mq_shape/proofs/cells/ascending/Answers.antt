@@ -1,0 +1,23 @@
+use Rattle.std.proofs.Common.{rules, of_calls, ap, ◌∙◌}
+use Rattle.std.specs.Cmp.{on_total}
+use Rattle.std.specs.Ordering.{is_lt, on}
+use Rattle.std.proofs.lemmas.Fn.{always_returns_same}
+use Rattle.std.proofs.lemmas.List.Sorted.{ranks_by}
+use Rattle.mq_values.specs.Order.{cmp_key}
+use Rattle.mq_values.specs.OrderLaws.{key_total}
+use Rattle.mq_ir.specs.Keys.{Tuple}
+use Rattle.mq_ir.specs.Partitions.{ascending}
+use Rattle.mq_shape.proofs.SortLemmas.{stable_is_ascending}
+use Rattle.mq_shape.proofs.cells.ascending.Goals as goal
+
+pub returns : goal.returns
+returns c =
+    let first = λ (row : Tuple × Tuple). row.0 in
+    let total = on_total first key_total in
+    let test = λ (a b : Tuple × Tuple). is_lt (cmp_key a.0 b.0) in
+    let weak = ranks_by total (λ k. k) in
+    let answers = always_returns_same _ _ _ (λ a r f k. search (rules, of_calls)) in
+    stable_is_ascending total c.into_vec-cells.result.items c.sort_by.new.self.items
+    (c.in_ok-sort_by.ensures.sorted test weak answers)
+    (c.in_ok-sort_by.ensures.stable test weak answers)
+    ∙ ap (ascending (on first cmp_key)) c.into_vec-cells.ensures
