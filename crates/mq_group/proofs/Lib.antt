@@ -1,0 +1,4 @@
+pub mod GroupLemmas
+pub mod ItemLemmas
+pub mod KeyLemmas
+pub mod TakingLemmas
