@@ -1,0 +1,5 @@
+pub mod ColumnLemmas
+pub mod FaultLemmas
+pub mod LookedLemmas
+pub mod PlaceLemmas
+pub mod TieLemmas

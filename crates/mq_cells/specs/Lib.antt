@@ -1,0 +1,4 @@
+pub mod Columns
+pub mod Faults
+pub mod Looked
+pub mod Stores

@@ -1,0 +1,20 @@
+//! The stores of a partition's cells: the input of a partition, and results that are put and cleared, go in.
+//! Out come what stands at a measure of a cell, how many were read, and the first fault among the results.
+//! Each store meets the one trait `Cells`, whose words stand in `specs/Stores`.
+#![tactic(auto)]
+
+mod bounds;
+mod cells;
+mod column;
+mod columns;
+mod faults;
+mod held;
+mod input;
+mod looked;
+mod plain;
+mod slots;
+
+pub use bounds::{MAX_ASSIGNMENTS, MAX_LOOKS};
+pub use cells::Cells;
+pub use looked::LookCells;
+pub use plain::PlainCells;
