@@ -1,0 +1,88 @@
+-- The parts of base rows, and where they come from.
+use Rattle.std.proofs.Common.{◌≡◌, ℕ, zero, suc, ◌+◌, ◌<◌, ◌≤◌, List, [], ◌∷◌, ◌++◌, map, length, min, take, get_or, Result, Option, Some, None, refl, sym, ap, ◌∙◌, arith}
+use Rattle.std.specs.Prelude.{slice_get, slice_index_or}
+use Rattle.std.specs.List.{filter_map, zip}
+use Rattle.std.specs.Option.{option_map, option_map_or, option_to_list, unwrap_or}
+use Rattle.std.proofs.lemmas.List.{get_or-map, get_or_default, length-map, take_more}
+use Rattle.std.proofs.lemmas.List.Elements.{filter_map-append}
+use Rattle.std.proofs.lemmas.Option.{slice_get-map, unwrap_or-slice_get}
+use Rattle.std.proofs.lemmas.Slice.Zip.{get_or-zip, length-zip}
+use Rattle.mq_ir.specs.declared.expression.Expr.{Expr}
+use Rattle.mq_ir.specs.BaseRows.{Places, rows_at}
+use Rattle.mq_ir.specs.Keys.{Tuple}
+use Rattle.mq_ir.specs.Tables.{Table, Tables, rows_of, table_at}
+use Rattle.mq_tables.specs.Rows.{rows_at as table_rows}
+use Rattle.mq_join.specs.Rows.{Joined, joined_at, part_at, places_in, rows_in}
+
+-- the rows of a table that is there, and of one that is not
+rows_or : (o : Option Table) (found : Option (List Tuple)) → option_map (λ (t : Table). t.rows) o ≡ found → option_map_or (λ (t : Table). t.rows) o [] ≡ unwrap_or found []
+rows_or None found e = ap (λ o. unwrap_or o []) e
+rows_or (Some t) found e = ap (λ o. unwrap_or o []) e
+
+pub rows_found : (tables : Tables) (name : List ℕ) (found : Option (List Tuple)) → found ≡ table_rows tables name → rows_of tables name ≡ unwrap_or found []
+rows_found tables name found e = rows_or (table_at tables name) found (sym e)
+
+-- the row and the place of a part
+pub part_row : (row : Joined) (i : ℕ) (found : Option (Tuple × ℕ)) → slice_get row i ≡ found → slice_index_or (rows_in row) i [] ≡ unwrap_or (option_map (λ (p : Tuple × ℕ). p.0) found) []
+part_row row i found e =
+    sym (unwrap_or-slice_get (rows_in row) i [])
+    ∙ ap (λ o. unwrap_or o []) (slice_get-map (λ (p : Tuple × ℕ). p.0) row i ∙ ap (option_map (λ (p : Tuple × ℕ). p.0)) e)
+
+pub part_place : (row : Joined) (i : ℕ) (found : Option (Tuple × ℕ)) → slice_get row i ≡ found → slice_index_or (places_in row) i 0 ≡ unwrap_or (option_map (λ (p : Tuple × ℕ). p.1) found) 0
+part_place row i found e =
+    sym (unwrap_or-slice_get (places_in row) i 0)
+    ∙ ap (λ o. unwrap_or o 0) (slice_get-map (λ (p : Tuple × ℕ). p.1) row i ∙ ap (option_map (λ (p : Tuple × ℕ). p.1)) e)
+
+pub joined_long : (items : List (List Tuple)) (places : Places) → length (joined_at items places) ≡ min (length items) (length places)
+joined_long items places = length-map (zip items places) part_at ∙ length-zip items places
+
+pub part_is : (items : List (List Tuple)) (places : Places) (i : ℕ) (rows : List Tuple) (place : ℕ) (d : Tuple × ℕ) → i < length items → i < length places → rows ≡ get_or items i rows → place ≡ get_or places i place
+    → (slice_index_or rows place [], place) ≡ get_or (joined_at items places) i d
+part_is items places i rows place d a b e f =
+    let within : i < length (zip items places) = omega (arith, a, b, length-zip items places) in
+    let pair : ◌≡◌ {A = List Tuple × ℕ} (get_or items i rows, get_or places i place) (rows, place) = λ j. (sym e j, sym f j) in
+    sym (get_or-map part_at (zip items places) i (rows, place) d within ∙ ap part_at (get_or-zip items places i (rows, place) a b ∙ pair))
+
+-- the row of an item in a tuple
+pub row_there : (items : List (List Tuple)) (places : Places) (k : ℕ) (rows : List Tuple) (place : ℕ) → slice_get items k ≡ Some rows → slice_get places k ≡ Some place
+    → slice_index_or (rows_at items places) k [] ≡ slice_index_or rows place []
+row_there [] places k rows place a b = absurd (cc)
+row_there (one ∷ items) [] k rows place a b = absurd (cc)
+row_there (one ∷ items) (p ∷ places) zero rows place a b = let x : one ≡ rows = cc in let y : p ≡ place = cc in λ i. slice_index_or (x i) (y i) []
+row_there (one ∷ items) (p ∷ places) (suc k) rows place a b = row_there items places k rows place a b
+
+pub no_item : (items : List (List Tuple)) (places : Places) (k : ℕ) → slice_get items k ≡ None → slice_index_or (rows_at items places) k [] ≡ []
+no_item [] places k a = refl
+no_item (one ∷ items) [] k a = refl
+no_item (one ∷ items) (p ∷ places) zero a = absurd (cc)
+no_item (one ∷ items) (p ∷ places) (suc k) a = no_item items places k a
+
+pub no_place : (items : List (List Tuple)) (places : Places) (k : ℕ) → slice_get places k ≡ None → slice_index_or (rows_at items places) k [] ≡ []
+no_place [] places k a = refl
+no_place (one ∷ items) [] k a = refl
+no_place (one ∷ items) (p ∷ places) zero a = absurd (cc)
+no_place (one ∷ items) (p ∷ places) (suc k) a = no_place items places k a
+
+-- the conditions as a loop has come to them
+one_condition : (x : Option Expr) → filter_map (λ (on : Option Expr). on) (x ∷ []) ≡ option_to_list x
+one_condition None = refl
+one_condition (Some e) = refl
+
+pub conditions_more : (ons : List (Option Expr)) (i : ℕ) (x : Option Expr) → i < length ons → x ≡ get_or ons i x
+    → filter_map (λ (on : Option Expr). on) (take (i + 1) ons) ≡ filter_map (λ (on : Option Expr). on) (take i ons) ++ option_to_list x
+conditions_more ons i x h e =
+    ap (filter_map (λ (on : Option Expr). on)) (take_more ons i x h)
+    ∙ filter_map-append (λ (on : Option Expr). on) (take i ons) (get_or ons i x ∷ [])
+    ∙ ap (λ ys. filter_map (λ (on : Option Expr). on) (take i ons) ++ ys) (one_condition (get_or ons i x))
+    ∙ ap (λ y. filter_map (λ (on : Option Expr). on) (take i ons) ++ option_to_list y) (sym e)
+
+pub placed_part : (items : List (List Tuple)) (places : Places) (i : ℕ) (rows : List Tuple) (row : Tuple) (part : Tuple × ℕ) → i < length items → i < length places → rows ≡ get_or items i rows
+    → row ≡ get_or rows (get_or places i 0) [] → part ≡ (row, get_or places i 0) → part ≡ get_or (joined_at items places) i part
+placed_part items places i rows row part a b e f g =
+    g
+    ∙ (λ j. (f j, get_or places i 0))
+    ∙ part_is items places i rows (get_or places i 0) part a b e (get_or_default places i 0 (get_or places i 0) b)
+
+-- one item more, as a loop pushes it
+pub one_pushed : {X : Type 0} (xs : List X) (i : ℕ) (before after : List X) (x : X) → i < length xs → x ≡ get_or xs i x → before ≡ take i xs → after ≡ before ++ x ∷ [] → after ≡ take (i + 1) xs
+one_pushed xs i before after x h e b a = a ∙ ap (λ ys. ys ++ x ∷ []) b ∙ (λ j. take i xs ++ e j ∷ []) ∙ sym (take_more xs i x h)

@@ -1,0 +1,14 @@
+//! The base rows of a query: its FROM items, its ON conditions and WHERE over tables.
+//! The FROM part of a query and tables go in; out come its base rows, which lend the values of the tables, or the first fault.
+//! They are exactly the base rows of mq_ir's `specs/BaseRows`, for every FROM part and all tables.
+#![tactic(auto)]
+
+mod conditions;
+mod from_items;
+mod join_row;
+mod query_rows;
+mod tuple_scope;
+mod walk;
+
+pub use join_row::JoinRow;
+pub use query_rows::{base_rows, base_rows_in, lend_rows, lend_rows_in};

@@ -1,0 +1,121 @@
+//! The base rows of a query over tables.
+ghost use Rattle.std.specs.Prelude.{◌≡◌, map, IfOk};
+ghost use Rattle.mq_values.specs.Answers.{Gives, result_map};
+ghost use Rattle.mq_ir.specs.Answer.{plain_fault as spec_plain_fault};
+ghost use Rattle.mq_ir.specs.BaseRows.{base_rows as spec_base_rows, items_of as spec_items_of};
+ghost use Rattle.mq_ir.specs.Results.{marked};
+ghost use Rattle.mq_join.specs.Rows.{joined_at, joined_rows, rows_in, rows_over as spec_rows_over};
+
+use crate::conditions::conditions_of;
+use crate::from_items::{ItemRows, items_of};
+use crate::join_row::{JoinRow, joined};
+use crate::walk::rows_behind;
+use mq_ir::FromPart;
+use mq_tables::{TableSet, Tables};
+use mq_values::{Fail, FaultKind, Items, Key, Memory, QueryFault};
+use std::alloc::Global;
+
+/// The base rows of a query over these tables, in order: all tuples of a row for each FROM item for which every ON and
+/// then WHERE is true, the first item turning slowest. A table that is not there has no rows. The first value fault of
+/// a condition is the answer, or TOO_MANY_ROWS where there are more than `MAX_BASE_ROWS`, whichever comes first on the
+/// walk over all tuples (docs/MEANING.md, "Base rows").
+pub fn base_rows_in<'a, T: TableSet>(
+    alloc: Global,
+    q: &FromPart,
+    t: &'a T,
+) -> Result<Vec<JoinRow<'a>>, Fail<QueryFault>>
+    ensures exact { Gives (result_map (λ rows. map rows_in rows.items) result) (marked (spec_plain_fault 0) (spec_base_rows (T.tables t.now) q.now)) }
+    ensures joined { Gives (result_map (λ rows. rows.items) result) (marked (spec_plain_fault 0) (joined_rows (T.tables t.now) q.now)) }
+{
+    let items = items_of(alloc, q, t)?;
+    match rows_over(alloc, q, items.as_slice()) {
+        Ok(rows) => Ok(rows.into_vec()),
+        Err(Fail::Cause(kind)) => Err(Fail::Cause(plain_fault(kind))),
+        Err(Fail::Memory) => Err(Fail::Memory),
+    }
+}
+
+/// The same over the tables that stand between two statements.
+pub fn base_rows<'a>(
+    alloc: Global,
+    q: &FromPart,
+    t: &'a Tables,
+) -> Result<Vec<JoinRow<'a>>, Fail<QueryFault>>
+    ensures exact { Gives (result_map (λ rows. map rows_in rows.items) result) (marked (spec_plain_fault 0) (spec_base_rows t.now q.now)) }
+    ensures joined { Gives (result_map (λ rows. rows.items) result) (marked (spec_plain_fault 0) (joined_rows t.now q.now)) }
+{
+    base_rows_in(alloc, q, t)
+}
+
+/// The rows at these places of the FROM items, as base rows. A place that is not there stands for an empty row.
+/// `Memory` is the only error.
+pub fn lend_rows_in<'a, T: TableSet>(
+    alloc: Global,
+    q: &FromPart,
+    rows: &[Items<u32>],
+    t: &'a T,
+) -> Result<Vec<JoinRow<'a>>, Memory>
+    ensures { IfOk result (λ lent. lent.items ≡ map (joined_at (spec_items_of (T.tables t.now) q.now)) rows.now) }
+{
+    let items = items_of(alloc, q, t)?;
+    let mut lent = Vec::with_capacity(alloc, rows.len())?;
+    'rows: for places in rows {
+        let places = wide_places(alloc, places.as_slice())?;
+        lent.push(joined(alloc, items.as_slice(), &places)?)?;
+    }
+    Ok(lent)
+}
+
+/// The same over the tables that stand between two statements.
+pub fn lend_rows<'a>(
+    alloc: Global,
+    q: &FromPart,
+    rows: &[Items<u32>],
+    t: &'a Tables,
+) -> Result<Vec<JoinRow<'a>>, Memory>
+    ensures { IfOk result (λ lent. lent.items ≡ map (joined_at (spec_items_of t.now q.now)) rows.now) }
+{
+    lend_rows_in(alloc, q, rows, t)
+}
+
+// The base rows over the rows of the FROM items.
+fn rows_over<'a>(
+    alloc: Global,
+    q: &FromPart,
+    items: &[ItemRows<'a>],
+) -> Result<Items<JoinRow<'a>>, Fail<FaultKind>>
+    ensures { Gives result (spec_rows_over q.now items.now) }
+{
+    let conditions = conditions_of(alloc, q)?;
+    let mut tuple = Vec::with_capacity(alloc, items.len())?;
+    rows_behind(
+        alloc,
+        conditions.as_slice(),
+        items,
+        &mut tuple,
+        Items::new(alloc),
+    )
+}
+
+// A fault outside of rules, partitions and cells.
+fn plain_fault(kind: FaultKind) -> QueryFault
+    ensures { result ≡ spec_plain_fault 0 kind }
+{
+    QueryFault {
+        kind,
+        rule: 0,
+        partition: Key::empty(),
+        cell: Key::empty(),
+    }
+}
+
+// The same places in the width of the machine.
+fn wide_places(alloc: Global, places: &[u32]) -> Result<Vec<usize>, Memory>
+    ensures { IfOk result (λ wide. wide.items ≡ places.now) }
+{
+    let mut wide = Vec::with_capacity(alloc, places.len())?;
+    'places: for place in places {
+        wide.push(*place as usize)?;
+    }
+    Ok(wide)
+}
