@@ -1,0 +1,5 @@
+pub mod KeyLemmas
+pub mod ListLemmas
+pub mod LookLaws
+pub mod SightLemmas
+pub mod SlotLemmas

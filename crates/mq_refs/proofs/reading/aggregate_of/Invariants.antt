@@ -1,0 +1,16 @@
+use Rattle.std.proofs.Common.{◌≡◌, drop, map}
+use Rattle.std.specs.List.{filter}
+use Rattle.mq_values.specs.Aggregate.{aggregate}
+use Rattle.mq_ir.specs.Targets.{meets_every}
+use Rattle.mq_reads.specs.Aggregation.{comes_to}
+use Rattle.mq_cells.specs.Stores.{cell_name}
+use Rattle.mq_refs.specs.Sightings.{value_seen}
+use Rattle.mq_refs.proofs.reading.aggregate_of.Given as goal
+
+abbrev pub invariant-loop-key : goal.invariant-loop-key
+invariant-loop-key l = record {
+  same : l.seen ≡ l.fn.seen;
+  meant :
+      comes_to l.aggregation (map (λ key. value_seen l.fn.seen (cell_name key l.measure)) (filter (meets_every l.tests) (drop l.key-index l.set)))
+      ≡ aggregate l.fn.agg (map (λ key. value_seen l.fn.seen (cell_name key l.measure)) (filter (meets_every l.tests) l.set));
+}

@@ -1,0 +1,3 @@
+pub mod LookLists
+pub mod Sightings
+pub mod Sites

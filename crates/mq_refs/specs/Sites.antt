@@ -1,0 +1,36 @@
+-- Where a right side stands, and the names that its references give to cells.
+use Rattle.std.specs.Prelude.{ℕ, List, Option, Some, None, Result, Ok, Err}
+use Rattle.std.specs.List.{zip}
+use Rattle.mq_values.specs.declared.faults.ValueFault.{ValueFault}
+use Rattle.mq_values.specs.declared.operators.DimTest.{DimTest}
+use Rattle.mq_values.specs.declared.value.Kind.{Kind}
+use Rattle.mq_values.specs.declared.value.Value.{Value}
+use Rattle.mq_ir.specs.declared.expression.Expr.{Expr}
+use Rattle.mq_ir.specs.declared.expression.Test.{Test}
+use Rattle.mq_ir.specs.Keys.{Tuple}
+use Rattle.mq_ir.specs.Reads.{Site, cell_named, inner_leaves}
+use Rattle.mq_ir.specs.Results.{each}
+use Rattle.mq_ir.specs.Slots.{site_in}
+use Rattle.mq_ir.specs.Tests.{converted, test_of}
+use Rattle.mq_ir.specs.Unfolding.{model_of}
+use Rattle.mq_refs.specs.declared.standpoint.Standpoint.{Standpoint}
+
+-- where a right side stands, as definitions have it
+abbrev pub site_of : Standpoint → Site
+site_of at = site_in (model_of at.model.now) at.shape.now at.turn at.target.now
+
+-- an index of a single cell, and a place of a range, with the kind of its dimension beside it
+abbrev pub index_named : Site → Kind × Expr → Result Value ValueFault
+index_named site (kind, e) = converted (inner_leaves site) kind e
+
+abbrev pub place_tested : Site → Kind × Test → Result DimTest ValueFault
+place_tested site (kind, place) = test_of (inner_leaves site) kind place
+
+-- the tests of a range, their operands evaluated
+abbrev pub tests_named : Site → List Kind → List Test → Result (List DimTest) ValueFault
+tests_named site kinds places = each (place_tested site) (zip kinds places)
+
+-- what is named, where nothing faults on the way
+abbrev pub if_named : {A : Type 0} → Result A ValueFault → Option A
+if_named (Ok name) = Some name
+if_named (Err fault) = None

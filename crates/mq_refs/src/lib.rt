@@ -1,0 +1,19 @@
+//! The right sides of rules: a rule, a target, a turn and the shape of a partition go in.
+//! Out come what the target looks at, and, over the cells as they are, its value, its fault, or that it is poisoned.
+//! They are the looks and the slot of mq_ir's `specs/Looks` and `specs/Slots`.
+#![tactic(auto)]
+
+mod inside;
+mod looks;
+mod names;
+mod reading;
+mod references;
+mod seen;
+mod sighting;
+mod sights;
+mod standpoint;
+mod targets;
+mod walk;
+
+pub use looks::looks_of;
+pub use targets::eval_cell;

@@ -1,0 +1,82 @@
+//! What a rule makes of a target.
+ghost use Rattle.std.specs.Prelude.{◌≡◌, ◌+◌, ◌≤◌, IfOk};
+ghost use Rattle.mq_values.specs.Answers.{Gives};
+ghost use Rattle.mq_ir.specs.Looks as looks;
+ghost use Rattle.mq_ir.specs.Reads as spec;
+ghost use Rattle.mq_ir.specs.Slots.{cell_slot, site_in, slot_of};
+ghost use Rattle.mq_ir.specs.Unfolding.{model_of};
+ghost use Rattle.mq_cells.specs.Stores.{slot_at};
+ghost use Rattle.mq_refs.specs.Sightings as sightings;
+ghost use Rattle.mq_refs.specs.Sightings.{measures_in};
+ghost use Rattle.mq_refs.specs.Sites.{site_of};
+
+use crate::looks::looks_from;
+use crate::reading::Reading;
+use crate::references::kind_in;
+use crate::seen::Seen;
+use crate::sights::seen_at;
+use crate::standpoint::Standpoint;
+use mq_cells::Cells;
+use mq_ir::{Model, PartShape, Rule, Slot, reads_are_among_looks};
+use mq_scalar::eval;
+use mq_values::{Fail, Key, Memory, Value, ValueFault, cast};
+use std::alloc::Global;
+
+/// What rule `r` makes of `target` in turn `turn`, over the cells of `s` and what stands in `cells`: `Poisoned` where a
+/// measure that the right side looks at has no value, else the value of the right side, converted to the kind of the
+/// rule's measure, or its fault. A cell is in the input exactly where `s.base` has it (docs/MEANING.md, "Reads"). No more
+/// is read than the measures among the looks, and nothing is changed. `Memory` is the only error.
+pub fn eval_cell<C: Cells>(
+    alloc: Global,
+    r: &Rule,
+    m: &Model<'_>,
+    target: &Key,
+    turn: u32,
+    s: &PartShape,
+    cells: &mut C,
+) -> Result<Slot, Memory>
+    ensures exact { IfOk result (λ slot. slot
+        ≡ cell_slot (model_of m.now) s.now turn r.now target.now (slot_at (C.input cells.old) (C.results cells.old))) }
+    ensures reads { C.looks cells.new
+        ≤ C.looks cells.old + measures_in (looks.looks_of (site_in (model_of m.now) s.now turn target.now) r.now.right) }
+    ensures same_input { C.input cells.new ≡ C.input cells.old }
+    ensures same_results { C.results cells.new ≡ C.results cells.old }
+{
+    let at = Standpoint {
+        model: m,
+        shape: s,
+        target,
+        turn,
+    };
+    reads_are_among_looks();
+    let looks = looks_from(alloc, &at, &r.right)?;
+    match seen_at(alloc, looks.as_slice(), cells)? {
+        Some(sightings) => slot_over(alloc, &at, r, Seen::new(sightings)),
+        None => Ok(Slot::Poisoned),
+    }
+}
+
+// The value of a right side over what was seen, or its fault.
+fn slot_over(alloc: Global, at: &Standpoint<'_>, r: &Rule, seen: Seen) -> Result<Slot, Memory>
+    ensures { IfOk result (λ slot. slot ≡ slot_of (spec.right_value (site_of at.now) at.now.shape.now.base (sightings.value_seen seen) r.now)) }
+{
+    match right_value(alloc, at, r, seen) {
+        Ok(v) => Ok(Slot::Done(v)),
+        Err(Fail::Cause(fault)) => Ok(Slot::Faulted(fault)),
+        Err(Fail::Memory) => Err(Memory),
+    }
+}
+
+fn right_value(
+    alloc: Global,
+    at: &Standpoint<'_>,
+    r: &Rule,
+    seen: Seen,
+) -> Result<Value, Fail<ValueFault>>
+    ensures { Gives result (spec.right_value (site_of at.now) at.now.shape.now.base (sightings.value_seen seen) r.now) }
+{
+    let mut reading = Reading { at: &*at, seen };
+    let v = eval(alloc, &r.right, &mut reading)?;
+    let kind = kind_in(at.model.part.measures.as_slice(), r.measure);
+    cast(alloc, &v, kind)
+}
