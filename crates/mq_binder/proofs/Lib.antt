@@ -1,0 +1,4 @@
+mod GatherLemmas
+mod NumberLemmas
+mod PresenceLemmas
+mod StepLemmas

@@ -23,7 +23,7 @@ use Rattle.mq_binder.specs.CellNodes.{agg_node, cell_node, count_all_node, range
 use Rattle.mq_binder.specs.RuleNodes.{cv_node, presentnnv_node, presentv_node, present_node, previous_node, turn_node}
 use Rattle.mq_binder.specs.ExpressionParts.{all_are, all_found, arms_are, index_found, indices_are, prod_found, prods_are, sum_found, sums_are, test_found, tests_are}
 use Rattle.mq_binder.specs.ExpressionRolls.{arm_found, bound_roll}
-use Rattle.mq_binder.specs.ExpressionLayers.{Meaning}
+use Rattle.mq_binder.specs.ExpressionVisits.{Meaning}
 use Rattle.mq_binder.specs.Steps.{each_from}
 use Rattle.mq_binder.specs.ExpressionWalk.{bound}
 use Rattle.mq_binder.specs.Misuses.{any_inside_place}

@@ -20,7 +20,8 @@ use Rattle.mq_binder.specs.declared.scopes.Owner.{Owner}
 use Rattle.mq_binder.specs.declared.scopes.Owner.TheVariants as owner
 use Rattle.mq_binder.specs.declared.scopes.Position.{Position}
 use Rattle.mq_binder.specs.declared.scopes.Scope.{Scope}
-use Rattle.mq_binder.specs.ExpressionLayers.{ArmMeaning, ELayer, Meaning, PlaceMeaning, index_at, layer_arm, layer_bound, layer_place, layer_prod, layer_sum, test_at, visited, visited_arms, visited_prods, visited_sums}
+use Rattle.mq_binder.specs.ExpressionLayers.{layer_arm, layer_bound, layer_place, layer_prod, layer_sum}
+use Rattle.mq_binder.specs.ExpressionVisits.{ArmMeaning, ELayer, Meaning, PlaceMeaning, index_at, test_at, visited, visited_arms, visited_prods, visited_sums}
 use Rattle.mq_binder.specs.Steps.{each_from}
 use Rattle.mq_binder.specs.ExpressionWalk.{bound}
 use Rattle.mq_binder.specs.FunctionNodes.{ArmFound}

@@ -31,7 +31,8 @@ use Rattle.mq_binder.specs.OperatorNodes.{and_node, between_node, cast_node, cmp
 use Rattle.mq_binder.specs.PlaceTests.{index_of, place_of, placed}
 use Rattle.mq_binder.specs.Positions.{aggregated, bracketed, inner, owner_of, place_kind}
 use Rattle.mq_binder.specs.Refusals.{kind_mismatch, refused_where}
-use Rattle.mq_binder.specs.ExpressionLayers.{Meaning, PlaceMeaning, ArmMeaning, layer_bound, layer_place, layer_arm, layer_prod, layer_sum}
+use Rattle.mq_binder.specs.ExpressionLayers.{layer_bound, layer_place, layer_arm, layer_prod, layer_sum}
+use Rattle.mq_binder.specs.ExpressionVisits.{Meaning, PlaceMeaning, ArmMeaning}
 
 -- What an expression is bound to where it stands, or the first offence in it.
 unfoldable pub bound : Scope → E → Meaning

@@ -8,6 +8,7 @@ pub mod ExpressionLaws
 pub mod ExpressionLayers
 pub mod ExpressionParts
 pub mod ExpressionRolls
+pub mod ExpressionVisits
 pub mod ExpressionWalk
 pub mod ForWalk
 pub mod FormLaws
@@ -23,11 +24,13 @@ pub mod ModelWalk
 pub mod NameNodes
 pub mod Names
 pub mod OperatorKinds
+pub mod OperatorLaws
 pub mod OperatorNodes
 pub mod PlaceLaws
 pub mod PlaceTests
 pub mod PlainWalk
 pub mod Positions
+pub mod PresenceForms
 pub mod QueryWalk
 pub mod ReferenceWalk
 pub mod Refusals

@@ -3,14 +3,30 @@
 //! A tree without offence has one bound form.
 #![tactic(auto)]
 
+mod case_parts;
+mod cell_nodes;
+mod dimensions;
+mod forms;
 mod found;
+mod founds;
+mod function_nodes;
 mod kinds;
+mod lists;
 mod misuse_numbers;
 mod misuses;
+mod name_nodes;
 mod names;
+mod operator_nodes;
+mod plain;
 mod positions;
+mod presence_nodes;
 mod refusals;
+mod rule_nodes;
 mod scopes;
+mod sources;
+mod tables;
+mod threes;
+mod trees;
 mod values;
 
 pub use found::{

@@ -1,0 +1,27 @@
+-- Loops that hand a state from step to step.
+use Rattle.std.proofs.Common.{◌≡◌, ℕ, ◌+◌, ◌<◌, ◌≤◌, List, drop, length, get_or, Result, Ok, Err, refl, ap, ◌∙◌}
+use Rattle.std.proofs.lemmas.List.{drop_all}
+use Rattle.mq_values.specs.Answers.{Gives}
+use Rattle.mq_values.specs.declared.memory.Fail.{Fail}
+use Rattle.mq_ir.specs.Results.{◌>>=◌, each_in_turn}
+use Rattle.mq_binder.proofs.StepLemmas.{fault_is_last, next_item}
+
+-- `each_in_turn`: the state behind the first i items
+pub record Turned {A S E : Type 0} (f : A → S → Result S E) (first : S) (xs : List A) (i : ℕ) (now : S) : Type 0 where
+  pub is : each_in_turn f xs first ≡ each_in_turn f (drop i xs) now
+
+pub turn_start : {A S E : Type 0} (f : A → S → Result S E) (first : S) (xs : List A) → Turned f first xs 0 first
+turn_start f first xs = record { is = refl }
+
+pub turn_next : {A S E : Type 0} (f : A → S → Result S E) (first : S) (xs : List A) (i : ℕ) (now : S) (x : A) (after : S) → i < length xs → x ≡ get_or xs i x → f x now ≡ Ok after → Turned f first xs i now → Turned f first xs (i + 1) after
+turn_next f first xs i now x after h e g w = record {
+  is = w.is ∙ ap (λ l. each_in_turn f l now) (next_item xs i x h e) ∙ ap (λ o. o >>= each_in_turn f (drop (i + 1) xs)) g;
+}
+
+pub turn_end : {A S E : Type 0} (f : A → S → Result S E) (first : S) (xs : List A) (i : ℕ) (now : S) → length xs ≤ i → Turned f first xs i now → each_in_turn f xs first ≡ Ok now
+turn_end f first xs i now h w = w.is ∙ ap (λ l. each_in_turn f l now) (drop_all i xs h)
+
+pub turn_exit : {A S E : Type 0} (f : A → S → Result S E) (first : S) (xs : List A) (i : ℕ) (now : S) (x : A) (e : Fail E) → i < length xs → x ≡ get_or xs i x → Turned f first xs i now → Gives {T = S} (Err e) (f x now) → Gives {T = S} (Err e) (each_in_turn f xs first)
+turn_exit f first xs i now x e h at w g =
+    fault_is_last (f x now) (each_in_turn f xs first) e g
+    (λ fault is. w.is ∙ ap (λ l. each_in_turn f l now) (next_item xs i x h at) ∙ ap (λ o. o >>= each_in_turn f (drop (i + 1) xs)) is)

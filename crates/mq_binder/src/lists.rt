@@ -1,0 +1,207 @@
+//! The lists of a model or a reference: partition columns, dimensions and measures, and its options
+//! (docs/LANGUAGE.md, "The order of binding").
+
+ghost use Rattle.std.specs.Prelude.{◌≡◌, ◌++◌, filter, length, IfOk, OnOk, Some};
+ghost use Rattle.std.specs.List.{list_any};
+ghost use Rattle.mq_values.specs.Answers.{Gives};
+ghost use Rattle.mq_binder.specs.ListWalk as spec;
+
+use crate::found::ListItem;
+use crate::kinds::column_kind;
+use crate::refusals::{duplicate_name, limit, mismatch};
+use crate::scopes::{Found, Named};
+use crate::tables::has_name;
+use mq_ast::Opt;
+use mq_ir::Expr;
+use mq_values::{Fail, Items, Kind, Memory, Refused, Words};
+use std::alloc::Global;
+
+fn item_kind(f: &Found) -> Result<Kind, Fail<Refused>>
+    ensures { Gives result (spec.item_kind f.now) }
+{
+    match column_kind(f.kind) {
+        Some(kind) => Ok(kind),
+        None => Err(mismatch()),
+    }
+}
+
+fn list_item_of(f: Found, name: Words, kind: Kind) -> ListItem
+    ensures { result ≡ record { e = f.e; column = record { name = name; kind = f.kind }; kind = kind } }
+{
+    ListItem {
+        column: Named { name, kind: f.kind },
+        e: f.e,
+        kind,
+    }
+}
+
+/// An item of a list that has a name, behind items of these names: its name is new, and it has a kind.
+pub fn item_named(taken: &[Words], name: Words, f: Found) -> Result<ListItem, Fail<Refused>>
+    ensures { Gives result (spec.item_checked taken.now (Some name) f) }
+{
+    if has_name(taken, &name) {
+        return Err(duplicate_name(name));
+    }
+    let kind = item_kind(&f)?;
+    Ok(list_item_of(f, name, kind))
+}
+
+/// The same names once more.
+pub fn same_names(alloc: Global, names: &[Words]) -> Result<Items<Words>, Memory>
+    ensures { IfOk result (λ copies. copies ≡ names.now) }
+{
+    let mut copies = Items::new(alloc);
+    'names: for name in names {
+        copies.push(name.copy()?)?;
+    }
+    Ok(copies)
+}
+
+/// A list that is no longer than this, or the limit of this number.
+pub fn limited<T: Drop>(
+    most: usize,
+    number: u32,
+    items: Items<T>,
+) -> Result<Items<T>, Fail<Refused>>
+    ensures { Gives result (spec.limited most number items) }
+{
+    if items.len() > most {
+        return Err(limit(number));
+    }
+    Ok(items)
+}
+
+/// The expressions of the items, in order.
+pub fn list_exprs(alloc: Global, items: Items<ListItem>) -> Result<Items<Expr>, Memory>
+    ensures { IfOk result (λ es. es ≡ spec.list_exprs items) }
+{
+    let mut es = Items::new(alloc);
+    'items: for item in items.into_vec() {
+        es.push(item.e)?;
+    }
+    Ok(es)
+}
+
+fn same_column(column: &Named) -> Result<Named, Memory>
+    ensures { IfOk result (λ copy. copy ≡ column.now) }
+{
+    Ok(Named {
+        name: column.name.copy()?,
+        kind: column.kind,
+    })
+}
+
+/// Their columns.
+pub fn list_columns(alloc: Global, items: &[ListItem]) -> Result<Items<Named>, Memory>
+    ensures { IfOk result (λ columns. columns ≡ spec.list_columns items.now) }
+{
+    let mut columns = Items::new(alloc);
+    'items: for item in items {
+        columns.push(same_column(&item.column)?)?;
+    }
+    Ok(columns)
+}
+
+/// Puts their kinds behind others.
+pub fn push_kinds(kinds: &mut Items<Kind>, items: &[ListItem]) -> Result<(), Memory>
+    ensures { OnOk result (kinds.new ≡ kinds.old ++ spec.list_kinds items.now) }
+{
+    'items: for item in items {
+        kinds.push(item.kind)?;
+    }
+    Ok(())
+}
+
+/// Their kinds.
+pub fn list_kinds(alloc: Global, items: &[ListItem]) -> Result<Items<Kind>, Memory>
+    ensures { IfOk result (λ kinds. kinds ≡ spec.list_kinds items.now) }
+{
+    let mut kinds = Items::new(alloc);
+    push_kinds(&mut kinds, items)?;
+    Ok(kinds)
+}
+
+/// Puts their names behind others.
+pub fn push_names(names: &mut Items<Words>, items: &[ListItem]) -> Result<(), Memory>
+    ensures { OnOk result (names.new ≡ names.old ++ spec.list_names items.now) }
+{
+    'items: for item in items {
+        names.push(item.column.name.copy()?)?;
+    }
+    Ok(())
+}
+
+/// Their names.
+pub fn list_names(alloc: Global, items: &[ListItem]) -> Result<Items<Words>, Memory>
+    ensures { IfOk result (λ names. names ≡ spec.list_names items.now) }
+{
+    let mut names = Items::new(alloc);
+    push_names(&mut names, items)?;
+    Ok(names)
+}
+
+fn is_nav(option: Opt) -> bool
+    ensures { result ≡ spec.is_nav option }
+{
+    match option {
+        Opt::UniqueDimension => false,
+        Opt::IgnoreNav | Opt::KeepNav => true,
+    }
+}
+
+fn is_unique(option: Opt) -> bool
+    ensures { result ≡ spec.is_unique option }
+{
+    !is_nav(option)
+}
+
+fn is_ignore(option: Opt) -> bool
+    ensures { result ≡ spec.is_ignore option }
+{
+    match option {
+        Opt::IgnoreNav => true,
+        Opt::UniqueDimension | Opt::KeepNav => false,
+    }
+}
+
+fn count_nav(opts: &[Opt]) -> usize
+    ensures { result ≡ length (filter spec.is_nav opts.now) }
+{
+    opts.iter().filter(|o| is_nav(**o)).count()
+}
+
+fn count_unique(opts: &[Opt]) -> usize
+    ensures { result ≡ length (filter spec.is_unique opts.now) }
+{
+    opts.iter().filter(|o| is_unique(**o)).count()
+}
+
+/// IGNORE NAV and KEEP NAV in one list, or one option twice.
+pub fn options_clash(opts: &[Opt]) -> bool
+    ensures { result ≡ spec.options_clash opts.now }
+{
+    count_nav(opts) > 1 || count_unique(opts) > 1
+}
+
+fn any_nav(opts: &[Opt]) -> bool
+    ensures { result ≡ list_any spec.is_nav opts.now }
+{
+    opts.iter().any(|o| is_nav(*o))
+}
+
+fn any_ignore(opts: &[Opt]) -> bool
+    ensures { result ≡ list_any spec.is_ignore opts.now }
+{
+    opts.iter().any(|o| is_ignore(*o))
+}
+
+/// Whether NAV is ignored: by the own option, else by the one around it.
+pub fn ignores_nav(opts: &[Opt], around: bool) -> bool
+    ensures { result ≡ spec.ignores_nav opts.now around }
+{
+    if any_nav(opts) {
+        any_ignore(opts)
+    } else {
+        around
+    }
+}
