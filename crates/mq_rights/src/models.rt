@@ -19,7 +19,7 @@ pub(crate) struct Reference {
 }
 
 /// NAV, the kinds of dimensions and those of measures, with tabs between them.
-pub(crate) fn reference(alloc: Global, text: &str) -> Read<Reference> {
+pub(crate) fn described(alloc: Global, text: &str) -> Read<Reference> {
     let Some((nav, rest)) = text.split_once('\t') else {
         return no_tree();
     };

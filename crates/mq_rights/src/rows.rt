@@ -1,6 +1,6 @@
 //! A row of the table: what is asked, and of what, with tabs between them.
 
-use crate::models::{arrays, cell, model, reference, rule};
+use crate::models::{arrays, cell, described, model, rule};
 use crate::scene::Scene;
 use crate::shows::{add_looks, add_slot};
 use crate::stores;
@@ -72,7 +72,7 @@ fn changed(alloc: Global, scene: &mut Scene, asked: &str, text: &str) -> Read<()
 // A reference, or a cell of the last one.
 fn referred(alloc: Global, scene: &mut Scene, asked: &str, text: &str) -> Read<()> {
     match asked {
-        "reference" => Ok(scene.references.push(reference(alloc, text)?)?),
+        "reference" => Ok(scene.references.push(described(alloc, text)?)?),
         "reference-cell" => {
             let cell = cell(alloc, text)?;
             match scene.references.last_mut() {
