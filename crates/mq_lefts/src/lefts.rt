@@ -1,7 +1,7 @@
 //! Left sides as the table writes them: places with a bar between them, each with its word in front, or one FOR over several
 //! dimensions.
 
-use mq_ir::{Left, LeftItem, ListSource};
+use mq_ir::{Expr, Left, LeftItem, ListSource};
 use mq_notation::expressions::{expression, place_test};
 use mq_notation::leaves::Numbered;
 use mq_notation::lists::{expression_rows, expressions};
@@ -77,15 +77,25 @@ fn steps(alloc: Global, text: &str, down: bool) -> Read<Boxed<LeftItem>> {
     let Some((second, third)) = rest.split_once(" , ") else {
         return no_tree();
     };
-    let start = expression(alloc, &Numbered, first)?.into_inner();
-    let stop = expression(alloc, &Numbered, second)?.into_inner();
-    let step = expression(alloc, &Numbered, third)?.into_inner();
+    let start = expression(alloc, &Numbered, first)?;
+    let stop = expression(alloc, &Numbered, second)?;
+    let step = expression(alloc, &Numbered, third)?;
+    stepped(alloc, start, stop, step, down)
+}
+
+fn stepped(
+    alloc: Global,
+    start: Boxed<Expr>,
+    stop: Boxed<Expr>,
+    step: Boxed<Expr>,
+    down: bool,
+) -> Read<Boxed<LeftItem>> {
     made(
         alloc,
         LeftItem::Steps {
-            start,
-            stop,
-            step,
+            start: start.into_inner(),
+            stop: stop.into_inner(),
+            step: step.into_inner(),
             down,
         },
     )
