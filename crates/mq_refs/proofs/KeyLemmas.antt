@@ -1,5 +1,5 @@
 -- A search that finds a key, whether or not the keys ascend.
-use Rattle.std.proofs.Common.{◌≡◌, ℕ, List, true, get_or, length, Result, Ok, Err, Ordering, is_eq, sym, ap, ◌∙◌}
+use Rattle.std.proofs.Common.{◌≡◌, ℕ, List, true, get_or, length, Result, Ok, Err, is_eq, sym, ap, ◌∙◌}
 use Rattle.std.specs.List.Sorted.{IsBinarySearchResult, IsSearchInRange}
 use Rattle.std.proofs.lemmas.Option.{slice_get-get_or}
 use Rattle.std.proofs.lemmas.Map.Keys.{any_passes_from_place}

@@ -1,5 +1,6 @@
 pub mod KeyLemmas
 pub mod ListLemmas
 pub mod LookLaws
+pub mod OrderLemmas
 pub mod SightLemmas
 pub mod SlotLemmas

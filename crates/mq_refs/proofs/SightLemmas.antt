@@ -1,6 +1,5 @@
 -- What was seen at looks is what stands there.
 use Rattle.std.proofs.Common.{◌≡◌, ℕ, zero, suc, ◌<◌, List, [], ◌∷◌, Bool, true, false, ◌&&◌, ◌||◌, ◌==◌, eqb, cond, length, get_or, refl, sym, ap, ◌∙◌, arith}
-use Rattle.std.specs.List.{All}
 use Rattle.std.specs.Ordering.{is_eq}
 use Rattle.std.specs.Cmp.{first_so, second_so, unsigned_Decides}
 use Rattle.std.specs.declared.cmp.Ordering.{Ordering}

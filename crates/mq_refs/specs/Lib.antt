@@ -1,3 +1,4 @@
 pub mod LookLists
+pub mod Orders
 pub mod Sightings
 pub mod Sites

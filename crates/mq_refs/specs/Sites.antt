@@ -1,5 +1,5 @@
 -- Where a right side stands, and the names that its references give to cells.
-use Rattle.std.specs.Prelude.{ℕ, List, Option, Some, None, Result, Ok, Err}
+use Rattle.std.specs.Prelude.{List, Option, Some, None, Result, Ok, Err}
 use Rattle.std.specs.List.{zip}
 use Rattle.mq_values.specs.declared.faults.ValueFault.{ValueFault}
 use Rattle.mq_values.specs.declared.operators.DimTest.{DimTest}
@@ -7,8 +7,7 @@ use Rattle.mq_values.specs.declared.value.Kind.{Kind}
 use Rattle.mq_values.specs.declared.value.Value.{Value}
 use Rattle.mq_ir.specs.declared.expression.Expr.{Expr}
 use Rattle.mq_ir.specs.declared.expression.Test.{Test}
-use Rattle.mq_ir.specs.Keys.{Tuple}
-use Rattle.mq_ir.specs.Reads.{Site, cell_named, inner_leaves}
+use Rattle.mq_ir.specs.Reads.{Site, inner_leaves}
 use Rattle.mq_ir.specs.Results.{each}
 use Rattle.mq_ir.specs.Slots.{site_in}
 use Rattle.mq_ir.specs.Tests.{converted, test_of}

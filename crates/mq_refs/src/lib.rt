@@ -6,6 +6,7 @@
 mod inside;
 mod looks;
 mod names;
+mod order;
 mod reading;
 mod references;
 mod seen;
@@ -16,4 +17,5 @@ mod targets;
 mod walk;
 
 pub use looks::looks_of;
-pub use targets::eval_cell;
+pub use order::{InOrder, arrays_ascend, keys_ascend};
+pub use targets::{eval_cell, eval_cell_in};

@@ -1,5 +1,5 @@
 //! What the leaves of a right side are worth, over the values that were seen at its looks.
-ghost use Rattle.std.specs.Prelude.{◌≡◌, map};
+ghost use Rattle.std.specs.Prelude.{◌≡◌, true, map};
 ghost use Rattle.std.specs.List.{filter};
 ghost use Rattle.mq_values.specs.Aggregate.{aggregate};
 ghost use Rattle.mq_values.specs.Answers.{Gives};
@@ -8,11 +8,13 @@ ghost use Rattle.mq_ir.specs.Keys.{is_among};
 ghost use Rattle.mq_ir.specs.Reads as spec;
 ghost use Rattle.mq_ir.specs.Targets as targets;
 ghost use Rattle.mq_cells.specs.Stores.{cell_name};
+ghost use Rattle.mq_refs.specs.Orders.{IsInOrder, IsInOrder-prop, KeysAscend};
 ghost use Rattle.mq_refs.specs.Sightings.{value_seen};
 ghost use Rattle.mq_refs.specs.Sites.{site_of};
 
 use crate::inside::inner_leaf;
 use crate::names::{cell_named, meets_every, tests_named};
+use crate::order::InOrder;
 use crate::references::{kind_in, reference_cell};
 use crate::seen::Seen;
 use crate::standpoint::Standpoint;
@@ -27,6 +29,8 @@ use std::alloc::Global;
 pub struct Reading<'a> {
     pub at: &'a Standpoint<'a>,
     pub seen: Seen,
+    pub order: InOrder,
+    ghost ordered: { IsInOrder order at.now.model.now at.now.shape.now } by { IsInOrder-prop order at.now.model.now at.now.shape.now },
 }
 
 impl Env for Reading<'_> {
@@ -46,9 +50,9 @@ impl Env for Reading<'_> {
                 &mut self.seen,
             ),
             Leaf::RefCell(r, measure, indices) => {
-                reference_cell(alloc, self.at, *r, *measure, indices.as_slice())
+                reference_cell(alloc, self.at, self.order, *r, *measure, indices.as_slice())
             }
-            Leaf::Present(indices) => presence(alloc, self.at, indices.as_slice()),
+            Leaf::Present(indices) => presence(alloc, self.at, self.order, indices.as_slice()),
             Leaf::NotNull(measure, indices) => {
                 not_null(alloc, self.at, *measure, indices.as_slice(), &mut self.seen)
             }
@@ -91,15 +95,45 @@ fn not_null(
 }
 
 // Whether a single cell is in the input.
-fn presence(alloc: Global, at: &Standpoint<'_>, indices: &[Expr]) -> Result<Value, Fail<ValueFault>>
+fn presence(
+    alloc: Global,
+    at: &Standpoint<'_>,
+    order: InOrder,
+    indices: &[Expr],
+) -> Result<Value, Fail<ValueFault>>
+    requires { IsInOrder order at.now.model.now at.now.shape.now }
     ensures { Gives result (spec.presence (site_of at.now) at.now.shape.now.base indices.now) }
 {
     let key = cell_named(alloc, at, at.model.part.dims.as_slice(), indices)?;
     let base = at.shape.base.as_slice();
-    Ok(flag(is_there(base, key.as_slice())))
+    Ok(flag(is_in(base, order.base, key.as_slice())))
 }
 
-// Whether `key` is among these keys. Where they ascend, the search finds each that is there.
+// Whether `key` is among these keys, which ascend where `ascend` says so.
+fn is_in(keys: &[Key], ascend: bool, key: &[Value]) -> bool
+    requires { ascend ≡ true → KeysAscend keys.now }
+    ensures { result ≡ is_among keys.now key.now }
+{
+    if ascend {
+        is_found(keys, key)
+    } else {
+        is_there(keys, key)
+    }
+}
+
+// Whether `key` is among these ascending keys.
+fn is_found(keys: &[Key], key: &[Value]) -> bool
+    requires { KeysAscend keys.now }
+    ensures { result ≡ is_among keys.now key.now }
+{
+    match keys.binary_search_by(|k| k.as_slice().cmp(key)) {
+        Ok(_) => true,
+        Err(_) => false,
+    }
+}
+
+// Whether `key` is among these keys. What the search finds is there; what it misses may stand elsewhere, where they do
+// not ascend.
 fn is_there(keys: &[Key], key: &[Value]) -> bool
     ensures { result ≡ is_among keys.now key.now }
 {

@@ -1,5 +1,5 @@
 //! Cells of reference models.
-ghost use Rattle.std.specs.Prelude.{◌≡◌, [], take, drop, slice_index_or, IfOk};
+ghost use Rattle.std.specs.Prelude.{◌≡◌, true, [], take, drop, slice_index_or, IfOk};
 ghost use Rattle.std.specs.Option.{option_copied};
 ghost use Rattle.mq_values.specs.Answers.{Gives};
 ghost use Rattle.mq_values.specs.declared.value.Kind.TheVariants.{Int};
@@ -8,9 +8,11 @@ ghost use Rattle.mq_ir.specs.Partitions.{cell_at};
 ghost use Rattle.mq_ir.specs.Reads as spec;
 ghost use Rattle.mq_ir.specs.Unfolding.{model_of};
 ghost use Rattle.mq_cells.specs.Stores.{cell_name};
+ghost use Rattle.mq_refs.specs.Orders.{ArraysAscend, CellsAscend, IsInOrder};
 ghost use Rattle.mq_refs.specs.Sites.{site_of};
 
 use crate::names::cell_named;
+use crate::order::InOrder;
 use crate::standpoint::Standpoint;
 use mq_ir::{Expr, Model, RefPart};
 use mq_reads::nav;
@@ -21,21 +23,32 @@ use std::alloc::Global;
 pub fn reference_cell(
     alloc: Global,
     at: &Standpoint<'_>,
+    order: InOrder,
     r: u32,
     measure: u32,
     indices: &[Expr],
 ) -> Result<Value, Fail<ValueFault>>
+    requires { IsInOrder order at.now.model.now at.now.shape.now }
     ensures { Gives result (spec.reference_cell (site_of at.now) r measure indices.now) }
 {
     match at.model.part.refs.as_slice().get(r as usize) {
-        Some(part) => reference_value(alloc, at, part, cells_of(at.model, r), measure, indices),
+        Some(part) => reference_value(
+            alloc,
+            at,
+            part,
+            cells_of(at.model, r),
+            order.refs,
+            measure,
+            indices,
+        ),
         None => Ok(Value::Null),
     }
 }
 
 // The cells of a reference.
 fn cells_of<'a>(m: &Model<'a>, r: u32) -> &'a [(Key, Key)]
-    ensures { result.now ≡ slice_index_or (model_of m.now).refs r [] }
+    ensures cells { result.now ≡ slice_index_or (model_of m.now).refs r [] }
+    ensures ascending { ArraysAscend m.now.refs.now → CellsAscend result.now }
 {
     match m.refs.get(r as usize) {
         Some(array) => array.cells.as_slice(),
@@ -48,14 +61,16 @@ fn reference_value(
     at: &Standpoint<'_>,
     part: &RefPart,
     cells: &[(Key, Key)],
+    ascend: bool,
     measure: u32,
     indices: &[Expr],
 ) -> Result<Value, Fail<ValueFault>>
+    requires { ascend ≡ true → CellsAscend cells.now }
     ensures { Gives result (spec.reference_value (site_of at.now) part.now cells.now measure indices.now) }
 {
     let dims = part.dims.len();
     let key = cell_named(alloc, at, up_to(part.kinds.as_slice(), dims), indices)?;
-    let v = measure_at(cells, key.as_slice(), measure)?;
+    let v = measure_at(cells, ascend, key.as_slice(), measure)?;
     let kind = kind_in(from(part.kinds.as_slice(), dims), measure);
     Ok(nav(Some(v), kind, part.ignore_nav))
 }
@@ -85,10 +100,16 @@ pub fn kind_in(kinds: &[Kind], measure: u32) -> Kind
 }
 
 // The measure of a cell; null where the cell is not there.
-fn measure_at(cells: &[(Key, Key)], key: &[Value], measure: u32) -> Result<Value, Memory>
+fn measure_at(
+    cells: &[(Key, Key)],
+    ascend: bool,
+    key: &[Value],
+    measure: u32,
+) -> Result<Value, Memory>
+    requires { ascend ≡ true → CellsAscend cells.now }
     ensures { IfOk result (λ v. v ≡ spec.measure_at cells.now (cell_name key.now measure)) }
 {
-    match measures_at(cells, key) {
+    match measures_in(cells, ascend, key) {
         Some(measures) => value_in(measures.as_slice(), measure),
         None => Ok(Value::Null),
     }
@@ -104,7 +125,30 @@ fn value_in(measures: &[Value], measure: u32) -> Result<Value, Memory>
     }
 }
 
-// The measures of the first cell at `key`, or `None` where there is none.
+// The measures of the first cell at `key`, or `None` where there is none. The cells ascend where `ascend` says so.
+fn measures_in<'a>(cells: &'a [(Key, Key)], ascend: bool, key: &[Value]) -> Option<&'a Key>
+    requires { ascend ≡ true → CellsAscend cells.now }
+    ensures { option_copied result ≡ cell_at cells.now key.now }
+{
+    if ascend {
+        measures_found(cells, key)
+    } else {
+        measures_at(cells, key)
+    }
+}
+
+// The measures of the cell at `key` among ascending cells, or `None` where there is none.
+fn measures_found<'a>(cells: &'a [(Key, Key)], key: &[Value]) -> Option<&'a Key>
+    requires { CellsAscend cells.now }
+    ensures { option_copied result ≡ cell_at cells.now key.now }
+{
+    match cells.binary_search_by(|cell| cell.0.as_slice().cmp(key)) {
+        Ok(at) => Some(&cells[at].1),
+        Err(_) => None,
+    }
+}
+
+// The measures of the first cell at `key`, or `None` where there is none, in whatever order the cells stand.
 fn measures_at<'a>(cells: &'a [(Key, Key)], key: &[Value]) -> Option<&'a Key>
     ensures { option_copied result ≡ cell_at cells.now key.now }
 {

@@ -6,11 +6,13 @@ ghost use Rattle.mq_ir.specs.Reads as spec;
 ghost use Rattle.mq_ir.specs.Slots.{cell_slot, site_in, slot_of};
 ghost use Rattle.mq_ir.specs.Unfolding.{model_of};
 ghost use Rattle.mq_cells.specs.Stores.{slot_at};
+ghost use Rattle.mq_refs.specs.Orders.{IsInOrder};
 ghost use Rattle.mq_refs.specs.Sightings as sightings;
 ghost use Rattle.mq_refs.specs.Sightings.{measures_in};
 ghost use Rattle.mq_refs.specs.Sites.{site_of};
 
 use crate::looks::looks_from;
+use crate::order::InOrder;
 use crate::reading::Reading;
 use crate::references::kind_in;
 use crate::seen::Seen;
@@ -42,6 +44,33 @@ pub fn eval_cell<C: Cells>(
     ensures same_input { C.input cells.new ≡ C.input cells.old }
     ensures same_results { C.results cells.new ≡ C.results cells.old }
 {
+    let unknown = InOrder {
+        base: false,
+        refs: false,
+    };
+    eval_cell_in(alloc, r, m, target, turn, s, unknown, cells)
+}
+
+/// The same as `eval_cell`, where `order` says which keys are in order (`keys_ascend` of `s.base`, `arrays_ascend` of
+/// `m.refs`). Whether a cell is in the input, and a cell of a reference, are then found by searches among their keys.
+pub fn eval_cell_in<C: Cells>(
+    alloc: Global,
+    r: &Rule,
+    m: &Model<'_>,
+    target: &Key,
+    turn: u32,
+    s: &PartShape,
+    order: InOrder,
+    cells: &mut C,
+) -> Result<Slot, Memory>
+    requires { IsInOrder order m.now s.now }
+    ensures exact { IfOk result (λ slot. slot
+        ≡ cell_slot (model_of m.now) s.now turn r.now target.now (slot_at (C.input cells.old) (C.results cells.old))) }
+    ensures reads { C.looks cells.new
+        ≤ C.looks cells.old + measures_in (looks.looks_of (site_in (model_of m.now) s.now turn target.now) r.now.right) }
+    ensures same_input { C.input cells.new ≡ C.input cells.old }
+    ensures same_results { C.results cells.new ≡ C.results cells.old }
+{
     let at = Standpoint {
         model: m,
         shape: s,
@@ -51,16 +80,23 @@ pub fn eval_cell<C: Cells>(
     reads_are_among_looks();
     let looks = looks_from(alloc, &at, &r.right)?;
     match seen_at(alloc, looks.as_slice(), cells)? {
-        Some(sightings) => slot_over(alloc, &at, r, Seen::new(sightings)),
+        Some(sightings) => slot_over(alloc, &at, order, r, Seen::new(sightings)),
         None => Ok(Slot::Poisoned),
     }
 }
 
 // The value of a right side over what was seen, or its fault.
-fn slot_over(alloc: Global, at: &Standpoint<'_>, r: &Rule, seen: Seen) -> Result<Slot, Memory>
+fn slot_over(
+    alloc: Global,
+    at: &Standpoint<'_>,
+    order: InOrder,
+    r: &Rule,
+    seen: Seen,
+) -> Result<Slot, Memory>
+    requires { IsInOrder order at.now.model.now at.now.shape.now }
     ensures { IfOk result (λ slot. slot ≡ slot_of (spec.right_value (site_of at.now) at.now.shape.now.base (sightings.value_seen seen) r.now)) }
 {
-    match right_value(alloc, at, r, seen) {
+    match right_value(alloc, at, order, r, seen) {
         Ok(v) => Ok(Slot::Done(v)),
         Err(Fail::Cause(fault)) => Ok(Slot::Faulted(fault)),
         Err(Fail::Memory) => Err(Memory),
@@ -70,12 +106,18 @@ fn slot_over(alloc: Global, at: &Standpoint<'_>, r: &Rule, seen: Seen) -> Result
 fn right_value(
     alloc: Global,
     at: &Standpoint<'_>,
+    order: InOrder,
     r: &Rule,
     seen: Seen,
 ) -> Result<Value, Fail<ValueFault>>
+    requires { IsInOrder order at.now.model.now at.now.shape.now }
     ensures { Gives result (spec.right_value (site_of at.now) at.now.shape.now.base (sightings.value_seen seen) r.now) }
 {
-    let mut reading = Reading { at: &*at, seen };
+    let mut reading = Reading {
+        at: &*at,
+        seen,
+        order,
+    };
     let v = eval(alloc, &r.right, &mut reading)?;
     let kind = kind_in(at.model.part.measures.as_slice(), r.measure);
     cast(alloc, &v, kind)

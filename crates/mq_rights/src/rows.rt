@@ -9,7 +9,7 @@ use mq_notation::answers::add;
 use mq_notation::lists::key;
 use mq_notation::literals::number_of;
 use mq_notation::notation::{Read, no_tree};
-use mq_refs::{eval_cell, looks_of};
+use mq_refs::{InOrder, arrays_ascend, eval_cell, eval_cell_in, keys_ascend, looks_of};
 use mq_values::{Fail, Memory};
 use std::alloc::Global;
 
@@ -40,6 +40,8 @@ fn add_answer(
 ) -> Read<()> {
     match asked {
         "value" => add_evaluated(alloc, scene, text, answer),
+        "value-in-order" => add_evaluated_in_order(alloc, scene, text, answer),
+        "order" => add_order(alloc, scene, answer),
         "looks" => add_looked_at(alloc, scene, text, answer),
         _ => changed(alloc, scene, asked, text),
     }
@@ -121,6 +123,55 @@ fn add_evaluated(alloc: Global, scene: &mut Scene, text: &str, answer: &mut Vec<
     )?;
     add("\t", answer)?;
     Ok(add_slot(&slot, answer)?)
+}
+
+// The same by the call that takes what is in order.
+fn add_evaluated_in_order(
+    alloc: Global,
+    scene: &mut Scene,
+    text: &str,
+    answer: &mut Vec<u8>,
+) -> Read<()> {
+    let (measure, target, turn, right) = parts(text)?;
+    let rule = rule(alloc, number_of(measure)?, right)?;
+    let part = model(alloc, scene)?;
+    let refs = arrays(alloc, scene.references.as_slice())?;
+    let model = Model {
+        part: part.get(),
+        lists: &[],
+        refs: refs.as_slice(),
+    };
+    let target = key(alloc, target)?;
+    let turn = number_of(turn)?;
+    let order = InOrder {
+        base: keys_ascend(scene.shape.base.as_slice()),
+        refs: arrays_ascend(model.refs),
+    };
+    let slot = eval_cell_in(
+        alloc,
+        rule.get(),
+        &model,
+        &target,
+        turn,
+        &scene.shape,
+        order,
+        &mut scene.cells,
+    )?;
+    add("\t", answer)?;
+    Ok(add_slot(&slot, answer)?)
+}
+
+// Whether the keys of the input are in order, and those of the references.
+fn add_order(alloc: Global, scene: &Scene, answer: &mut Vec<u8>) -> Read<()> {
+    let refs = arrays(alloc, scene.references.as_slice())?;
+    add("\tinput:", answer)?;
+    add(yes_or_no(keys_ascend(scene.shape.base.as_slice())), answer)?;
+    add(" references:", answer)?;
+    Ok(add(yes_or_no(arrays_ascend(refs.as_slice())), answer)?)
+}
+
+fn yes_or_no(holds: bool) -> &'static str {
+    if holds { "yes" } else { "no" }
 }
 
 fn add_looked_at(alloc: Global, scene: &Scene, text: &str, answer: &mut Vec<u8>) -> Read<()> {

@@ -1,4 +1,4 @@
-use Rattle.std.proofs.Common.{◌≡◌, ◌<◌, ◌≤◌, get_or, length, min, arith}
+use Rattle.std.proofs.Common.{◌<◌, ◌≤◌, get_or, length, min, arith}
 use Rattle.std.specs.List.{zip}
 use Rattle.std.proofs.lemmas.Result.{err_from_is_err_and}
 use Rattle.mq_values.specs.declared.value.Kind.TheVariants as kind

@@ -1,4 +1,4 @@
-use Rattle.std.proofs.Common.{◌≡◌, ◌∙◌}
+use Rattle.std.proofs.Common.{◌∙◌}
 use Rattle.std.proofs.lemmas.Result.{on_ok_weaker}
 use Rattle.mq_refs.specs.Sites.{site_of}
 use Rattle.mq_refs.proofs.LookLaws.{put_case_parts}

@@ -1,0 +1,40 @@
+//! What is known of the order of keys.
+ghost use Rattle.std.specs.Prelude.{◌↔◌, IsTrue};
+ghost use Rattle.mq_refs.specs.Orders.{ArraysAscend, CellsAscend, KeysAscend};
+
+use mq_ir::RefArray;
+use mq_values::Key;
+
+/// Which keys are known to ascend, each once: those of a partition's input, and those of the cells of every reference.
+/// Among these a cell is found without going through all others.
+#[derive(Clone, Copy)]
+pub struct InOrder {
+    pub base: bool,
+    pub refs: bool,
+}
+
+/// Whether these keys ascend, each once. It takes no memory.
+pub fn keys_ascend(keys: &[Key]) -> bool
+    ensures { IsTrue result ↔ KeysAscend keys.now }
+{
+    keys.is_sorted_by(|a, b| a.as_slice().cmp(b.as_slice()).is_lt())
+}
+
+/// Whether the cells of each array ascend by their keys, each once. It takes no memory.
+pub fn arrays_ascend(arrays: &[RefArray]) -> bool
+    ensures { IsTrue result ↔ ArraysAscend arrays.now }
+{
+    for array in arrays {
+        if !cells_ascend(array.cells.as_slice()) {
+            return false;
+        }
+    }
+    true
+}
+
+// Whether these cells ascend by their keys, each once.
+fn cells_ascend(cells: &[(Key, Key)]) -> bool
+    ensures { IsTrue result ↔ CellsAscend cells.now }
+{
+    cells.is_sorted_by(|a, b| a.0.as_slice().cmp(b.0.as_slice()).is_lt())
+}
