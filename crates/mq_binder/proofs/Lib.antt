@@ -1,4 +1,10 @@
+mod AgainLemmas
+mod CaseWalkLemmas
+mod DimensionLemmas
+mod FormLemmas
 mod GatherLemmas
 mod NumberLemmas
+mod NumberedSteps
 mod PresenceLemmas
 mod StepLemmas
+mod TestLemmas

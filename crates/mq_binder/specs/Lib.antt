@@ -26,6 +26,7 @@ pub mod Names
 pub mod OperatorKinds
 pub mod OperatorLaws
 pub mod OperatorNodes
+pub mod PartWalks
 pub mod PlaceLaws
 pub mod PlaceTests
 pub mod PlainWalk

@@ -17,6 +17,8 @@ mod misuses;
 mod name_nodes;
 mod names;
 mod operator_nodes;
+mod place_tests;
+mod place_visits;
 mod plain;
 mod positions;
 mod presence_nodes;
@@ -28,6 +30,8 @@ mod tables;
 mod threes;
 mod trees;
 mod values;
+mod visits;
+mod walk;
 
 pub use found::{
     Base, LeftFound, LeftItemFound, ListFound, ListItem, ModelFound, PlainFound, ReferenceFound,
