@@ -1,3 +1,4 @@
+pub mod BuiltForms
 pub mod CaseLaws
 pub mod CellNodes
 pub mod ChangeWalk
@@ -35,8 +36,11 @@ pub mod PresenceForms
 pub mod QueryWalk
 pub mod ReferenceWalk
 pub mod Refusals
+pub mod RowPlaces
 pub mod RuleNodes
 pub mod RuleWalk
+pub mod StatementLaws
+pub mod StatementParts
 pub mod StatementWalk
 pub mod Steps
 pub mod TableWalk
