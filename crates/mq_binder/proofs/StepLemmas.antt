@@ -17,7 +17,7 @@ fault_is_last inner outer fail.Memory h f = tt
 pub next_item : {A : Type 0} (xs : List A) (i : ℕ) (x : A) → i < length xs → x ≡ get_or xs i x → drop i xs ≡ x ∷ drop (i + 1) xs
 next_item xs i x h e = drop-cons xs i x h ∙ (λ j. sym e j ∷ drop (sym (add-one i) j) xs)
 
-pub started : {B E : Type 0} (r : Result (List B) E) → r ≡ (r >>= (λ zs. Ok zs))
+started : {B E : Type 0} (r : Result (List B) E) → r ≡ (r >>= (λ zs. Ok zs))
 started (Ok ys) = refl
 started (Err fault) = refl
 
@@ -26,13 +26,13 @@ moved (Ok zs) ys y = ap Ok (sym (append_assoc ys (y ∷ []) zs))
 moved (Err fault) ys y = refl
 
 -- what comes of the next step
-pub after_ok : {B E : Type 0} (all step : Result (List B) E) (first : Result B E) (rest : B → Result (List B) E) (ys : List B) (y : B)
+after_ok : {B E : Type 0} (all step : Result (List B) E) (first : Result B E) (rest : B → Result (List B) E) (ys : List B) (y : B)
     → all ≡ (step >>= (λ zs. Ok (ys ++ zs))) → step ≡ (first >>= (λ y. rest y >>= (λ zs. Ok (y ∷ zs)))) → first ≡ Ok y
     → all ≡ (rest y >>= (λ zs. Ok ((ys ++ y ∷ []) ++ zs)))
 after_ok all step first rest ys y a s g =
     a ∙ ap (λ r. r >>= (λ zs. Ok (ys ++ zs))) (s ∙ ap (λ o. o >>= (λ y. rest y >>= (λ zs. Ok (y ∷ zs)))) g) ∙ moved (rest y) ys y
 
-pub after_fault : {B E : Type 0} (all step : Result (List B) E) (first : Result B E) (rest : B → Result (List B) E) (ys : List B) (fault : E)
+after_fault : {B E : Type 0} (all step : Result (List B) E) (first : Result B E) (rest : B → Result (List B) E) (ys : List B) (fault : E)
     → all ≡ (step >>= (λ zs. Ok (ys ++ zs))) → step ≡ (first >>= (λ y. rest y >>= (λ zs. Ok (y ∷ zs)))) → first ≡ Err fault → all ≡ Err fault
 after_fault all step first rest ys fault a s g =
     a ∙ ap (λ r. r >>= (λ zs. Ok (ys ++ zs))) (s ∙ ap (λ o. o >>= (λ y. rest y >>= (λ zs. Ok (y ∷ zs)))) g)

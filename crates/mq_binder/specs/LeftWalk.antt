@@ -56,28 +56,20 @@ left_item t = elim (out-Test t) [ layer.At e ↦ item.At e | _ ↦ item.Sym t ]
 abbrev pub with_lists : List PlainPart → LeftItem → LeftItem × List PlainPart
 with_lists lists i = (i, lists)
 
--- a place that is an expression, as a value or a condition
-abbrev pub expression_place : Scope → ℕ → E → Result LeftItem Refused
-expression_place scope n e =
-    bound scope e (bracketed (standing part.Left) owner.Main n (is_condition e)) >>= place_of (place_kind scope owner.Main n) e
-    >>= (λ p. Ok (left_item p.test))
-
--- FOR .. FROM at a place
-abbrev pub steps_place : Scope → ℕ → Name → Bool → E → E → E → Result LeftItem Refused
-steps_place scope n dim down start stop step =
-    bound scope start (standing part.Left) >>= (λ a.
-    bound scope stop (standing part.Left) >>= (λ b.
-    bound scope step (standing part.Left) >>= steps_checked scope n dim down a b))
-
 -- place number n, behind these subqueries
 abbrev pub left_place : Catalog → Scope → ℕ → List PlainPart → LeftPlace → Result (LeftItem × List PlainPart) Refused
 left_place catalog scope n lists place.Any = Ok (with_lists lists (item.Sym test.Any))
-left_place catalog scope n lists (place.Expr e) = expression_place scope n e >>= (λ i. Ok (with_lists lists i))
+left_place catalog scope n lists (place.Expr e) =
+    bound scope e (bracketed (standing part.Left) owner.Main n (is_condition e)) >>= place_of (place_kind scope owner.Main n) e
+    >>= (λ p. Ok (with_lists lists (left_item p.test)))
 left_place catalog scope n lists (place.ForIn dim list) =
     list_bound catalog scope lists list >>= for_checked (place_kind scope owner.Main n ∷ []) (names_place scope n dim)
     >>= (λ found. Ok (with_lists found.lists (item.List found.source)))
 left_place catalog scope n lists (place.ForRange dim start stop step down) =
-    steps_place scope n dim down start stop step >>= (λ i. Ok (with_lists lists i))
+    bound scope start (standing part.Left) >>= (λ a.
+    bound scope stop (standing part.Left) >>= (λ b.
+    bound scope step (standing part.Left) >>= (λ c.
+    steps_checked scope n dim down a b c >>= (λ i. Ok (with_lists lists i)))))
 
 abbrev pub left_places : Catalog → Scope → List PlainPart → List LeftPlace → Result (List LeftItem × List PlainPart) Refused
 left_places catalog scope lists = each_with_from (left_place catalog scope) 0 lists
@@ -97,10 +89,6 @@ numbers_called scope (name ∷ names) =
 abbrev pub names_each : Scope → Option (List ℕ) → Bool
 names_each scope numbers = option_map_or (numbers_each_once (length scope.model.dims)) numbers false
 
-abbrev pub tuples_found : Option (List ℕ) → ListFound → Result LeftFound Refused
-tuples_found numbers found =
-    ok_or numbers (misuse MISUSE_OF_FOR) >>= (λ ns. Ok (record { left = left.Tuples ns found.source; lists = found.lists }))
-
 abbrev pub left_bound : Catalog → Scope → List PlainPart → LeftTree → Result LeftFound Refused
 left_bound catalog scope lists (tree.Places places) =
     left_places catalog scope lists places >>= (λ found.
@@ -108,5 +96,6 @@ left_bound catalog scope lists (tree.Places places) =
     Ok (record { left = left.Places found.0; lists = found.1 })))
 left_bound catalog scope lists (tree.Tuples dims list) =
     list_bound catalog scope lists list
-    >>= for_checked (map (kind_called scope) dims) (names_each scope (numbers_called scope dims))
-    >>= tuples_found (numbers_called scope dims)
+    >>= for_checked (map (kind_called scope) dims) (names_each scope (numbers_called scope dims)) >>= (λ found.
+    ok_or (numbers_called scope dims) (misuse MISUSE_OF_FOR) >>= (λ numbers.
+    Ok (record { left = left.Tuples numbers found.source; lists = found.lists })))

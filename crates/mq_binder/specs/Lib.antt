@@ -1,4 +1,3 @@
-pub mod BuiltForms
 pub mod CaseLaws
 pub mod CellNodes
 pub mod ChangeWalk
@@ -27,7 +26,6 @@ pub mod Names
 pub mod OperatorKinds
 pub mod OperatorLaws
 pub mod OperatorNodes
-pub mod PartWalks
 pub mod PlaceLaws
 pub mod PlaceTests
 pub mod PlainWalk
@@ -36,11 +34,8 @@ pub mod PresenceForms
 pub mod QueryWalk
 pub mod ReferenceWalk
 pub mod Refusals
-pub mod RowPlaces
 pub mod RuleNodes
 pub mod RuleWalk
-pub mod StatementLaws
-pub mod StatementParts
 pub mod StatementWalk
 pub mod Steps
 pub mod TableWalk

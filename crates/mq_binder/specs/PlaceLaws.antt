@@ -1,5 +1,5 @@
 -- The test that a bound condition makes of its dimension, case by case.
-use Rattle.std.specs.Prelude.{◌≡◌, List, [], ◌∷◌, ◌++◌, map, Bool, Option, Some, None, refl}
+use Rattle.std.specs.Prelude.{◌≡◌, List, [], ◌∷◌, map, Bool, Option, Some, None, refl}
 use Rattle.std.specs.Option.{option_and_then, option_map}
 use Rattle.std.proofs.Common.{sym, ap, ◌∙◌}
 use Rattle.mq_values.specs.declared.operators.CmpOp.{CmpOp}
@@ -35,10 +35,6 @@ test_roll x =
 abbrev pub tests_all : List Expr → Option (List Test)
 tests_all [] = Some []
 tests_all (x ∷ xs) = option_and_then (λ t. option_map (λ ts. t ∷ ts) (tests_all xs)) (test_of x)
-
--- one more behind them
-abbrev pub with_test : Option (List Test) → Option Test → Option (List Test)
-with_test tests t = option_and_then (λ ts. option_map (λ u. ts ++ u ∷ []) t) tests
 
 tests_are : (xs : List Expr) → all_tests (map (λ (x : Expr). (x, test_of x)) xs) ≡ tests_all xs
 tests_are [] = refl
@@ -101,13 +97,4 @@ none_convert x k = ap test_of (sym (e.rolls-Convert x k)) ∙ test_roll (layer.C
 pub none_call : (f : Func) (xs : List Expr) → test_of (e.Call f xs) ≡ None
 none_call f xs = ap test_of (sym (e.rolls-Call f xs)) ∙ test_roll (layer.Call f xs)
 
-pub none_case : (of : Option Expr) (arms : List BoundArm) (or_else : Option Expr) → test_of (e.Case of arms or_else) ≡ None
-none_case of arms or_else = ap test_of (sym (e.rolls-Case of arms or_else)) ∙ test_roll (layer.Case of arms or_else)
-
-pub none_presentv : (l : Leaf) (x y : Expr) → test_of (e.PresentV l x y) ≡ None
-none_presentv l x y = ap test_of (sym (e.rolls-PresentV l x y)) ∙ test_roll (layer.PresentV l x y)
-
-pub none_presentnnv : (l n : Leaf) (x y : Expr) → test_of (e.PresentNnv l n x y) ≡ None
-none_presentnnv l n x y = ap test_of (sym (e.rolls-PresentNnv l n x y)) ∙ test_roll (layer.PresentNnv l n x y)
-
-pub ruleset test_laws = (test_or, test_and, test_not, test_cmp, test_between, test_in, test_is_null, none_is_present, none_sum, none_prod, none_neg, none_lit, none_leaf, none_cast, none_convert, none_call, none_case, none_presentv, none_presentnnv)
+pub ruleset test_laws = (test_or, test_and, test_not, test_cmp, test_between, test_in, test_is_null, none_is_present, none_sum, none_prod, none_neg, none_lit, none_leaf, none_cast, none_convert, none_call)

@@ -9,7 +9,6 @@ use Rattle.mq_ir.specs.declared.catalog.Catalog.{Catalog}
 use Rattle.mq_ir.specs.declared.expression.Expr.{Expr}
 use Rattle.mq_ir.specs.declared.limit_numbers.TheConstants.{LIMIT_OF_PRINTED_COLUMNS}
 use Rattle.mq_ir.specs.declared.query.ColRef.{ColRef}
-use Rattle.mq_ir.specs.declared.query.FromPart.{FromPart}
 use Rattle.mq_ir.specs.Results.{◌>>=◌, each}
 use Rattle.mq_binder.specs.declared.found.Base.{Base}
 use Rattle.mq_binder.specs.declared.found.PlainFound.{PlainFound}
@@ -54,21 +53,15 @@ few_printed items = refused_where (nat_lt MAX_PRINTED_COLUMNS (length items)) (l
 abbrev pub any_aggregate : List Sel → Bool
 any_aggregate = list_any (λ (s : Sel). has_aggregate s.e)
 
-abbrev pub plain_of : FromPart → Option (List ColRef) → List Item → PlainFound
-plain_of from group items = record {
-  part = record { from = from; items = record { group = group; items = map (λ (i : Item). i.0) items } };
+abbrev pub plain_of : Base → Option (List ColRef) → List Item → PlainFound
+plain_of base group items = record {
+  part = record { from = base.from; items = record { group = group; items = map (λ (i : Item). i.0) items } };
   printed = map (λ (i : Item). i.1) items;
 }
 
--- the items of a query over its scope, which is grouped where the query is, and then with its rows
-abbrev pub items_over : Plain → Scope → Result (List Item) Refused
-items_over p scope = select_list p.star p.sels scope >>= few_printed
-
-abbrev pub plain_rows : Plain → FromPart → Scope → Result PlainFound Refused
-plain_rows p from scope = items_over p scope >>= (λ items. Ok (plain_of from scope.group items))
-
 abbrev pub plain_over : Plain → Base → Option (List ColRef) → Result PlainFound Refused
-plain_over p base group = plain_rows p base.from (grouped_by group base.scope)
+plain_over p base group =
+    select_list p.star p.sels (grouped_by group base.scope) >>= few_printed >>= (λ items. Ok (plain_of base group items))
 
 abbrev pub plain_bound : Catalog → Plain → Result PlainFound Refused
 plain_bound catalog p = base_of catalog p >>= (λ base. plain_over p base (group_of base.cols (any_aggregate p.sels)))

@@ -44,18 +44,10 @@ reference_of around r source dims measures = record {
   names = record { name = folded r.name; dims = list_columns dims; measures = list_columns measures };
 }
 
-abbrev pub dims_listed : RefTree → Scope → Result (List ListItem) Refused
-dims_listed r scope = items_listed scope (standing part.Row) [] r.dims >>= limited MAX_DIMENSIONS LIMIT_OF_DIMENSIONS
-
--- the measures have other names than the dimensions
-abbrev pub measures_listed : RefTree → List ListItem → Scope → Result (List ListItem) Refused
-measures_listed r dims scope =
-    items_listed scope (standing part.Row) (list_names dims) r.measures >>= limited MAX_MEASURES LIMIT_OF_MEASURES
-
 abbrev pub lists_over : Bool → RefTree → PlainFound → Scope → Result ReferenceFound Refused
 lists_over around r source scope =
-    dims_listed r scope >>= (λ dims.
-    measures_listed r dims scope >>= (λ measures.
+    items_listed scope (standing part.Row) [] r.dims >>= limited MAX_DIMENSIONS LIMIT_OF_DIMENSIONS >>= (λ dims.
+    items_listed scope (standing part.Row) (list_names dims) r.measures >>= limited MAX_MEASURES LIMIT_OF_MEASURES >>= (λ measures.
     options_checked r.opts (Ok (reference_of around r source dims measures))))
 
 -- a reference behind others of these names; `around` is the NAV option at MODEL

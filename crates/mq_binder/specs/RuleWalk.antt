@@ -56,17 +56,14 @@ right_bound scope measure r =
 abbrev pub rule_of : Mode → RuleTree → ℕ → Left → List (ℕ × Bool) → Found → Rule
 rule_of mode r measure l order right = record { mode = unwrap_or r.mode mode; measure = measure; left = l; order = order; right = right.e }
 
--- what stands behind the measure and the left side
-abbrev pub rule_behind : Scope → Mode → Bool → RuleTree → ℕ × ExprKind → LeftFound → Result (Rule × List PlainPart) Refused
-rule_behind scope mode auto r measure l =
-    left_order scope auto l.left r.order >>= (λ order.
-    right_bound scope measure.1 r >>= (λ right. Ok (rule_of mode r measure.0 l.left order right, l.lists)))
-
 -- a rule, behind these subqueries, with the subqueries up to its end
 abbrev pub rule_bound : Catalog → Scope → Mode → Bool → List PlainPart → RuleTree → Result (Rule × List PlainPart) Refused
 rule_bound catalog scope mode auto lists r =
     called (folded r.measure) scope.model.measures >>= (λ measure.
-    left_bound catalog scope lists r.left >>= rule_behind scope mode auto r measure)
+    left_bound catalog scope lists r.left >>= (λ l.
+    left_order scope auto l.left r.order >>= (λ order.
+    right_bound scope measure.1 r >>= (λ right.
+    Ok (rule_of mode r measure.0 l.left order right, l.lists)))))
 
 abbrev pub rules_bound : Catalog → Scope → Mode → Bool → List RuleTree → Result (List Rule × List PlainPart) Refused
 rules_bound catalog scope mode auto = each_with (rule_bound catalog scope mode auto) []

@@ -37,14 +37,6 @@ pub struct ListItem {
     pub kind: Kind,
 }
 
-/// The three lists of a model.
-#[derive(Drop)]
-pub struct Lists {
-    pub parts: Items<ListItem>,
-    pub dims: Items<ListItem>,
-    pub measures: Items<ListItem>,
-}
-
 /// A reference, and what rules may name of it.
 #[derive(Drop)]
 pub struct ReferenceFound {

@@ -3,57 +3,37 @@
 //! A tree without offence has one bound form.
 #![tactic(auto)]
 
-mod bases;
-mod built_forms;
 mod case_parts;
 mod cell_nodes;
-mod changes;
 mod dimensions;
-mod for_lists;
 mod forms;
 mod found;
 mod founds;
 mod function_nodes;
 mod kinds;
-mod laws;
-mod left_sides;
 mod lists;
 mod misuse_numbers;
 mod misuses;
-mod models;
 mod name_nodes;
 mod names;
 mod operator_nodes;
-mod place_tests;
-mod place_visits;
 mod plain;
 mod positions;
 mod presence_nodes;
-mod queries;
-mod references;
 mod refusals;
 mod rule_nodes;
-mod rules;
 mod scopes;
 mod sources;
-mod statements;
 mod tables;
 mod threes;
 mod trees;
 mod values;
-mod visits;
-mod walk;
 
-pub use built_forms::built;
 pub use found::{
-    Base, LeftFound, LeftItemFound, ListFound, ListItem, Lists, ModelFound, PlainFound,
-    ReferenceFound, RulesFound, Sources,
+    Base, LeftFound, LeftItemFound, ListFound, ListItem, ModelFound, PlainFound, ReferenceFound,
+    RulesFound, Sources,
 };
 pub use kinds::ExprKind;
-pub use laws::{
-    aliases_hide_names, answers_are_one, bound_tables_fit, kinds_are_of_trees,
-    names_are_compared_in_capitals,
-};
 pub use misuse_numbers::{
     MISUSE_OF_AGGREGATE, MISUSE_OF_CONDITION_IN_BRACKETS, MISUSE_OF_CONDITION_IN_CELL,
     MISUSE_OF_FOR, MISUSE_OF_ITEM_WITHOUT_NAME, MISUSE_OF_ITERATE, MISUSE_OF_NAME_IN_RULE,
@@ -64,4 +44,3 @@ pub use scopes::{
     Bracket, Found, ModelNames, Named, Owner, Part, Placed, Position, Printed, ReferenceNames,
     RowColumn, Scope,
 };
-pub use statements::bind;

@@ -1,21 +1,17 @@
 //! The lists of a model or a reference: partition columns, dimensions and measures, and its options
 //! (docs/LANGUAGE.md, "The order of binding").
 
-ghost use Rattle.std.specs.Prelude.{◌≡◌, ◌++◌, filter, length, IfOk, OnOk, None, Some};
+ghost use Rattle.std.specs.Prelude.{◌≡◌, ◌++◌, filter, length, IfOk, OnOk, Some};
 ghost use Rattle.std.specs.List.{list_any};
 ghost use Rattle.mq_values.specs.Answers.{Gives};
 ghost use Rattle.mq_binder.specs.ListWalk as spec;
 
-use crate::forms::name_of;
 use crate::found::ListItem;
-use crate::founds::Held;
 use crate::kinds::column_kind;
-use crate::misuse_numbers::MISUSE_OF_ITEM_WITHOUT_NAME;
-use crate::refusals::{duplicate_name, limit, mismatch, misuse};
-use crate::scopes::{Found, Named, Position, Scope};
+use crate::refusals::{duplicate_name, limit, mismatch};
+use crate::scopes::{Found, Named};
 use crate::tables::has_name;
-use crate::walk::bound;
-use mq_ast::{Opt, Sel};
+use mq_ast::Opt;
 use mq_ir::Expr;
 use mq_values::{Fail, Items, Kind, Memory, Refused, Words};
 use std::alloc::Global;
@@ -48,38 +44,6 @@ pub fn item_named(taken: &[Words], name: Words, f: Found) -> Result<ListItem, Fa
     }
     let kind = item_kind(&f)?;
     Ok(list_item_of(f, name, kind))
-}
-
-// An item without a name: the misuse, where it has a kind.
-fn item_unnamed(taken: &[Words], f: &Found) -> Result<ListItem, Fail<Refused>>
-    ensures { Gives result (spec.item_checked taken.now None f.now) }
-{
-    item_kind(f)?;
-    Err(misuse(MISUSE_OF_ITEM_WITHOUT_NAME))
-}
-
-fn item_checked(taken: &[Words], name: Option<Words>, f: Held) -> Result<ListItem, Fail<Refused>>
-    ensures { Gives result (spec.item_checked taken.now name f) }
-{
-    match name {
-        Some(name) => item_named(taken, name, f.into_inner()),
-        None => item_unnamed(taken, f.get()),
-    }
-}
-
-// The name is made before the expression is bound: only want of memory can come of it.
-fn list_item(
-    alloc: Global,
-    scope: &Scope,
-    at: Position,
-    taken: &[Words],
-    sel: &Sel,
-) -> Result<ListItem, Fail<Refused>>
-    ensures { Gives result (spec.list_item scope.now at taken.now sel.now) }
-{
-    let name = name_of(alloc, sel)?;
-    let f = bound(alloc, scope, at, &sel.e)?;
-    item_checked(taken, name, f)
 }
 
 /// The same names once more.
@@ -240,24 +204,4 @@ pub fn ignores_nav(opts: &[Opt], around: bool) -> bool
     } else {
         around
     }
-}
-
-/// The items of a list, behind items of these names.
-pub fn items_listed(
-    alloc: Global,
-    scope: &Scope,
-    at: Position,
-    taken: &[Words],
-    sels: &[Sel],
-) -> Result<Items<ListItem>, Fail<Refused>>
-    ensures { Gives result (spec.items_listed scope.now at taken.now sels.now) }
-{
-    let mut names = same_names(alloc, taken)?;
-    let mut items = Items::new(alloc);
-    'sels: for sel in sels {
-        let item = list_item(alloc, scope, at, names.as_slice(), sel)?;
-        names.push(item.column.name.copy()?)?;
-        items.push(item)?;
-    }
-    Ok(items)
 }

@@ -126,8 +126,7 @@ pub fn column_named(
     }
 }
 
-/// The number of the first column of a model that has this name.
-pub fn place_called(columns: &[Named], name: &Words) -> Option<usize>
+fn place_called(columns: &[Named], name: &Words) -> Option<usize>
     ensures { result ≡ position (spec.is_called name.now) columns.now }
 {
     columns.iter().position(|column| *name == column.name)

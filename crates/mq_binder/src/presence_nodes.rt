@@ -42,8 +42,8 @@ fn presentv_of(indices: Items<Expr>, yes: Boxed<Expr>, no: Boxed<Expr>) -> Expr
     }
 }
 
-/// Another number of arguments than three.
-pub fn other_presence(at: Position) -> Result<Found, Fail<Refused>>
+// Another number of arguments than three.
+fn other_presence(at: Position) -> Result<Found, Fail<Refused>>
     ensures { Gives result (spec.other_presence at) }
 {
     if outside_rules(at) {

@@ -38,7 +38,7 @@ behind_item step n counts front kept =
 pub behind_all : (step : Step) (front : Places) (kept : List Joined) → rows_behind step [] front kept ≡ step front kept
 behind_all step front kept = ap (λ tuple. each_in_turn step (tuple ∷ []) kept) (append-nil front) ∙ bind_ok (step front kept)
 
-pub next_item : {A : Type 0} (xs : List A) (i : ℕ) (x : A) → i < length xs → x ≡ get_or xs i x → drop i xs ≡ x ∷ drop (i + 1) xs
+next_item : {A : Type 0} (xs : List A) (i : ℕ) (x : A) → i < length xs → x ≡ get_or xs i x → drop i xs ≡ x ∷ drop (i + 1) xs
 next_item xs i x h e = drop-cons xs i x h ∙ (λ j. sym e j ∷ drop (sym (add-one i) j) xs)
 
 at_place : {A : Type 0} (xs : List A) (i : ℕ) (x : A) → slice_get xs i ≡ Some x → drop i xs ≡ x ∷ drop (i + 1) xs

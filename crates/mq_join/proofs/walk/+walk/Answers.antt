@@ -1,24 +1,13 @@
-use Rattle.std.proofs.Common.{◌≡◌, ◌∙◌, ◌+◌, [], List, Result, get_or, length, refl, rules, subst, sym}
-use Rattle.std.specs.Prelude.{slice_index_or}
-use Rattle.std.proofs.lemmas.List.{get_or_default}
+use Rattle.std.proofs.Common.{◌≡◌, ◌∙◌, List, Result, length, rules, subst, sym}
 use Rattle.std.proofs.lemmas.Result.{err_from_is_err_and}
 use Rattle.mq_values.specs.Answers.{Gives}
 use Rattle.mq_values.specs.declared.faults.FaultKind.{FaultKind}
-use Rattle.mq_ir.specs.Keys.{Tuple}
 use Rattle.mq_join.specs.Rows.{Joined}
-use Rattle.mq_join.specs.Walk.{counts_from, joined_step}
+use Rattle.mq_join.specs.Walk.{joined_step}
 use Rattle.mq_join.specs.Walk as spec
 use Rattle.std.specs.List.{range_with_len}
-use Rattle.mq_join.proofs.MatchLemmas.{matches_next, matches_start, matches_within, next_fewer, next_stands, start_stands}
-use Rattle.mq_join.proofs.PassingLemmas.{idle_behind}
 use Rattle.mq_join.proofs.WalkLemmas.{some_item, turns_fault, turns_next}
 use Rattle.mq_join.proofs.walk.+walk.Goals as goal
-
-pub rows_behind-returns-then-is_idle-clause-gives : goal.rows_behind-returns-then-is_idle-clause-gives
-rows_behind-returns-then-is_idle-clause-gives t c =
-    let items = c.args.items.now in
-    let front = c.args.tuple.now.items in
-    idle_behind c.args.conditions.now items front (counts_from items (length front)) c.args.kept (search rules)
 
 pub rows_behind-returns-in-Some-clause-gives : goal.rows_behind-returns-in-Some-clause-gives
 rows_behind-returns-in-Some-clause-gives t c =
@@ -26,9 +15,9 @@ rows_behind-returns-in-Some-clause-gives t c =
     let front = c.args.tuple.now.items in
     let l = c.in-Some.ensures.lookup in
     let at : c.len.result ≡ length front = search rules in
-    subst (λ (meant : Result (List Joined) FaultKind). Gives c.rows_of_item.result meant)
-    (sym (some_item (joined_step c.args.conditions.now items) items front c.in-Some.rows.now c.args.kept c.len.result (length c.in-Some.rows.now) at l.3.0 l.1 refl))
-    c.rows_of_item.ensures.gives
+    subst (λ (meant : Result (List Joined) FaultKind). Gives c.rows_at_places.result meant)
+    (sym (some_item (joined_step c.args.conditions.now items) items front c.in-Some.rows.now c.args.kept c.len.result c.len-in-Some.result at l.3.0 l.1 c.len-in-Some.ensures))
+    c.rows_at_places.ensures.gives
 
 pub rows_at_places-returns-in_err-kept-clause-gives :
     goal.rows_at_places-returns-in_err-kept-clause-gives

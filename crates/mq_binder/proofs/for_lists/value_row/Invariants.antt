@@ -1,9 +1,0 @@
-use Rattle.mq_ast.specs.declared.expressions.E.{E}
-use Rattle.mq_binder.specs.declared.scopes.Part.TheVariants as part
-use Rattle.mq_binder.specs.ExpressionWalk.{bound}
-use Rattle.mq_binder.specs.Positions.{standing}
-use Rattle.mq_binder.proofs.StepLemmas.{Walked}
-use Rattle.mq_binder.proofs.for_lists.value_row.Given as goal
-
-abbrev pub invariant-row : goal.invariant-row
-invariant-row l = Walked (λ (e : E). bound l.scope e (standing part.Left)) l.row l.e-index l.found

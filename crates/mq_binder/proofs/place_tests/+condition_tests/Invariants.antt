@@ -1,6 +1,0 @@
-use Rattle.std.proofs.Common.{◌≡◌}
-use Rattle.mq_binder.specs.PlaceLaws.{tests_all}
-use Rattle.mq_binder.proofs.place_tests.+condition_tests.Given as goal
-
-abbrev pub invariant-tests_of-es : goal.invariant-tests_of-es
-invariant-tests_of-es l = l.tests ≡ tests_all l.yielded
