@@ -1,4 +1,9 @@
+pub mod DeciderLemmas
+pub mod IndexLemmas
+pub mod MatchLemmas
 pub mod PartLemmas
+pub mod PassingLemmas
 pub mod RowLemmas
+pub mod SightLemmas
 pub mod TurnLemmas
 pub mod WalkLemmas

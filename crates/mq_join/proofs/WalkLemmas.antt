@@ -1,5 +1,5 @@
 -- The walk over all tuples, item by item.
-use Rattle.std.proofs.Common.{◌≡◌, ℕ, ◌+◌, ◌-◌, ◌<◌, ◌≤◌, List, [], ◌∷◌, ◌++◌, map, length, drop, get_or, Result, Ok, Err, Option, Some, None, refl, sym, ap, ◌∙◌, append_assoc, add-one, drop-cons, arith, zero, suc, subst}
+use Rattle.std.proofs.Common.{◌≡◌, ℕ, ◌+◌, ◌-◌, ◌<◌, ◌≤◌, List, [], ◌∷◌, ◌++◌, map, length, drop, get_or, Result, Ok, Err, Some, None, refl, sym, ap, ◌∙◌, append_assoc, add-one, drop-cons, arith, zero, suc, subst}
 use Rattle.std.specs.Prelude.{slice_get}
 use Rattle.std.specs.List.{flat_map, range_with_len}
 use Rattle.std.specs.Option.{option_map}
@@ -10,7 +10,7 @@ use Rattle.mq_values.specs.declared.faults.FaultKind.{FaultKind}
 use Rattle.mq_values.specs.declared.memory.Fail.{Fail}
 use Rattle.mq_ir.specs.BaseRows.{Places, all_places}
 use Rattle.mq_ir.specs.Keys.{Tuple}
-use Rattle.mq_ir.specs.Results.{◌>>=◌, each_in_turn}
+use Rattle.mq_ir.specs.Results.{each_in_turn}
 use Rattle.mq_join.specs.Rows.{Joined}
 use Rattle.mq_join.specs.Walk.{Step, counts_from, rows_at_place, rows_at_places, rows_behind}
 use Rattle.mq_join.proofs.TurnLemmas.{bind_ok, exit, rest_end, rest_fault, rest_next, rest_of, turns_flat}
@@ -38,7 +38,7 @@ behind_item step n counts front kept =
 pub behind_all : (step : Step) (front : Places) (kept : List Joined) → rows_behind step [] front kept ≡ step front kept
 behind_all step front kept = ap (λ tuple. each_in_turn step (tuple ∷ []) kept) (append-nil front) ∙ bind_ok (step front kept)
 
-next_item : {A : Type 0} (xs : List A) (i : ℕ) (x : A) → i < length xs → x ≡ get_or xs i x → drop i xs ≡ x ∷ drop (i + 1) xs
+pub next_item : {A : Type 0} (xs : List A) (i : ℕ) (x : A) → i < length xs → x ≡ get_or xs i x → drop i xs ≡ x ∷ drop (i + 1) xs
 next_item xs i x h e = drop-cons xs i x h ∙ (λ j. sym e j ∷ drop (sym (add-one i) j) xs)
 
 at_place : {A : Type 0} (xs : List A) (i : ℕ) (x : A) → slice_get xs i ≡ Some x → drop i xs ≡ x ∷ drop (i + 1) xs

@@ -1,2 +1,6 @@
+pub mod Deciding
+pub mod Indexed
+pub mod JoinKeys
+pub mod Passing
 pub mod Rows
 pub mod Walk

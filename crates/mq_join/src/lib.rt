@@ -4,9 +4,16 @@
 #![tactic(auto)]
 
 mod conditions;
+mod deciders;
 mod from_items;
+mod indexes;
+mod join_keys;
 mod join_row;
+mod lookups;
+mod passing;
+mod plans;
 mod query_rows;
+mod sight;
 mod tuple_scope;
 mod walk;
 

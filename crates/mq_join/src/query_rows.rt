@@ -9,6 +9,7 @@ ghost use Rattle.mq_join.specs.Rows.{joined_at, joined_rows, rows_in, rows_over 
 use crate::conditions::conditions_of;
 use crate::from_items::{ItemRows, items_of};
 use crate::join_row::{JoinRow, joined};
+use crate::plans::plan_of;
 use crate::walk::rows_behind;
 use mq_ir::FromPart;
 use mq_tables::{TableSet, Tables};
@@ -86,12 +87,15 @@ fn rows_over<'a>(
 ) -> Result<Items<JoinRow<'a>>, Fail<FaultKind>>
     ensures { Gives result (spec_rows_over q.now items.now) }
 {
-    let conditions = conditions_of(alloc, q)?;
+    let all = conditions_of(alloc, q)?;
+    let conditions = all.as_slice();
+    let plan = plan_of(alloc, conditions, items)?;
     let mut tuple = Vec::with_capacity(alloc, items.len())?;
     rows_behind(
         alloc,
-        conditions.as_slice(),
+        conditions,
         items,
+        &plan,
         &mut tuple,
         Items::new(alloc),
     )
