@@ -1,14 +1,18 @@
 -- Where a right side stands, and the names that its references give to cells.
-use Rattle.std.specs.Prelude.{List, Option, Some, None, Result, Ok, Err}
+use Rattle.std.specs.Prelude.{ℕ, List, map, Option, Some, None, Result, Ok, Err}
 use Rattle.std.specs.List.{zip}
 use Rattle.mq_values.specs.declared.faults.ValueFault.{ValueFault}
 use Rattle.mq_values.specs.declared.operators.DimTest.{DimTest}
 use Rattle.mq_values.specs.declared.value.Kind.{Kind}
 use Rattle.mq_values.specs.declared.value.Value.{Value}
+use Rattle.mq_ir.specs.declared.expression.BoundSum.{BoundSum}
 use Rattle.mq_ir.specs.declared.expression.Expr.{Expr}
 use Rattle.mq_ir.specs.declared.expression.Test.{Test}
-use Rattle.mq_ir.specs.Reads.{Site, inner_leaves}
-use Rattle.mq_ir.specs.Results.{each}
+use Rattle.mq_ir.specs.Expression.{Outcome, ev}
+use Rattle.mq_ir.specs.Operators.{added, chained}
+use Rattle.mq_ir.specs.PartLaws.{term_found}
+use Rattle.mq_ir.specs.Reads.{Measures, Site, cell_named, inner_leaves}
+use Rattle.mq_ir.specs.Results.{◌>>=◌, each}
 use Rattle.mq_ir.specs.Slots.{site_in}
 use Rattle.mq_ir.specs.Tests.{converted, test_of}
 use Rattle.mq_ir.specs.Unfolding.{model_of}
@@ -33,3 +37,11 @@ tests_named site kinds places = each (place_tested site) (zip kinds places)
 abbrev pub if_named : {A : Type 0} → Result A ValueFault → Option A
 if_named (Ok name) = Some name
 if_named (Err fault) = None
+
+-- a sum where only the target's dimensions and the turn are known
+abbrev pub total_of : Site → Expr → List BoundSum → Outcome
+total_of site first terms = ev (inner_leaves site) first >>= (λ v. chained added v (map (term_found (inner_leaves site)) terms))
+
+-- a measure of the single cell that indices name, without NAV
+abbrev pub value_named : Site → Measures → ℕ → List Expr → Outcome
+value_named site now m indices = cell_named site site.model.part.dims indices >>= (λ key. Ok (now (record { key = key; measure = m })))

@@ -7,6 +7,7 @@ mod inside;
 mod looks;
 mod names;
 mod order;
+mod plain;
 mod reading;
 mod references;
 mod seen;

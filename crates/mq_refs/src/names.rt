@@ -1,5 +1,5 @@
 //! The cells that references name.
-ghost use Rattle.std.specs.Prelude.{◌≡◌, IfOk};
+ghost use Rattle.std.specs.Prelude.{◌≡◌, true, Ok, IfOk};
 ghost use Rattle.std.specs.List.{list_all, zip};
 ghost use Rattle.mq_values.specs.Answers.{Gives};
 ghost use Rattle.mq_ir.specs.Reads as spec;
@@ -8,6 +8,7 @@ ghost use Rattle.mq_refs.specs.Sites.{if_named, site_of};
 ghost use Rattle.mq_refs.specs.Sites as sites;
 
 use crate::inside::Inside;
+use crate::plain::{brought, is_number, is_of, plain_number};
 use crate::standpoint::Standpoint;
 use mq_ir::{Expr, Test};
 use mq_scalar::{converted, test_of};
@@ -39,7 +40,35 @@ fn index_named(
 ) -> Result<Value, Fail<ValueFault>>
     ensures { Gives result (sites.index_named (site_of at.now) (kind, e.now)) }
 {
-    converted(alloc, e, kind, &mut Inside { at })
+    match plain_number(at, e) {
+        Some(n) => brought(alloc, Value::Num(n), kind),
+        None => converted(alloc, e, kind, &mut Inside { at }),
+    }
+}
+
+/// Whether the indices of a single cell are seen at once to name the cell at `key`; false says nothing.
+pub fn names_at_once(at: &Standpoint<'_>, kinds: &[Kind], indices: &[Expr], key: &[Value]) -> bool
+    ensures { result ≡ true → spec.cell_named (site_of at.now) kinds.now indices.now ≡ Ok key.now }
+{
+    if key.len() != kinds.len().min(indices.len()) {
+        return false;
+    }
+    for i in 0..key.len() {
+        if !names_part(at, kinds[i], &indices[i], &key[i]) {
+            return false;
+        }
+    }
+    true
+}
+
+// Whether an index is seen at once to name `v`.
+fn names_part(at: &Standpoint<'_>, kind: Kind, e: &Expr, v: &Value) -> bool
+    ensures { result ≡ true → sites.index_named (site_of at.now) (kind, e.now) ≡ Ok v.now }
+{
+    match plain_number(at, e) {
+        Some(n) => is_number(v, n) && is_of(v, kind),
+        None => false,
+    }
 }
 
 /// The tests of a range's places, their operands evaluated, or the first fault from left to right.

@@ -10,6 +10,7 @@ ghost use Rattle.mq_ir.specs.Targets as targets;
 ghost use Rattle.mq_cells.specs.Stores.{cell_name};
 ghost use Rattle.mq_refs.specs.Orders.{IsInOrder, IsInOrder-prop, KeysAscend};
 ghost use Rattle.mq_refs.specs.Sightings.{value_seen};
+ghost use Rattle.mq_refs.specs.Sites as sites;
 ghost use Rattle.mq_refs.specs.Sites.{site_of};
 
 use crate::inside::inner_leaf;
@@ -72,8 +73,7 @@ fn cell_value(
     ensures exact { Gives result (spec.cell_value (site_of at.now) (value_seen seen.old) measure indices.now) }
     ensures same { seen.new ≡ seen.old }
 {
-    let key = cell_named(alloc, at, at.model.part.dims.as_slice(), indices)?;
-    let v = seen.value(key.as_slice(), measure)?;
+    let v = value_named(alloc, at, measure, indices, seen)?;
     let kind = kind_in(at.model.part.measures.as_slice(), measure);
     Ok(nav(Some(v), kind, at.model.part.ignore_nav))
 }
@@ -89,9 +89,40 @@ fn not_null(
     ensures exact { Gives result (spec.not_null (site_of at.now) (value_seen seen.old) measure indices.now) }
     ensures same { seen.new ≡ seen.old }
 {
-    let key = cell_named(alloc, at, at.model.part.dims.as_slice(), indices)?;
-    let v = seen.value(key.as_slice(), measure)?;
+    let v = value_named(alloc, at, measure, indices, seen)?;
     Ok(flag(!v.is_null()))
+}
+
+// A measure of a single cell, without NAV.
+fn value_named(
+    alloc: Global,
+    at: &Standpoint<'_>,
+    measure: u32,
+    indices: &[Expr],
+    seen: &mut Seen,
+) -> Result<Value, Fail<ValueFault>>
+    ensures exact { Gives result (sites.value_named (site_of at.now) (value_seen seen.old) measure indices.now) }
+    ensures same { seen.new ≡ seen.old }
+{
+    match seen.next_value(at, measure, indices)? {
+        Some(v) => Ok(v),
+        None => value_found(alloc, at, measure, indices, seen),
+    }
+}
+
+// The same, from the key that the indices name.
+fn value_found(
+    alloc: Global,
+    at: &Standpoint<'_>,
+    measure: u32,
+    indices: &[Expr],
+    seen: &mut Seen,
+) -> Result<Value, Fail<ValueFault>>
+    ensures exact { Gives result (sites.value_named (site_of at.now) (value_seen seen.old) measure indices.now) }
+    ensures same { seen.new ≡ seen.old }
+{
+    let key = cell_named(alloc, at, at.model.part.dims.as_slice(), indices)?;
+    Ok(seen.value(key.as_slice(), measure)?)
 }
 
 // Whether a single cell is in the input.

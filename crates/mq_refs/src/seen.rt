@@ -1,13 +1,16 @@
 //! The values that were seen at the looks of a right side.
-ghost use Rattle.std.specs.Prelude.{◌≡◌, ◌<◌, true, length, drop, slice_index_or, None, IfOk, IfSome};
+ghost use Rattle.std.specs.Prelude.{◌≡◌, ◌<◌, true, length, drop, slice_index_or, None, Ok, IfOk, IfSome};
 ghost use Rattle.mq_values.specs.declared.value.Value.TheVariants.{Null};
 ghost use Rattle.mq_cells.specs.Stores as stores;
 ghost use Rattle.mq_cells.specs.Stores.{cell_name};
 ghost use Rattle.mq_refs.specs.Sightings.{AreSteady, value_seen};
+ghost use Rattle.mq_refs.specs.Sites.{site_of, value_named};
 ghost use Rattle.mq_refs.specs.declared.sighting.Sighting.{Sighting as OneSighting};
 
+use crate::names::names_at_once;
 use crate::sighting::Sighting;
-use mq_ir::CellName;
+use crate::standpoint::Standpoint;
+use mq_ir::{CellName, Expr};
 use mq_values::{Items, Memory, Value};
 use std::marker::Model;
 
@@ -40,6 +43,28 @@ impl Seen {
         Seen { sightings, next: 0 }
     }
 
+    /// The value that was seen at a measure of the cell that `indices` name, where the sighting behind the last one's find
+    /// is told at once to be of it. It is for a reference in its turn: its indices were evaluated for its look.
+    pub fn next_value(
+        &mut self,
+        at: &Standpoint<'_>,
+        measure: u32,
+        indices: &[Expr],
+    ) -> Result<Option<Value>, Memory>
+        ensures exact { IfOk result (λ found. IfSome found (λ v. value_named (site_of at.now) (value_seen self.old) measure indices.now ≡ Ok v)) }
+        ensures same { self.new ≡ self.old }
+    {
+        let sightings = self.sightings.as_slice();
+        match seen_next(sightings, self.next, at, measure, indices) {
+            Some(value) => {
+                let v = value.copy()?;
+                self.next += 1;
+                Ok(Some(v))
+            }
+            None => Ok(None),
+        }
+    }
+
     /// The value that was seen at a measure of the cell at `key`, or null.
     pub fn value(&mut self, key: &[Value], measure: u32) -> Result<Value, Memory>
         ensures exact { IfOk result (λ v. v ≡ value_seen self.old (cell_name key.now measure)) }
@@ -54,6 +79,31 @@ impl Seen {
             }
             None => Ok(Value::Null),
         }
+    }
+}
+
+// What was seen at place `next`, where this is told at once to be the measure of the cell that `indices` name.
+fn seen_next<'a>(
+    sightings: &'a [Sighting],
+    next: usize,
+    at: &Standpoint<'_>,
+    measure: u32,
+    indices: &[Expr],
+) -> Option<&'a Value>
+    requires { AreSteady sightings.now }
+    ensures exact { IfSome result (λ v. value_named (site_of at.now) (value_seen sightings.now) measure indices.now ≡ Ok v.now) }
+    ensures place { IfSome result (λ v. next < length sightings.now) }
+{
+    if next >= sightings.len() {
+        return None;
+    }
+    let sighting = &sightings[next];
+    let dims = at.model.part.dims.as_slice();
+    let key = sighting.name.key.as_slice();
+    if sighting.name.measure == measure && names_at_once(at, dims, indices, key) {
+        Some(&sighting.value)
+    } else {
+        None
     }
 }
 

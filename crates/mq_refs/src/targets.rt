@@ -13,6 +13,7 @@ ghost use Rattle.mq_refs.specs.Sites.{site_of};
 
 use crate::looks::looks_from;
 use crate::order::InOrder;
+use crate::plain::brought;
 use crate::reading::Reading;
 use crate::references::kind_in;
 use crate::seen::Seen;
@@ -21,7 +22,7 @@ use crate::standpoint::Standpoint;
 use mq_cells::Cells;
 use mq_ir::{Model, PartShape, Rule, Slot, reads_are_among_looks};
 use mq_scalar::eval;
-use mq_values::{Fail, Key, Memory, Value, ValueFault, cast};
+use mq_values::{Fail, Key, Memory, Value, ValueFault};
 use std::alloc::Global;
 
 /// What rule `r` makes of `target` in turn `turn`, over the cells of `s` and what stands in `cells`: `Poisoned` where a
@@ -120,5 +121,5 @@ fn right_value(
     };
     let v = eval(alloc, &r.right, &mut reading)?;
     let kind = kind_in(at.model.part.measures.as_slice(), r.measure);
-    cast(alloc, &v, kind)
+    brought(alloc, v, kind)
 }
