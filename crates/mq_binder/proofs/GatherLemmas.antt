@@ -4,7 +4,7 @@ use Rattle.std.proofs.lemmas.List.{drop_all}
 use Rattle.mq_values.specs.Answers.{Gives}
 use Rattle.mq_values.specs.declared.memory.Fail.{Fail}
 use Rattle.mq_ir.specs.Results.{◌>>=◌, each_in_turn}
-use Rattle.mq_binder.proofs.StepLemmas.{fault_is_last, next_item}
+use Rattle.mq_bind_expr.specs.StepLemmas.{fault_is_last, next_item}
 
 -- `each_in_turn`: the state behind the first i items
 pub record Turned {A S E : Type 0} (f : A → S → Result S E) (first : S) (xs : List A) (i : ℕ) (now : S) : Type 0 where

@@ -1,4 +1,9 @@
+mod AnswerLemmas
+mod CarrySteps
+mod FlatLemmas
 mod GatherLemmas
+mod NameLemmas
 mod NumberLemmas
-mod PresenceLemmas
-mod StepLemmas
+mod PlacedLemmas
+mod RangeLemmas
+mod TupleLemmas

@@ -2,7 +2,7 @@
 use Rattle.std.proofs.Common.{◌≡◌, ℕ, ◌+◌, ◌<◌, ◌≤◌, List, [], ◌∷◌, ◌++◌, drop, length, get_or, map, refl, sym, ap, ◌∙◌, append_assoc}
 use Rattle.std.specs.List.{enumerate_from}
 use Rattle.std.proofs.lemmas.List.{append-nil, drop_all}
-use Rattle.mq_binder.proofs.StepLemmas.{next_item}
+use Rattle.mq_bind_expr.specs.StepLemmas.{next_item}
 
 -- behind `base` stands what the first i items gave, each with its number
 pub record Listed {A B : Type 0} (f : ℕ × A → B) (xs : List A) (base : List B) (i : ℕ) (ys : List B) : Type 0 where

@@ -1,8 +1,6 @@
 -- INSERT, UPDATE and DELETE.
-use Rattle.std.specs.Prelude.{ℕ, List, [], ◌∷◌, ◌++◌, length, map, Bool, not, ◌==◌, Option, Some, None, Result, Ok, slice_set, slice_index_or}
-use Rattle.std.specs.List.{list_all, list_any, range_with_len, zip}
-use Rattle.std.specs.Option.{option_map_or}
-use Rattle.mq_lexer.specs.Words.{folded}
+use Rattle.std.specs.Prelude.{ℕ, List, [], ◌∷◌, length, map, Bool, not, ◌==◌, Option, Some, None, Result, Ok, slice_set, slice_index_or}
+use Rattle.std.specs.List.{list_all, range_with_len, zip}
 use Rattle.mq_values.specs.declared.faults.Refused.{Refused}
 use Rattle.mq_values.specs.declared.value.Value.TheVariants as value
 use Rattle.mq_ast.specs.declared.expressions.E.{E}
@@ -11,19 +9,19 @@ use Rattle.mq_ir.specs.declared.expression.Expr.TheVariants as expr
 use Rattle.mq_ir.specs.declared.statement.Column.{Column}
 use Rattle.mq_ir.specs.declared.statement.Schema.{Schema}
 use Rattle.mq_ir.specs.Results.{◌>>=◌, each}
-use Rattle.mq_binder.specs.declared.kinds.ExprKind.{ExprKind}
-use Rattle.mq_binder.specs.declared.kinds.ExprKind.TheVariants as kind
-use Rattle.mq_binder.specs.declared.scopes.Found.{Found}
-use Rattle.mq_binder.specs.declared.scopes.Part.TheVariants as part
-use Rattle.mq_binder.specs.declared.scopes.Scope.{Scope}
-use Rattle.mq_binder.specs.ExpressionWalk.{bound}
+use Rattle.mq_bind_expr.specs.declared.kinds.ExprKind.{ExprKind}
+use Rattle.mq_bind_expr.specs.declared.kinds.ExprKind.TheVariants as kind
+use Rattle.mq_bind_expr.specs.declared.scopes.Found.{Found}
+use Rattle.mq_bind_expr.specs.declared.scopes.Part.TheVariants as part
+use Rattle.mq_bind_expr.specs.declared.scopes.Scope.{Scope}
+use Rattle.mq_bind_expr.specs.ExpressionWalk.{bound}
 use Rattle.mq_binder.specs.FromWalk.{columns_of_item, row_scope}
-use Rattle.mq_binder.specs.Kinds.{is_assignable, of_column}
-use Rattle.mq_binder.specs.Names.{Name}
-use Rattle.mq_binder.specs.OperatorNodes.{exprs_of}
-use Rattle.mq_binder.specs.Positions.{standing}
-use Rattle.mq_binder.specs.Steps.{each_behind}
-use Rattle.mq_binder.specs.Refusals.{duplicate_name, kind_mismatch, refused_where}
+use Rattle.mq_bind_expr.specs.Kinds.{is_assignable, of_column}
+use Rattle.mq_bind_expr.specs.Names.{Name}
+use Rattle.mq_bind_expr.specs.OperatorNodes.{exprs_of}
+use Rattle.mq_bind_expr.specs.Positions.{standing}
+use Rattle.mq_bind_expr.specs.Steps.{each_behind}
+use Rattle.mq_bind_expr.specs.Refusals.{kind_mismatch, refused_where}
 use Rattle.mq_binder.specs.TableWalk.{columns_named, new_column}
 
 -- the kind of the column of a number

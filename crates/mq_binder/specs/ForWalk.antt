@@ -1,52 +1,38 @@
 -- The FORs of a left side: what they go through, and whether it goes with the dimensions that they stand for.
-use Rattle.std.specs.Prelude.{ℕ, ◌+◌, List, [], ◌∷◌, ◌++◌, length, map, zip, Bool, true, false, not, ◌&&◌, ◌||◌, ◌==◌, Option, Some, None, Result, Ok, Err, position}
+use Rattle.std.specs.Prelude.{ℕ, ◌+◌, List, [], ◌∷◌, ◌++◌, length, map, zip, Bool, true, false, not, ◌&&◌, ◌==◌, Option, Some, None, Result, Ok}
 use Rattle.std.specs.List.{list_all}
-use Rattle.std.specs.Option.{ok_or, option_and_then, option_map, option_map_or}
+use Rattle.std.specs.Option.{option_map_or}
 use Rattle.mq_lexer.specs.Words.{folded}
 use Rattle.mq_values.specs.declared.faults.Refused.{Refused}
 use Rattle.mq_ast.specs.declared.expressions.E.{E}
 use Rattle.mq_ast.specs.declared.queries.ForList.{ForList}
 use Rattle.mq_ast.specs.declared.queries.ForList.TheVariants as for_list
-use Rattle.mq_ast.specs.declared.queries.LeftPlace.{LeftPlace}
-use Rattle.mq_ast.specs.declared.queries.LeftPlace.TheVariants as place
-use Rattle.mq_ast.specs.declared.queries.LeftTree.{LeftTree}
-use Rattle.mq_ast.specs.declared.queries.LeftTree.TheVariants as tree
 use Rattle.mq_ir.specs.declared.catalog.Catalog.{Catalog}
-use Rattle.mq_ir.specs.declared.expression.Expr.{Expr}
-use Rattle.mq_ir.specs.declared.expression.Expr.TheOpen as layer
-use Rattle.mq_ir.specs.declared.expression.Test.{Test, out-Test}
-use Rattle.mq_ir.specs.declared.expression.Test.TheVariants as test
-use Rattle.mq_ir.specs.declared.query.Left.TheVariants as left
 use Rattle.mq_ir.specs.declared.query.LeftItem.{LeftItem}
 use Rattle.mq_ir.specs.declared.query.LeftItem.TheVariants as item
 use Rattle.mq_ir.specs.declared.query.ListSource.TheVariants as source
 use Rattle.mq_ir.specs.declared.query.PlainPart.{PlainPart}
-use Rattle.mq_ir.specs.Fits.{numbers_each_once}
 use Rattle.mq_ir.specs.Results.{◌>>=◌, each}
 use Rattle.mq_ir.specs.Tables.{is_name}
-use Rattle.mq_binder.specs.declared.found.LeftFound.{LeftFound}
-use Rattle.mq_binder.specs.declared.found.LeftItemFound.{LeftItemFound}
 use Rattle.mq_binder.specs.declared.found.ListFound.{ListFound}
 use Rattle.mq_binder.specs.declared.found.PlainFound.{PlainFound}
-use Rattle.mq_binder.specs.declared.kinds.ExprKind.{ExprKind}
-use Rattle.mq_binder.specs.declared.kinds.ExprKind.TheVariants as kind
-use Rattle.mq_binder.specs.declared.misuse_numbers.TheConstants.{MISUSE_OF_FOR, MISUSE_OF_PLACE_COUNT}
-use Rattle.mq_binder.specs.declared.scopes.Found.{Found}
-use Rattle.mq_binder.specs.declared.scopes.Named.{Named}
-use Rattle.mq_binder.specs.declared.scopes.Owner.TheVariants as owner
-use Rattle.mq_binder.specs.declared.scopes.Part.TheVariants as part
-use Rattle.mq_binder.specs.declared.scopes.Printed.{Printed}
-use Rattle.mq_binder.specs.declared.scopes.Scope.{Scope}
-use Rattle.mq_binder.specs.ExpressionWalk.{bound}
-use Rattle.mq_binder.specs.Forms.{is_condition}
-use Rattle.mq_binder.specs.Kinds.{is_index}
-use Rattle.mq_binder.specs.Misuses.{other_place_count}
-use Rattle.mq_binder.specs.Names.{Name}
-use Rattle.mq_binder.specs.OperatorNodes.{exprs_of, kinds_of}
-use Rattle.mq_binder.specs.PlaceTests.{fits_dimension, place_of}
+use Rattle.mq_bind_expr.specs.declared.kinds.ExprKind.{ExprKind}
+use Rattle.mq_bind_expr.specs.declared.kinds.ExprKind.TheVariants as kind
+use Rattle.mq_bind_expr.specs.declared.misuse_numbers.TheConstants.{MISUSE_OF_FOR}
+use Rattle.mq_bind_expr.specs.declared.scopes.Found.{Found}
+use Rattle.mq_bind_expr.specs.declared.scopes.Named.{Named}
+use Rattle.mq_bind_expr.specs.declared.scopes.Owner.TheVariants as owner
+use Rattle.mq_bind_expr.specs.declared.scopes.Part.TheVariants as part
+use Rattle.mq_bind_expr.specs.declared.scopes.Printed.{Printed}
+use Rattle.mq_bind_expr.specs.declared.scopes.Scope.{Scope}
+use Rattle.mq_bind_expr.specs.ExpressionWalk.{bound}
+use Rattle.mq_bind_expr.specs.Kinds.{is_index}
+use Rattle.mq_bind_expr.specs.Names.{Name}
+use Rattle.mq_bind_expr.specs.OperatorNodes.{exprs_of, kinds_of}
+use Rattle.mq_bind_expr.specs.PlaceTests.{fits_dimension}
 use Rattle.mq_binder.specs.PlainWalk.{plain_bound}
-use Rattle.mq_binder.specs.Positions.{bracketed, dimension_at, place_kind, standing}
-use Rattle.mq_binder.specs.Refusals.{kind_mismatch, misuse, refused_where}
+use Rattle.mq_bind_expr.specs.Positions.{dimension_at, place_kind, standing}
+use Rattle.mq_bind_expr.specs.Refusals.{kind_mismatch, misuse, refused_where}
 
 -- What a FOR goes through. Its subquery is a query of its own, and is put behind the subqueries of the FORs before it.
 abbrev pub value_row : Scope → List E → Result (List Found) Refused

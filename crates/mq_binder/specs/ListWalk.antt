@@ -1,5 +1,5 @@
 -- The lists of a model or a reference: partition columns, dimensions and measures, and its options.
-use Rattle.std.specs.Prelude.{ℕ, List, [], ◌∷◌, ◌++◌, length, map, filter, Bool, true, false, ◌||◌, nat_lt, if◌then◌else◌, Option, Some, None, Result, Ok, Err}
+use Rattle.std.specs.Prelude.{ℕ, List, length, map, filter, Bool, true, false, ◌||◌, nat_lt, if◌then◌else◌, Option, Some, None, Result, Ok, Err}
 use Rattle.std.specs.List.{list_any}
 use Rattle.std.specs.Option.{ok_or}
 use Rattle.mq_values.specs.declared.faults.Refused.{Refused}
@@ -11,17 +11,17 @@ use Rattle.mq_ir.specs.declared.expression.Expr.{Expr}
 use Rattle.mq_ir.specs.Results.{◌>>=◌}
 use Rattle.mq_ir.specs.Tables.{is_name}
 use Rattle.mq_binder.specs.declared.found.ListItem.{ListItem}
-use Rattle.mq_binder.specs.declared.misuse_numbers.TheConstants.{MISUSE_OF_ITEM_WITHOUT_NAME, MISUSE_OF_OPTIONS}
-use Rattle.mq_binder.specs.declared.scopes.Found.{Found}
-use Rattle.mq_binder.specs.declared.scopes.Named.{Named}
-use Rattle.mq_binder.specs.declared.scopes.Position.{Position}
-use Rattle.mq_binder.specs.declared.scopes.Scope.{Scope}
-use Rattle.mq_binder.specs.ExpressionWalk.{bound}
-use Rattle.mq_binder.specs.Forms.{name_of}
-use Rattle.mq_binder.specs.Kinds.{column_kind}
-use Rattle.mq_binder.specs.Names.{Name}
-use Rattle.mq_binder.specs.Steps.{each_behind}
-use Rattle.mq_binder.specs.Refusals.{duplicate_name, kind_mismatch, limit, misuse, refused_where}
+use Rattle.mq_bind_expr.specs.declared.misuse_numbers.TheConstants.{MISUSE_OF_ITEM_WITHOUT_NAME, MISUSE_OF_OPTIONS}
+use Rattle.mq_bind_expr.specs.declared.scopes.Found.{Found}
+use Rattle.mq_bind_expr.specs.declared.scopes.Named.{Named}
+use Rattle.mq_bind_expr.specs.declared.scopes.Position.{Position}
+use Rattle.mq_bind_expr.specs.declared.scopes.Scope.{Scope}
+use Rattle.mq_bind_expr.specs.ExpressionWalk.{bound}
+use Rattle.mq_bind_expr.specs.Forms.{name_of}
+use Rattle.mq_bind_expr.specs.Kinds.{column_kind}
+use Rattle.mq_bind_expr.specs.Names.{Name}
+use Rattle.mq_bind_expr.specs.Steps.{each_behind}
+use Rattle.mq_bind_expr.specs.Refusals.{duplicate_name, kind_mismatch, limit, misuse, refused_where}
 
 -- an item has a kind
 abbrev pub item_kind : Found → Result Kind Refused

@@ -1,12 +1,12 @@
 -- A MODEL clause: its options and references, its lists with their limits, the main options, the rules and UNTIL.
-use Rattle.std.specs.Prelude.{ℕ, pos, negsuc, List, [], ◌∷◌, ◌++◌, length, map, Bool, true, false, not, ◌||◌, ◌&&◌, nat_lt, nat_le, Option, Some, None, is_some, Result, Ok, Err, unwrap_or, if◌then◌else◌}
+use Rattle.std.specs.Prelude.{ℕ, pos, negsuc, List, [], ◌++◌, length, map, Bool, false, ◌||◌, ◌&&◌, nat_lt, nat_le, Option, Some, None, is_some, Result, Ok, Err, unwrap_or, if◌then◌else◌}
 use Rattle.std.specs.Option.{option_map}
 use Rattle.mq_values.specs.Number.{Number}
 use Rattle.mq_values.specs.declared.faults.Refused.{Refused}
 use Rattle.mq_values.specs.declared.limits.TheConstants.{MAX_DIMENSIONS, MAX_MEASURES, MAX_PARTITION_COLUMNS, MAX_RULES, MAX_TURNS}
-use Rattle.mq_values.specs.declared.operators.Mode.{Mode}
 use Rattle.mq_values.specs.declared.operators.Mode.TheVariants as mode
 use Rattle.mq_ast.specs.declared.queries.ModelTree.{ModelTree}
+use Rattle.mq_ast.specs.declared.queries.Sel.{Sel}
 use Rattle.mq_ir.specs.declared.catalog.Catalog.{Catalog}
 use Rattle.mq_ir.specs.declared.expression.Expr.{Expr}
 use Rattle.mq_ir.specs.declared.limit_numbers.TheConstants.{LIMIT_OF_DIMENSIONS, LIMIT_OF_MEASURES, LIMIT_OF_PARTITION_COLUMNS, LIMIT_OF_RULES, LIMIT_OF_TURNS}
@@ -16,33 +16,34 @@ use Rattle.mq_ir.specs.declared.query.ModelPart.{ModelPart}
 use Rattle.mq_ir.specs.Results.{◌>>=◌}
 use Rattle.mq_binder.specs.declared.found.Base.{Base}
 use Rattle.mq_binder.specs.declared.found.ListItem.{ListItem}
+use Rattle.mq_binder.specs.declared.found.Lists.{Lists}
 use Rattle.mq_binder.specs.declared.found.ModelFound.{ModelFound}
 use Rattle.mq_binder.specs.declared.found.ReferenceFound.{ReferenceFound}
 use Rattle.mq_ir.specs.declared.query.PlainPart.{PlainPart}
 use Rattle.mq_ir.specs.declared.query.Rule.{Rule}
-use Rattle.mq_binder.specs.declared.misuse_numbers.TheConstants.{MISUSE_OF_ITERATE}
-use Rattle.mq_binder.specs.declared.scopes.Part.TheVariants as part
-use Rattle.mq_binder.specs.declared.scopes.Scope.{Scope}
-use Rattle.mq_binder.specs.ExpressionWalk.{bound_filter}
-use Rattle.mq_binder.specs.FromWalk.{group_of, grouped_by, row_scope}
+use Rattle.mq_bind_expr.specs.declared.misuse_numbers.TheConstants.{MISUSE_OF_ITERATE}
+use Rattle.mq_bind_expr.specs.declared.scopes.Part.TheVariants as part
+use Rattle.mq_bind_expr.specs.declared.scopes.Scope.{Scope}
+use Rattle.mq_bind_expr.specs.ExpressionWalk.{bound_filter}
+use Rattle.mq_binder.specs.FromWalk.{group_of, grouped_by}
 use Rattle.mq_binder.specs.ListWalk.{ignores_nav, items_listed, limited, list_columns, list_exprs, list_kinds, list_names, options_checked}
+use Rattle.mq_bind_expr.specs.Names.{Name}
 use Rattle.mq_binder.specs.PlainWalk.{any_aggregate}
-use Rattle.mq_binder.specs.Positions.{standing}
+use Rattle.mq_bind_expr.specs.Positions.{standing}
 use Rattle.mq_binder.specs.ReferenceWalk.{references_bound}
-use Rattle.mq_binder.specs.Refusals.{limit, misuse, refused_where}
+use Rattle.mq_bind_expr.specs.Refusals.{limit, misuse, refused_where}
 use Rattle.mq_binder.specs.RuleWalk.{rules_bound}
 
--- the three lists of a model
-pub record Lists : Type 0 where
-  pub parts : List ListItem
-  pub dims : List ListItem
-  pub measures : List ListItem
+-- a list of the model with the limit of its length, behind columns of these names
+abbrev pub items_limited : Scope → ℕ → ℕ → List Name → List Sel → Result (List ListItem) Refused
+items_limited scope most number taken sels = items_listed scope (standing part.Item) taken sels >>= limited most number
 
+-- the three lists
 abbrev pub lists_bound : Scope → ModelTree → Result Lists Refused
 lists_bound scope m =
-    items_listed scope (standing part.Item) [] m.parts >>= limited MAX_PARTITION_COLUMNS LIMIT_OF_PARTITION_COLUMNS >>= (λ parts.
-    items_listed scope (standing part.Item) (list_names parts) m.dims >>= limited MAX_DIMENSIONS LIMIT_OF_DIMENSIONS >>= (λ dims.
-    items_listed scope (standing part.Item) (list_names parts ++ list_names dims) m.measures >>= limited MAX_MEASURES LIMIT_OF_MEASURES >>= (λ measures.
+    items_limited scope MAX_PARTITION_COLUMNS LIMIT_OF_PARTITION_COLUMNS [] m.parts >>= (λ parts.
+    items_limited scope MAX_DIMENSIONS LIMIT_OF_DIMENSIONS (list_names parts) m.dims >>= (λ dims.
+    items_limited scope MAX_MEASURES LIMIT_OF_MEASURES (list_names parts ++ list_names dims) m.measures >>= (λ measures.
     Ok (record { parts = parts; dims = dims; measures = measures }))))
 
 abbrev pub all_items : Lists → List ListItem
@@ -112,8 +113,11 @@ lists_and_rules catalog group scope m refs =
 abbrev pub model_group : ModelTree → Base → Option (List ColRef)
 model_group m base = group_of base.cols (any_aggregate m.parts || any_aggregate m.dims || any_aggregate m.measures)
 
-abbrev pub model_bound : Catalog → Base → ModelTree → Result ModelFound Refused
-model_bound catalog base m =
+-- a model over rows of this scope, grouped already
+abbrev pub model_over : Catalog → Scope → ModelTree → Result ModelFound Refused
+model_over catalog scope m =
     options_checked m.opts (
-    references_bound catalog (ignores_nav m.opts false) m.refs >>= (λ refs.
-    lists_and_rules catalog (model_group m base) (grouped_by (model_group m base) base.scope) m refs))
+    references_bound catalog (ignores_nav m.opts false) m.refs >>= (λ refs. lists_and_rules catalog scope.group scope m refs))
+
+abbrev pub model_bound : Catalog → Base → ModelTree → Result ModelFound Refused
+model_bound catalog base m = model_over catalog (grouped_by (model_group m base) base.scope) m

@@ -1,5 +1,5 @@
 -- A query without MODEL and without an order, as by itself, in a reference and in a FOR.
-use Rattle.std.specs.Prelude.{ℕ, List, length, map, Bool, true, false, nat_lt, Option, Some, None, Result, Ok}
+use Rattle.std.specs.Prelude.{List, length, map, Bool, true, false, nat_lt, Option, Some, Result, Ok}
 use Rattle.std.specs.List.{list_any}
 use Rattle.mq_values.specs.declared.faults.Refused.{Refused}
 use Rattle.mq_values.specs.declared.limits.TheConstants.{MAX_PRINTED_COLUMNS}
@@ -9,21 +9,22 @@ use Rattle.mq_ir.specs.declared.catalog.Catalog.{Catalog}
 use Rattle.mq_ir.specs.declared.expression.Expr.{Expr}
 use Rattle.mq_ir.specs.declared.limit_numbers.TheConstants.{LIMIT_OF_PRINTED_COLUMNS}
 use Rattle.mq_ir.specs.declared.query.ColRef.{ColRef}
+use Rattle.mq_ir.specs.declared.query.FromPart.{FromPart}
 use Rattle.mq_ir.specs.Results.{◌>>=◌, each}
 use Rattle.mq_binder.specs.declared.found.Base.{Base}
 use Rattle.mq_binder.specs.declared.found.PlainFound.{PlainFound}
-use Rattle.mq_binder.specs.declared.misuse_numbers.TheConstants.{MISUSE_OF_UNGROUPED_COLUMN}
-use Rattle.mq_binder.specs.declared.scopes.Part.TheVariants as part
-use Rattle.mq_binder.specs.declared.scopes.Printed.{Printed}
-use Rattle.mq_binder.specs.declared.scopes.RowColumn.{RowColumn}
-use Rattle.mq_binder.specs.declared.scopes.Scope.{Scope}
-use Rattle.mq_binder.specs.ExpressionWalk.{bound_value}
-use Rattle.mq_binder.specs.Forms.{has_aggregate, name_of}
+use Rattle.mq_bind_expr.specs.declared.misuse_numbers.TheConstants.{MISUSE_OF_UNGROUPED_COLUMN}
+use Rattle.mq_bind_expr.specs.declared.scopes.Part.TheVariants as part
+use Rattle.mq_bind_expr.specs.declared.scopes.Printed.{Printed}
+use Rattle.mq_bind_expr.specs.declared.scopes.RowColumn.{RowColumn}
+use Rattle.mq_bind_expr.specs.declared.scopes.Scope.{Scope}
+use Rattle.mq_bind_expr.specs.ExpressionWalk.{bound_value}
+use Rattle.mq_bind_expr.specs.Forms.{has_aggregate, name_of}
 use Rattle.mq_binder.specs.FromWalk.{base_of, group_of, grouped_by}
-use Rattle.mq_binder.specs.Misuses.{is_ungrouped}
-use Rattle.mq_binder.specs.NameNodes.{column_leaf}
-use Rattle.mq_binder.specs.Positions.{standing}
-use Rattle.mq_binder.specs.Refusals.{limit, misuse, refused_where}
+use Rattle.mq_bind_expr.specs.Misuses.{is_ungrouped}
+use Rattle.mq_bind_expr.specs.NameNodes.{column_leaf}
+use Rattle.mq_bind_expr.specs.Positions.{standing}
+use Rattle.mq_bind_expr.specs.Refusals.{limit, misuse, refused_where}
 
 -- an item with the column that it prints
 abbrev pub Item : Type 0
@@ -53,15 +54,21 @@ few_printed items = refused_where (nat_lt MAX_PRINTED_COLUMNS (length items)) (l
 abbrev pub any_aggregate : List Sel → Bool
 any_aggregate = list_any (λ (s : Sel). has_aggregate s.e)
 
-abbrev pub plain_of : Base → Option (List ColRef) → List Item → PlainFound
-plain_of base group items = record {
-  part = record { from = base.from; items = record { group = group; items = map (λ (i : Item). i.0) items } };
+abbrev pub plain_of : FromPart → Option (List ColRef) → List Item → PlainFound
+plain_of from group items = record {
+  part = record { from = from; items = record { group = group; items = map (λ (i : Item). i.0) items } };
   printed = map (λ (i : Item). i.1) items;
 }
 
+-- the items of a query over its scope, which is grouped where the query is, and then with its rows
+abbrev pub items_over : Plain → Scope → Result (List Item) Refused
+items_over p scope = select_list p.star p.sels scope >>= few_printed
+
+abbrev pub plain_rows : Plain → FromPart → Scope → Result PlainFound Refused
+plain_rows p from scope = items_over p scope >>= (λ items. Ok (plain_of from scope.group items))
+
 abbrev pub plain_over : Plain → Base → Option (List ColRef) → Result PlainFound Refused
-plain_over p base group =
-    select_list p.star p.sels (grouped_by group base.scope) >>= few_printed >>= (λ items. Ok (plain_of base group items))
+plain_over p base group = plain_rows p base.from (grouped_by group base.scope)
 
 abbrev pub plain_bound : Catalog → Plain → Result PlainFound Refused
 plain_bound catalog p = base_of catalog p >>= (λ base. plain_over p base (group_of base.cols (any_aggregate p.sels)))

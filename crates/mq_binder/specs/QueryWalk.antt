@@ -1,5 +1,5 @@
 -- A query: its rows, its MODEL clause or its items, what it prints, and its order.
-use Rattle.std.specs.Prelude.{ℕ, List, [], length, map, Bool, true, false, Option, Some, None, Result, Ok, position}
+use Rattle.std.specs.Prelude.{ℕ, List, [], length, Bool, true, false, Option, Some, None, Result, Ok, position}
 use Rattle.std.specs.List.{range_with_len}
 use Rattle.std.specs.Option.{ok_or, option_map_or}
 use Rattle.mq_lexer.specs.Words.{folded}
@@ -13,23 +13,24 @@ use Rattle.mq_ir.specs.declared.expression.Expr.{Expr, out-Expr}
 use Rattle.mq_ir.specs.declared.expression.Expr.TheOpen as layer
 use Rattle.mq_ir.specs.declared.expression.Leaf.{Leaf, out-Leaf}
 use Rattle.mq_ir.specs.declared.query.BoundQuery.{BoundQuery}
+use Rattle.mq_ir.specs.declared.query.FromPart.{FromPart}
+use Rattle.mq_ir.specs.declared.query.ModelPart.{ModelPart}
 use Rattle.mq_ir.specs.Results.{◌>>=◌, each}
 use Rattle.mq_ir.specs.Tables.{is_name}
-use Rattle.mq_binder.specs.declared.found.Base.{Base}
 use Rattle.mq_binder.specs.declared.found.ModelFound.{ModelFound}
 use Rattle.mq_binder.specs.declared.found.PlainFound.{PlainFound}
-use Rattle.mq_binder.specs.declared.misuse_numbers.TheConstants.{MISUSE_OF_SHOWN_ITEM}
-use Rattle.mq_binder.specs.declared.scopes.Named.{Named}
-use Rattle.mq_binder.specs.declared.scopes.Part.TheVariants as part
-use Rattle.mq_binder.specs.declared.scopes.Printed.{Printed}
-use Rattle.mq_binder.specs.declared.scopes.Scope.{Scope}
-use Rattle.mq_binder.specs.ExpressionWalk.{bound_value}
-use Rattle.mq_binder.specs.FromWalk.{base_of, no_model}
-use Rattle.mq_binder.specs.ModelWalk.{model_bound}
-use Rattle.mq_binder.specs.Names.{Name, called}
+use Rattle.mq_bind_expr.specs.declared.misuse_numbers.TheConstants.{MISUSE_OF_SHOWN_ITEM}
+use Rattle.mq_bind_expr.specs.declared.scopes.Named.{Named}
+use Rattle.mq_bind_expr.specs.declared.scopes.Part.TheVariants as part
+use Rattle.mq_bind_expr.specs.declared.scopes.Printed.{Printed}
+use Rattle.mq_bind_expr.specs.declared.scopes.Scope.{Scope}
+use Rattle.mq_bind_expr.specs.ExpressionWalk.{bound_value}
+use Rattle.mq_binder.specs.FromWalk.{base_of, grouped_by, no_model}
+use Rattle.mq_binder.specs.ModelWalk.{model_group, model_over}
+use Rattle.mq_bind_expr.specs.Names.{Name, called}
 use Rattle.mq_binder.specs.PlainWalk.{few_printed, plain_bound}
-use Rattle.mq_binder.specs.Positions.{standing}
-use Rattle.mq_binder.specs.Refusals.{misuse, unknown_name}
+use Rattle.mq_bind_expr.specs.Positions.{standing}
+use Rattle.mq_bind_expr.specs.Refusals.{misuse, unknown_name}
 
 -- ORDER BY without MODEL names the leftmost printed column of a name
 abbrev pub prints : Name → Printed → Bool
@@ -68,26 +69,32 @@ abbrev pub shown_list : Bool → List Sel → Scope → Result (List ℕ) Refuse
 shown_list true sels scope = Ok (range_with_len 0 (length scope.shown))
 shown_list false sels scope = each (shown_item scope) sels
 
--- what names mean in that list: model columns, and behind an alias the columns of the FROM items
-abbrev pub shown_scope : Base → ModelFound → Scope
-shown_scope base found =
-    record { aliases = base.scope.aliases; columns = base.scope.columns; group = found.group; shown = found.columns; model = no_model }
+abbrev pub few_shown : Query → Scope → Result (List ℕ) Refused
+few_shown q scope = shown_list q.plain.star q.plain.sels scope >>= few_printed
 
-abbrev pub model_query : Query → Base → ModelFound → Result BoundQuery Refused
-model_query q base found =
-    shown_list q.plain.star q.plain.sels (shown_scope base found) >>= few_printed >>= (λ print.
-    each (model_key found.columns) q.order >>= (λ order.
-    Ok (record {
-      from = base.from;
-      items = record { group = found.group; items = found.items };
-      model = Some found.part;
-      print = print;
-      order = order;
-    })))
+-- what names mean in that list: model columns, and behind an alias the columns of the FROM items
+abbrev pub shown_scope : Scope → ModelFound → Scope
+shown_scope scope found =
+    record { aliases = scope.aliases; columns = scope.columns; group = found.group; shown = found.columns; model = no_model }
+
+-- a query with MODEL: its rows, the items of its model and the model, with what it prints and its order
+abbrev pub model_printed : Query → FromPart → List Expr → Option ModelPart → Scope → Result BoundQuery Refused
+model_printed q from items model scope =
+    few_shown q scope >>= (λ print.
+    each (model_key scope.shown) q.order >>= (λ order.
+    Ok (record { from = from; items = record { group = scope.group; items = items }; model = model; print = print; order = order })))
+
+abbrev pub model_query : Query → FromPart → Scope → ModelFound → Result BoundQuery Refused
+model_query q from scope found = model_printed q from found.items (Some found.part) (shown_scope scope found)
+
+-- the same over rows of this scope, grouped already
+abbrev pub model_rows : Catalog → Query → ModelTree → FromPart → Scope → Result BoundQuery Refused
+model_rows catalog q m from scope = model_over catalog scope m >>= model_query q from scope
 
 abbrev pub query_with : Catalog → Query → Option ModelTree → Result BoundQuery Refused
 query_with catalog q None = plain_bound catalog q.plain >>= plain_query q
-query_with catalog q (Some m) = base_of catalog q.plain >>= (λ base. model_bound catalog base m >>= model_query q base)
+query_with catalog q (Some m) =
+    base_of catalog q.plain >>= (λ base. model_rows catalog q m base.from (grouped_by (model_group m base) base.scope))
 
 abbrev pub query_bound : Catalog → Query → Result BoundQuery Refused
 query_bound catalog q = query_with catalog q q.model

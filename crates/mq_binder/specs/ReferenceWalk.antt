@@ -1,5 +1,5 @@
 -- The references of a model: each its name, its query, its dimensions, its measures and its options.
-use Rattle.std.specs.Prelude.{ℕ, List, [], ◌∷◌, ◌++◌, map, Bool, Option, Some, None, Result, Ok}
+use Rattle.std.specs.Prelude.{ℕ, List, [], ◌∷◌, ◌++◌, Bool, Result, Ok}
 use Rattle.std.specs.List.{enumerate_from, list_any, flat_map}
 use Rattle.std.specs.Option.{option_map_or}
 use Rattle.mq_lexer.specs.Words.{folded}
@@ -13,17 +13,17 @@ use Rattle.mq_ir.specs.Tables.{is_name}
 use Rattle.mq_binder.specs.declared.found.ListItem.{ListItem}
 use Rattle.mq_binder.specs.declared.found.PlainFound.{PlainFound}
 use Rattle.mq_binder.specs.declared.found.ReferenceFound.{ReferenceFound}
-use Rattle.mq_binder.specs.declared.scopes.Part.TheVariants as part
-use Rattle.mq_binder.specs.declared.scopes.Printed.{Printed}
-use Rattle.mq_binder.specs.declared.scopes.RowColumn.{RowColumn}
-use Rattle.mq_binder.specs.declared.scopes.Scope.{Scope}
+use Rattle.mq_bind_expr.specs.declared.scopes.Part.TheVariants as part
+use Rattle.mq_bind_expr.specs.declared.scopes.Printed.{Printed}
+use Rattle.mq_bind_expr.specs.declared.scopes.RowColumn.{RowColumn}
+use Rattle.mq_bind_expr.specs.declared.scopes.Scope.{Scope}
 use Rattle.mq_binder.specs.FromWalk.{row_scope}
 use Rattle.mq_binder.specs.ListWalk.{ignores_nav, items_listed, limited, list_columns, list_exprs, list_kinds, list_names, options_checked}
-use Rattle.mq_binder.specs.Names.{Name}
+use Rattle.mq_bind_expr.specs.Names.{Name}
 use Rattle.mq_binder.specs.PlainWalk.{plain_bound}
-use Rattle.mq_binder.specs.Positions.{standing}
-use Rattle.mq_binder.specs.Steps.{each_behind}
-use Rattle.mq_binder.specs.Refusals.{duplicate_name, refused_where}
+use Rattle.mq_bind_expr.specs.Positions.{standing}
+use Rattle.mq_bind_expr.specs.Steps.{each_behind}
+use Rattle.mq_bind_expr.specs.Refusals.{duplicate_name, refused_where}
 
 -- The lists of a reference name the printed columns of its query, which are the columns of one item without an alias.
 abbrev pub printed_column : ℕ → Printed → List RowColumn
@@ -44,10 +44,18 @@ reference_of around r source dims measures = record {
   names = record { name = folded r.name; dims = list_columns dims; measures = list_columns measures };
 }
 
+abbrev pub dims_listed : RefTree → Scope → Result (List ListItem) Refused
+dims_listed r scope = items_listed scope (standing part.Row) [] r.dims >>= limited MAX_DIMENSIONS LIMIT_OF_DIMENSIONS
+
+-- the measures have other names than the dimensions
+abbrev pub measures_listed : RefTree → List ListItem → Scope → Result (List ListItem) Refused
+measures_listed r dims scope =
+    items_listed scope (standing part.Row) (list_names dims) r.measures >>= limited MAX_MEASURES LIMIT_OF_MEASURES
+
 abbrev pub lists_over : Bool → RefTree → PlainFound → Scope → Result ReferenceFound Refused
 lists_over around r source scope =
-    items_listed scope (standing part.Row) [] r.dims >>= limited MAX_DIMENSIONS LIMIT_OF_DIMENSIONS >>= (λ dims.
-    items_listed scope (standing part.Row) (list_names dims) r.measures >>= limited MAX_MEASURES LIMIT_OF_MEASURES >>= (λ measures.
+    dims_listed r scope >>= (λ dims.
+    measures_listed r dims scope >>= (λ measures.
     options_checked r.opts (Ok (reference_of around r source dims measures))))
 
 -- a reference behind others of these names; `around` is the NAV option at MODEL

@@ -1,7 +1,7 @@
 -- The rules of a model: each its measure, its left side, its ORDER BY and its right side; and then UNTIL.
-use Rattle.std.specs.Prelude.{ℕ, List, [], ◌∷◌, Bool, true, false, not, ◌||◌, Option, Some, None, Result, Ok, Err, unwrap_or}
+use Rattle.std.specs.Prelude.{ℕ, List, [], ◌∷◌, Bool, true, false, not, ◌||◌, Result, Ok, unwrap_or}
 use Rattle.std.specs.List.{list_any}
-use Rattle.std.specs.Option.{ok_or, option_map}
+use Rattle.std.specs.Option.{ok_or}
 use Rattle.mq_lexer.specs.Words.{folded}
 use Rattle.mq_values.specs.declared.faults.Refused.{Refused}
 use Rattle.mq_values.specs.declared.operators.Mode.{Mode}
@@ -16,18 +16,18 @@ use Rattle.mq_ir.specs.declared.query.PlainPart.{PlainPart}
 use Rattle.mq_ir.specs.declared.query.Rule.{Rule}
 use Rattle.mq_ir.specs.Results.{◌>>=◌, each}
 use Rattle.mq_binder.specs.declared.found.LeftFound.{LeftFound}
-use Rattle.mq_binder.specs.declared.kinds.ExprKind.{ExprKind}
-use Rattle.mq_binder.specs.declared.misuse_numbers.TheConstants.{MISUSE_OF_ORDER}
-use Rattle.mq_binder.specs.declared.scopes.Found.{Found}
-use Rattle.mq_binder.specs.declared.scopes.Part.TheVariants as part
-use Rattle.mq_binder.specs.declared.scopes.Scope.{Scope}
-use Rattle.mq_binder.specs.ExpressionWalk.{bound}
-use Rattle.mq_binder.specs.Kinds.{is_assignable}
+use Rattle.mq_bind_expr.specs.declared.kinds.ExprKind.{ExprKind}
+use Rattle.mq_bind_expr.specs.declared.misuse_numbers.TheConstants.{MISUSE_OF_ORDER}
+use Rattle.mq_bind_expr.specs.declared.scopes.Found.{Found}
+use Rattle.mq_bind_expr.specs.declared.scopes.Part.TheVariants as part
+use Rattle.mq_bind_expr.specs.declared.scopes.Scope.{Scope}
+use Rattle.mq_bind_expr.specs.ExpressionWalk.{bound}
+use Rattle.mq_bind_expr.specs.Kinds.{is_assignable}
 use Rattle.mq_binder.specs.LeftWalk.{dimension_called, left_bound}
-use Rattle.mq_binder.specs.Names.{called}
-use Rattle.mq_binder.specs.Positions.{standing}
-use Rattle.mq_binder.specs.Steps.{each_with}
-use Rattle.mq_binder.specs.Refusals.{kind_mismatch, misuse, refused_where}
+use Rattle.mq_bind_expr.specs.Names.{called}
+use Rattle.mq_bind_expr.specs.Positions.{standing}
+use Rattle.mq_bind_expr.specs.Steps.{each_with}
+use Rattle.mq_bind_expr.specs.Refusals.{kind_mismatch, misuse, refused_where}
 
 -- what all rules of a model share: the mode at RULES, and whether their order is AUTOMATIC
 abbrev pub is_symbolic_item : LeftItem → Bool
@@ -56,14 +56,17 @@ right_bound scope measure r =
 abbrev pub rule_of : Mode → RuleTree → ℕ → Left → List (ℕ × Bool) → Found → Rule
 rule_of mode r measure l order right = record { mode = unwrap_or r.mode mode; measure = measure; left = l; order = order; right = right.e }
 
+-- what stands behind the measure and the left side
+abbrev pub rule_behind : Scope → Mode → Bool → RuleTree → ℕ × ExprKind → LeftFound → Result (Rule × List PlainPart) Refused
+rule_behind scope mode auto r measure l =
+    left_order scope auto l.left r.order >>= (λ order.
+    right_bound scope measure.1 r >>= (λ right. Ok (rule_of mode r measure.0 l.left order right, l.lists)))
+
 -- a rule, behind these subqueries, with the subqueries up to its end
 abbrev pub rule_bound : Catalog → Scope → Mode → Bool → List PlainPart → RuleTree → Result (Rule × List PlainPart) Refused
 rule_bound catalog scope mode auto lists r =
     called (folded r.measure) scope.model.measures >>= (λ measure.
-    left_bound catalog scope lists r.left >>= (λ l.
-    left_order scope auto l.left r.order >>= (λ order.
-    right_bound scope measure.1 r >>= (λ right.
-    Ok (rule_of mode r measure.0 l.left order right, l.lists)))))
+    left_bound catalog scope lists r.left >>= rule_behind scope mode auto r measure)
 
 abbrev pub rules_bound : Catalog → Scope → Mode → Bool → List RuleTree → Result (List Rule × List PlainPart) Refused
 rules_bound catalog scope mode auto = each_with (rule_bound catalog scope mode auto) []

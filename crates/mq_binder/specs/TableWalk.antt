@@ -1,5 +1,5 @@
 -- CREATE TABLE: the name, the columns, the key; the limits in their places.
-use Rattle.std.specs.Prelude.{ℕ, List, [], ◌∷◌, ◌++◌, length, map, Bool, not, ◌||◌, ◌==◌, nat_lt, nat_le, Option, Result, Ok, position}
+use Rattle.std.specs.Prelude.{ℕ, List, [], length, map, not, ◌||◌, ◌==◌, nat_lt, nat_le, Result, Ok, position}
 use Rattle.std.specs.List.{enumerate_from, list_any}
 use Rattle.std.specs.Option.{ok_or}
 use Rattle.mq_lexer.specs.Words.{folded}
@@ -15,9 +15,9 @@ use Rattle.mq_ir.specs.FitsExpression.{kind_fits}
 use Rattle.mq_ir.specs.Names.{is_taken}
 use Rattle.mq_ir.specs.Results.{◌>>=◌}
 use Rattle.mq_ir.specs.Tables.{is_name}
-use Rattle.mq_binder.specs.Names.{Name}
-use Rattle.mq_binder.specs.Steps.{each_behind}
-use Rattle.mq_binder.specs.Refusals.{duplicate_name, limit, refused_where, unknown_name}
+use Rattle.mq_bind_expr.specs.Names.{Name}
+use Rattle.mq_bind_expr.specs.Steps.{each_behind}
+use Rattle.mq_bind_expr.specs.Refusals.{duplicate_name, limit, refused_where, unknown_name}
 
 -- a name that is new to the catalog
 abbrev pub new_name : {A : Type 0} → Catalog → Name → Result A Refused → Result A Refused

@@ -1,6 +1,6 @@
 //! What the walk over a statement has found of its parts.
 
-use crate::scopes::{Named, Printed, ReferenceNames, RowColumn, Scope};
+use mq_bind_expr::{ExprKind, Named, Printed, ReferenceNames, RowColumn, Scope};
 use mq_ir::{
     ColRef, Expr, FromPart, Left, LeftItem, ListSource, ModelPart, PlainPart, RefPart, Rule,
 };
@@ -37,6 +37,14 @@ pub struct ListItem {
     pub kind: Kind,
 }
 
+/// The three lists of a model.
+#[derive(Drop)]
+pub struct Lists {
+    pub parts: Items<ListItem>,
+    pub dims: Items<ListItem>,
+    pub measures: Items<ListItem>,
+}
+
 /// A reference, and what rules may name of it.
 #[derive(Drop)]
 pub struct ReferenceFound {
@@ -48,7 +56,7 @@ pub struct ReferenceFound {
 #[derive(Drop)]
 pub struct ListFound {
     pub source: ListSource,
-    pub kinds: Items<Items<crate::kinds::ExprKind>>,
+    pub kinds: Items<Items<ExprKind>>,
     pub lists: Items<PlainPart>,
 }
 

@@ -3,44 +3,29 @@
 //! A tree without offence has one bound form.
 #![tactic(auto)]
 
-mod case_parts;
-mod cell_nodes;
-mod dimensions;
-mod forms;
+mod bases;
+mod built_forms;
+mod changes;
+mod for_lists;
 mod found;
-mod founds;
-mod function_nodes;
-mod kinds;
+mod laws;
+mod left_sides;
 mod lists;
-mod misuse_numbers;
-mod misuses;
-mod name_nodes;
-mod names;
-mod operator_nodes;
+mod models;
 mod plain;
-mod positions;
-mod presence_nodes;
-mod refusals;
-mod rule_nodes;
-mod scopes;
+mod queries;
+mod references;
+mod rules;
 mod sources;
+mod statements;
 mod tables;
-mod threes;
-mod trees;
-mod values;
 
+pub use built_forms::built;
 pub use found::{
-    Base, LeftFound, LeftItemFound, ListFound, ListItem, ModelFound, PlainFound, ReferenceFound,
-    RulesFound, Sources,
+    Base, LeftFound, LeftItemFound, ListFound, ListItem, Lists, ModelFound, PlainFound,
+    ReferenceFound, RulesFound, Sources,
 };
-pub use kinds::ExprKind;
-pub use misuse_numbers::{
-    MISUSE_OF_AGGREGATE, MISUSE_OF_CONDITION_IN_BRACKETS, MISUSE_OF_CONDITION_IN_CELL,
-    MISUSE_OF_FOR, MISUSE_OF_ITEM_WITHOUT_NAME, MISUSE_OF_ITERATE, MISUSE_OF_NAME_IN_RULE,
-    MISUSE_OF_OPTIONS, MISUSE_OF_ORDER, MISUSE_OF_PLACE_COUNT, MISUSE_OF_REFERENCE_MEASURE,
-    MISUSE_OF_RULE_FORM, MISUSE_OF_SHOWN_ITEM, MISUSE_OF_UNGROUPED_COLUMN,
+pub use laws::{
+    aliases_hide_names, answers_are_one, kinds_are_of_trees, names_are_compared_in_capitals,
 };
-pub use scopes::{
-    Bracket, Found, ModelNames, Named, Owner, Part, Placed, Position, Printed, ReferenceNames,
-    RowColumn, Scope,
-};
+pub use statements::bind;

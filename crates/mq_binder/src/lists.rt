@@ -1,19 +1,20 @@
 //! The lists of a model or a reference: partition columns, dimensions and measures, and its options
 //! (docs/LANGUAGE.md, "The order of binding").
 
-ghost use Rattle.std.specs.Prelude.{◌≡◌, ◌++◌, filter, length, IfOk, OnOk, Some};
-ghost use Rattle.std.specs.List.{list_any};
+ghost use Rattle.std.specs.Prelude.{◌≡◌, ◌++◌, filter, length, IfOk, OnOk, None, Some};
+ghost use Rattle.std.specs.List.{list_any, range_with_len};
 ghost use Rattle.mq_values.specs.Answers.{Gives};
 ghost use Rattle.mq_binder.specs.ListWalk as spec;
 
 use crate::found::ListItem;
-use crate::kinds::column_kind;
-use crate::refusals::{duplicate_name, limit, mismatch};
-use crate::scopes::{Found, Named};
 use crate::tables::has_name;
-use mq_ast::Opt;
+use mq_ast::{Opt, Sel};
+use mq_bind_expr::{
+    Found, Held, MISUSE_OF_ITEM_WITHOUT_NAME, Named, Position, Scope, bound, column_kind,
+    duplicate_name, limit, mismatch, misuse, name_of, number,
+};
 use mq_ir::Expr;
-use mq_values::{Fail, Items, Kind, Memory, Refused, Words};
+use mq_values::{Boxed, Fail, Items, Kind, Memory, Refused, Words};
 use std::alloc::Global;
 
 fn item_kind(f: &Found) -> Result<Kind, Fail<Refused>>
@@ -44,6 +45,52 @@ pub fn item_named(taken: &[Words], name: Words, f: Found) -> Result<ListItem, Fa
     }
     let kind = item_kind(&f)?;
     Ok(list_item_of(f, name, kind))
+}
+
+// An item without a name: the misuse, where it has a kind.
+fn item_unnamed(taken: &[Words], f: &Found) -> Result<ListItem, Fail<Refused>>
+    ensures { Gives result (spec.item_checked taken.now None f.now) }
+{
+    item_kind(f)?;
+    Err(misuse(MISUSE_OF_ITEM_WITHOUT_NAME))
+}
+
+fn item_checked(taken: &[Words], name: Option<Words>, f: Held) -> Result<ListItem, Fail<Refused>>
+    ensures { Gives result (spec.item_checked taken.now name f) }
+{
+    match name {
+        Some(name) => item_named(taken, name, f.into_inner()),
+        None => item_unnamed(taken, f.get()),
+    }
+}
+
+// The name is made before the expression is bound: only want of memory can come of it.
+fn list_item(
+    alloc: Global,
+    scope: &Scope,
+    at: Position,
+    taken: &[Words],
+    sel: &Sel,
+) -> Result<ListItem, Fail<Refused>>
+    ensures { Gives result (spec.list_item scope.now at taken.now sel.now) }
+{
+    let name = name_of(alloc, sel)?;
+    let f = bound(alloc, scope, at, &sel.e)?;
+    item_checked(taken, name, f)
+}
+
+// The same on the heap, so that it is moved as one word.
+fn held_item(
+    alloc: Global,
+    scope: &Scope,
+    at: Position,
+    taken: &[Words],
+    sel: &Sel,
+) -> Result<Boxed<ListItem>, Fail<Refused>>
+    ensures { Gives result (spec.list_item scope.now at taken.now sel.now) }
+{
+    let item = list_item(alloc, scope, at, taken, sel)?;
+    Ok(Boxed::new(alloc, item)?)
 }
 
 /// The same names once more.
@@ -204,4 +251,36 @@ pub fn ignores_nav(opts: &[Opt], around: bool) -> bool
     } else {
         around
     }
+}
+
+/// The items of a list, behind items of these names.
+pub fn items_listed(
+    alloc: Global,
+    scope: &Scope,
+    at: Position,
+    taken: &[Words],
+    sels: &[Sel],
+) -> Result<Items<ListItem>, Fail<Refused>>
+    ensures { Gives result (spec.items_listed scope.now at taken.now sels.now) }
+{
+    let mut names = same_names(alloc, taken)?;
+    let mut items = Items::new(alloc);
+    'sels: for sel in sels {
+        let item = held_item(alloc, scope, at, names.as_slice(), sel)?;
+        names.push(item.get().column.name.copy()?)?;
+        items.push(item.into_inner())?;
+    }
+    Ok(items)
+}
+
+/// The numbers of so many columns.
+pub fn all_columns(alloc: Global, count: usize) -> Result<Items<u32>, Memory>
+    ensures { IfOk result (λ numbers. numbers ≡ range_with_len 0 count) }
+{
+    let count = number(count)?;
+    let mut numbers = Items::new(alloc);
+    for n in 0..count {
+        numbers.push(n)?;
+    }
+    Ok(numbers)
 }

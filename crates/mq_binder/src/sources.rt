@@ -7,16 +7,15 @@ ghost use Rattle.mq_values.specs.Answers.{Gives};
 ghost use Rattle.mq_ir.specs.Results.{each, each_in_turn};
 ghost use Rattle.mq_ir.specs.Tables.{is_name};
 ghost use Rattle.mq_binder.specs.FromWalk as spec;
-ghost use Rattle.mq_binder.specs.Refusals as refusals;
+ghost use Rattle.mq_bind_expr.specs.Refusals as refusals;
 
 use crate::found::Sources;
-use crate::kinds::of_column;
-use crate::names::column_named;
-use crate::positions::standing;
-use crate::refusals::{duplicate_name, limit, number, unknown_name};
-use crate::scopes::{ModelNames, Part, RowColumn, Scope};
 use crate::tables::has_name;
 use mq_ast::{FromItem, Path};
+use mq_bind_expr::{
+    ModelNames, Part, RowColumn, Scope, column_named, duplicate_name, limit, number, of_column,
+    standing, unknown_name,
+};
 use mq_ir::{Catalog, ColRef, Column, LIMIT_OF_FROM_ITEMS, Schema};
 use mq_lexer::folded;
 use mq_values::{Fail, Items, MAX_FROM_ITEMS, Memory, Refused, Words};

@@ -1,0 +1,6 @@
+mod AgainLemmas
+mod CaseWalkLemmas
+mod DimensionLemmas
+mod FormLemmas
+mod PresenceLemmas
+mod TestLemmas

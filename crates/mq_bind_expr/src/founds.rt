@@ -1,0 +1,141 @@
+//! Lists of what parts of an expression are bound to: their expressions, and how their kinds go together.
+
+ghost use Rattle.std.specs.Prelude.{◌≡◌, IfOk};
+ghost use Rattle.mq_values.specs.Answers.{Gives};
+ghost use Rattle.mq_bind_expr.specs.FunctionNodes as result_of;
+ghost use Rattle.mq_bind_expr.specs.Kinds as kinds;
+ghost use Rattle.mq_bind_expr.specs.OperatorKinds as made;
+ghost use Rattle.mq_bind_expr.specs.OperatorNodes as spec;
+
+use crate::kinds::{ExprKind, is_condition_kind, product_kind, sum_kind, wider};
+use crate::scopes::Found;
+use crate::values::converted;
+use mq_ir::{BoundProd, BoundSum, Expr};
+use mq_values::{Boxed, Fail, Items, Memory, ProdOp, Refused, SumOp};
+use std::alloc::Global;
+
+/// What an operand is bound to, on the heap: so it is moved as one word, and proofs see one value in place of the variants of
+/// its expression.
+pub type Held = Boxed<Found>;
+
+/// The expression of an operand.
+pub fn expr_of(alloc: Global, found: Held) -> Result<Boxed<Expr>, Memory>
+    ensures { IfOk result (λ e. e ≡ found.e) }
+{
+    let found = found.into_inner();
+    Boxed::new(alloc, found.e)
+}
+
+/// The expression of an operand, brought to the kind of the whole.
+pub fn converted_of(alloc: Global, kind: ExprKind, found: Held) -> Result<Boxed<Expr>, Memory>
+    ensures { IfOk result (λ e. e ≡ result_of.converted_found kind found) }
+{
+    let found = found.into_inner();
+    let e = converted(alloc, kind, found.e)?;
+    Boxed::new(alloc, e)
+}
+
+/// The same operands, each on the heap.
+pub fn on_heap(alloc: Global, found: Items<Found>) -> Result<Items<Held>, Memory>
+    ensures { IfOk result (λ held. held ≡ found) }
+{
+    let mut held = Items::new(alloc);
+    for f in found.into_vec() {
+        held.push(Boxed::new(alloc, f)?)?;
+    }
+    Ok(held)
+}
+
+/// Whether an operand is a condition.
+pub fn is_condition_found(found: &Found) -> bool
+    ensures { result ≡ spec.is_condition_found found.now }
+{
+    is_condition_kind(found.kind)
+}
+
+/// Whether each operand is a condition.
+pub fn all_conditions(found: &[Found]) -> bool
+    ensures { result ≡ spec.all_conditions found.now }
+{
+    found.iter().all(|f| is_condition_found(f))
+}
+
+/// Their expressions, in order.
+pub fn exprs_of(alloc: Global, found: Items<Found>) -> Result<Items<Expr>, Memory>
+    ensures { IfOk result (λ es. es ≡ spec.exprs_of found) }
+{
+    let mut es = Items::new(alloc);
+    for f in found.into_vec() {
+        es.push(f.e)?;
+    }
+    Ok(es)
+}
+
+/// The kind that both go into, as operands of a test.
+pub fn go_together(a: ExprKind, b: ExprKind) -> Result<ExprKind, Fail<Refused>>
+    ensures { Gives result (spec.go_together a b) }
+{
+    let a = wider(ExprKind::Null, a)?;
+    wider(a, b)
+}
+
+/// The kind that this one and those of `found` go into.
+pub fn common_from(kind: ExprKind, found: &[Found]) -> Result<ExprKind, Fail<Refused>>
+    ensures { Gives result (kinds.common_from kind (spec.kinds_of found.now)) }
+{
+    let mut common = kind;
+    for f in found {
+        common = wider(common, f.kind)?;
+    }
+    Ok(common)
+}
+
+/// The kind of a sum, from left to right.
+pub fn sum_chain_kind(first: ExprKind, terms: &[(SumOp, Found)]) -> Result<ExprKind, Fail<Refused>>
+    ensures { Gives result (made.chain_kind made.sum_kind first (spec.term_kinds terms.now)) }
+{
+    let mut kind = first;
+    for (op, f) in terms {
+        kind = sum_kind(*op, kind, f.kind)?;
+    }
+    Ok(kind)
+}
+
+/// The kind of a product, from left to right.
+pub fn product_chain_kind(
+    first: ExprKind,
+    terms: &[(ProdOp, Found)],
+) -> Result<ExprKind, Fail<Refused>>
+    ensures { Gives result (made.chain_kind made.product_kind first (spec.term_kinds terms.now)) }
+{
+    let mut kind = first;
+    for (op, f) in terms {
+        kind = product_kind(*op, kind, f.kind)?;
+    }
+    Ok(kind)
+}
+
+/// The terms of a sum.
+pub fn sum_terms(alloc: Global, found: Items<(SumOp, Found)>) -> Result<Items<BoundSum>, Memory>
+    ensures { IfOk result (λ terms. terms ≡ spec.sum_terms found) }
+{
+    let mut terms = Items::new(alloc);
+    for (op, f) in found.into_vec() {
+        terms.push(BoundSum { op, e: f.e })?;
+    }
+    Ok(terms)
+}
+
+/// The terms of a product.
+pub fn product_terms(
+    alloc: Global,
+    found: Items<(ProdOp, Found)>,
+) -> Result<Items<BoundProd>, Memory>
+    ensures { IfOk result (λ terms. terms ≡ spec.prod_terms found) }
+{
+    let mut terms = Items::new(alloc);
+    for (op, f) in found.into_vec() {
+        terms.push(BoundProd { op, e: f.e })?;
+    }
+    Ok(terms)
+}

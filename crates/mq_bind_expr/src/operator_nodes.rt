@@ -1,0 +1,163 @@
+//! The nodes of operators, from what their operands are bound to (docs/LANGUAGE.md, "Kinds").
+
+ghost use Rattle.std.specs.Prelude.{◌≡◌, IfOk};
+ghost use Rattle.mq_values.specs.Answers.{Gives};
+ghost use Rattle.mq_bind_expr.specs.OperatorNodes as spec;
+
+use crate::founds::{
+    Held, all_conditions, common_from, exprs_of, go_together, is_condition_found,
+    product_chain_kind, product_terms, sum_chain_kind, sum_terms,
+};
+use crate::kinds::{ExprKind, cast_kind, number_scale, value_kind, wider};
+use crate::refusals::mismatch;
+use crate::scopes::Found;
+use crate::trees::{
+    between, cast, comparison, membership, negation, null_test, opposite, product, sum,
+};
+use crate::values::{a_condition, a_value};
+use mq_ir::Expr;
+use mq_values::{CmpOp, Fail, Items, Kind, Memory, ProdOp, Refused, SumOp, Value};
+use std::alloc::Global;
+
+/// OR.
+pub fn or_node(alloc: Global, found: Items<Found>) -> Result<Found, Fail<Refused>>
+    ensures { Gives result (spec.or_node found) }
+{
+    if !all_conditions(found.as_slice()) {
+        return Err(mismatch());
+    }
+    Ok(a_condition(Expr::Or(exprs_of(alloc, found)?)))
+}
+
+/// AND.
+pub fn and_node(alloc: Global, found: Items<Found>) -> Result<Found, Fail<Refused>>
+    ensures { Gives result (spec.and_node found) }
+{
+    if !all_conditions(found.as_slice()) {
+        return Err(mismatch());
+    }
+    Ok(a_condition(Expr::And(exprs_of(alloc, found)?)))
+}
+
+/// NOT.
+pub fn not_node(alloc: Global, found: Held) -> Result<Found, Fail<Refused>>
+    ensures { Gives result (spec.not_node found) }
+{
+    if !is_condition_found(found.get()) {
+        return Err(mismatch());
+    }
+    Ok(a_condition(negation(alloc, found)?))
+}
+
+// The kind of the right side of an equality.
+fn equated_by(op: CmpOp, kind: ExprKind) -> Option<ExprKind>
+    ensures { result ≡ spec.equated_by op kind }
+{
+    match op {
+        CmpOp::Eq => Some(kind),
+        CmpOp::Ne | CmpOp::Lt | CmpOp::Le | CmpOp::Gt | CmpOp::Ge => None,
+    }
+}
+
+/// A comparison.
+pub fn cmp_node(alloc: Global, op: CmpOp, a: Held, b: Held) -> Result<Found, Fail<Refused>>
+    ensures { Gives result (spec.cmp_node op a b) }
+{
+    let kind = b.get().kind;
+    go_together(a.get().kind, kind)?;
+    Ok(Found {
+        e: comparison(alloc, a, op, b)?,
+        kind: ExprKind::Condition,
+        equated: equated_by(op, kind),
+    })
+}
+
+/// BETWEEN.
+pub fn between_node(
+    alloc: Global,
+    negated: bool,
+    a: Held,
+    low: Held,
+    high: Held,
+) -> Result<Found, Fail<Refused>>
+    ensures { Gives result (spec.between_node negated a low high) }
+{
+    let kind = go_together(a.get().kind, low.get().kind)?;
+    wider(kind, high.get().kind)?;
+    Ok(a_condition(between(alloc, a, negated, low, high)?))
+}
+
+/// IN.
+pub fn in_node(
+    alloc: Global,
+    negated: bool,
+    a: Held,
+    members: Items<Found>,
+) -> Result<Found, Fail<Refused>>
+    ensures { Gives result (spec.in_node negated a members) }
+{
+    let kind = wider(ExprKind::Null, a.get().kind)?;
+    common_from(kind, members.as_slice())?;
+    let members = exprs_of(alloc, members)?;
+    Ok(a_condition(membership(alloc, a, negated, members)?))
+}
+
+/// IS NULL.
+pub fn null_node(alloc: Global, negated: bool, a: Held) -> Result<Found, Fail<Refused>>
+    ensures { Gives result (spec.null_node negated a) }
+{
+    if is_condition_found(a.get()) {
+        return Err(mismatch());
+    }
+    Ok(a_condition(null_test(alloc, a, negated)?))
+}
+
+/// A sum, and differences in it.
+pub fn sum_node(
+    alloc: Global,
+    first: Held,
+    terms: Items<(SumOp, Found)>,
+) -> Result<Found, Fail<Refused>>
+    ensures { Gives result (spec.sum_node first terms) }
+{
+    let kind = sum_chain_kind(first.get().kind, terms.as_slice())?;
+    let terms = sum_terms(alloc, terms)?;
+    Ok(a_value(sum(alloc, first, terms)?, kind))
+}
+
+/// A product, and quotients in it.
+pub fn prod_node(
+    alloc: Global,
+    first: Held,
+    terms: Items<(ProdOp, Found)>,
+) -> Result<Found, Fail<Refused>>
+    ensures { Gives result (spec.prod_node first terms) }
+{
+    let kind = product_chain_kind(first.get().kind, terms.as_slice())?;
+    let terms = product_terms(alloc, terms)?;
+    Ok(a_value(product(alloc, first, terms)?, kind))
+}
+
+/// The sign.
+pub fn neg_node(alloc: Global, a: Held) -> Result<Found, Fail<Refused>>
+    ensures { Gives result (spec.neg_node a) }
+{
+    let scale = number_scale(a.get().kind)?;
+    Ok(a_value(opposite(alloc, a)?, ExprKind::Number(scale)))
+}
+
+/// A literal.
+pub fn lit_node(v: &Value) -> Result<Found, Memory>
+    ensures { IfOk result (λ f. f ≡ spec.lit_node v.now) }
+{
+    let kind = value_kind(v);
+    Ok(a_value(Expr::Lit(v.copy()?), kind))
+}
+
+/// CAST.
+pub fn cast_node(alloc: Global, to: Kind, a: Held) -> Result<Found, Fail<Refused>>
+    ensures { Gives result (spec.cast_node to a) }
+{
+    let kind = cast_kind(to, a.get().kind)?;
+    Ok(a_value(cast(alloc, a, to)?, kind))
+}

@@ -1,7 +1,0 @@
-use Rattle.std.proofs.Common.{◌≡◌, drop, map}
-use Rattle.mq_binder.specs.FunctionNodes.{result_kind}
-use Rattle.mq_binder.specs.Kinds.{common_from}
-use Rattle.mq_binder.proofs.case_parts.common_result.Given as goal
-
-abbrev pub invariant-loop-arm : goal.invariant-loop-arm
-invariant-loop-arm l = common_from l.common (map result_kind (drop l.arm-index l.arms)) ≡ common_from l.fn.kind (map result_kind l.arms)
