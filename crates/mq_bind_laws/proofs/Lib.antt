@@ -1,0 +1,9 @@
+mod DropLemmas
+mod QueryLemmas
+mod ReadStepLemmas
+mod ReaderLemmas
+mod StateLemmas
+mod StatementLemmas
+mod StepLemmas
+mod TableLemmas
+mod ViewLemmas

@@ -1,0 +1,4 @@
+pub mod BoundViews
+pub mod DroppedTables
+pub mod FurtherTable
+pub mod StatementsBetween

@@ -1,0 +1,3 @@
+pub mod Catalogs
+pub mod FitLaws
+pub mod Literals
