@@ -1,0 +1,4 @@
+mod CatalogLemmas
+mod PrintLemmas
+mod SortLemmas
+mod TurnLemmas

@@ -1,0 +1,10 @@
+mod KeySetLemmas
+mod MapLemmas
+mod MeaningLemmas
+mod NoteLemmas
+mod OrderLemmas
+mod PlaceLemmas
+mod SlotLemmas
+mod StepLemmas
+mod TurnLemmas
+mod WidthLemmas
