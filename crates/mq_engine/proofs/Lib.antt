@@ -1,4 +1,0 @@
-mod CatalogLemmas
-mod PrintLemmas
-mod SortLemmas
-mod TurnLemmas

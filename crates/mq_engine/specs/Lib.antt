@@ -1,5 +1,0 @@
-pub mod Catalogs
-pub mod Models
-pub mod Printing
-pub mod Queries
-pub mod Sessions
