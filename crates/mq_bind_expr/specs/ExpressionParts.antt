@@ -20,7 +20,7 @@ use Rattle.mq_bind_expr.specs.ExpressionVisits.{index_at, test_at, visited, visi
 use Rattle.mq_bind_expr.specs.Steps.{each_from}
 use Rattle.mq_bind_expr.specs.ExpressionWalk.{bound}
 use Rattle.mq_bind_expr.specs.PlaceTests.{index_of}
-use Rattle.mq_bind_expr.specs.Positions.{place_kind}
+use Rattle.mq_bind_expr.specs.Positions.{is_left, place_kind}
 use Rattle.mq_bind_expr.specs.ExpressionRolls.{arm_bound, arm_found, arm_is, place_bound, prod_bound, prod_is, sum_bound, sum_is}
 
 -- lists of parts, from left to right
@@ -34,7 +34,7 @@ abbrev pub prod_found : Scope → Position → ProdTerm → Result (ProdOp × Fo
 prod_found scope at t = bound scope t.e at >>= (λ f. Ok (t.op, f))
 
 abbrev pub index_found : Scope → Position → Owner → ℕ → Place → Result Expr Refused
-index_found scope at o n p = place_bound scope p at o n >>= index_of (place_kind scope o n)
+index_found scope at o n p = place_bound scope p at o n >>= index_of (is_left at.part) (place_kind scope o n)
 
 abbrev pub test_found : Scope → Position → ℕ → Place → Result Test Refused
 test_found scope at n p = place_bound scope p at owner.Main n >>= (λ q. Ok q.test)

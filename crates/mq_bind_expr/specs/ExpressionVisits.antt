@@ -21,7 +21,7 @@ use Rattle.mq_bind_expr.specs.declared.scopes.Scope.{Scope}
 use Rattle.mq_bind_expr.specs.NameNodes.{Walked}
 use Rattle.mq_bind_expr.specs.FunctionNodes.{ArmFound}
 use Rattle.mq_bind_expr.specs.PlaceTests.{index_of}
-use Rattle.mq_bind_expr.specs.Positions.{place_kind}
+use Rattle.mq_bind_expr.specs.Positions.{is_left, place_kind}
 
 -- what a tree is bound to where it stands; a place also by whose bracket it is in, and by its number there
 abbrev pub Meaning : Type 0
@@ -67,7 +67,7 @@ visited_if_any at (Some part) = part.1 at >>= (λ f. Ok (Some f))
 
 -- the places of a single cell give indices, those of a range tests
 abbrev pub index_at : Scope → Position → Owner → ℕ → Place × PlaceMeaning → Result Expr Refused
-index_at scope at owner n place = place.1 at owner n >>= index_of (place_kind scope owner n)
+index_at scope at owner n place = place.1 at owner n >>= index_of (is_left at.part) (place_kind scope owner n)
 
 abbrev pub test_at : Position → ℕ → Place × PlaceMeaning → Result Test Refused
 test_at at n place = place.1 at owner.Main n >>= (λ p. Ok p.test)

@@ -5,11 +5,13 @@ use Rattle.std.specs.Option.{option_and_then, option_map, option_map_or}
 use Rattle.mq_values.specs.declared.faults.Refused.{Refused}
 use Rattle.mq_values.specs.declared.operators.CmpOp.{CmpOp}
 use Rattle.mq_values.specs.declared.operators.CmpOp.TheVariants as cmp
+use Rattle.mq_values.specs.declared.value.Value.TheVariants as value
 use Rattle.mq_ast.specs.declared.expressions.E.{E}
 use Rattle.mq_ir.specs.declared.expression.BoundArm.{BoundArm}
 use Rattle.mq_ir.specs.declared.expression.BoundProd.{BoundProd}
 use Rattle.mq_ir.specs.declared.expression.BoundSum.{BoundSum}
 use Rattle.mq_ir.specs.declared.expression.Expr.{Expr, para-Expr}
+use Rattle.mq_ir.specs.declared.expression.Expr.TheVariants as expr
 use Rattle.mq_ir.specs.declared.expression.Expr.TheOpen as layer
 use Rattle.mq_ir.specs.declared.expression.Leaf.{Leaf}
 use Rattle.mq_ir.specs.declared.expression.Test.{Test, out-Test}
@@ -97,17 +99,18 @@ place_of dim tree f =
     else if is_condition tree then condition_place f
     else value_place dim f
 
--- The index of a single cell: a value, or what the dimension is equal to.
-abbrev pub no_index : Result Expr Refused
-no_index = Err (misuse MISUSE_OF_CONDITION_IN_CELL)
+-- The index of a single cell: a value, or what the dimension is equal to. Any other place is an offence, but on a left side, where the cell itself
+-- is one: there an index that nothing sees stands in for it.
+abbrev pub no_index : Bool → Result Expr Refused
+no_index on_left = if on_left then Ok (expr.Lit value.Null) else Err (misuse MISUSE_OF_CONDITION_IN_CELL)
 
-abbrev pub index_equal : Option ExprKind → CmpOp → Expr → Option ExprKind → Result Expr Refused
-index_equal dim cmp.Eq e equated = refused_where (not (option_map_or (fits_dimension dim) equated true)) kind_mismatch (Ok e)
-index_equal dim _ e equated = no_index
+abbrev pub index_equal : Bool → Option ExprKind → CmpOp → Expr → Option ExprKind → Result Expr Refused
+index_equal on_left dim cmp.Eq e equated = refused_where (not (option_map_or (fits_dimension dim) equated true)) kind_mismatch (Ok e)
+index_equal on_left dim _ e equated = no_index on_left
 
-abbrev pub index_of : Option ExprKind → Placed → Result Expr Refused
-index_of dim p = elim (out-Test p.test) [
+abbrev pub index_of : Bool → Option ExprKind → Placed → Result Expr Refused
+index_of on_left dim p = elim (out-Test p.test) [
   | layer.At e ↦ Ok e
-  | layer.«Test::Cmp» op e ↦ index_equal dim op e p.equated
-  | _ ↦ no_index
+  | layer.«Test::Cmp» op e ↦ index_equal on_left dim op e p.equated
+  | _ ↦ no_index on_left
 ]

@@ -19,7 +19,7 @@ use crate::refusals::{mismatch, misuse};
 use crate::scopes::Placed;
 use mq_ast::E;
 use mq_ir::{Expr, Test};
-use mq_values::{Boxed, CmpOp, Fail, Items, Memory, Refused};
+use mq_values::{Boxed, CmpOp, Fail, Items, Memory, Refused, Value};
 use std::alloc::Global;
 
 fn is_free(e: &Expr) -> bool
@@ -272,12 +272,13 @@ fn equated_fits(dim: Option<ExprKind>, equated: Option<ExprKind>) -> bool
 }
 
 fn index_equal(
+    on_left: bool,
     dim: Option<ExprKind>,
     op: CmpOp,
     e: Expr,
     equated: Option<ExprKind>,
 ) -> Result<Expr, Fail<Refused>>
-    ensures { Gives result (spec.index_equal dim op e equated) }
+    ensures { Gives result (spec.index_equal on_left dim op e equated) }
 {
     match op {
         CmpOp::Eq => {
@@ -286,27 +287,31 @@ fn index_equal(
             }
             Ok(e)
         }
-        CmpOp::Ne | CmpOp::Lt | CmpOp::Le | CmpOp::Gt | CmpOp::Ge => {
-            Err(misuse(MISUSE_OF_CONDITION_IN_CELL))
-        }
+        CmpOp::Ne | CmpOp::Lt | CmpOp::Le | CmpOp::Gt | CmpOp::Ge => no_index(on_left, e),
     }
 }
 
-// Generic, since it only drops what it is given.
-fn no_index<T: Drop>(_place: T) -> Result<Expr, Fail<Refused>>
-    ensures { Gives result spec.no_index }
+// What is no index: an offence, but on a left side, where the cell around it is one. Generic, since it only drops what it
+// is given.
+fn no_index<T: Drop>(on_left: bool, _place: T) -> Result<Expr, Fail<Refused>>
+    ensures { Gives result (spec.no_index on_left) }
 {
-    Err(misuse(MISUSE_OF_CONDITION_IN_CELL))
+    if on_left {
+        Ok(Expr::Lit(Value::Null))
+    } else {
+        Err(misuse(MISUSE_OF_CONDITION_IN_CELL))
+    }
 }
 
-/// The index of a single cell in a place: a value, or what the dimension is equal to.
-pub fn index_of(dim: Option<ExprKind>, place: Placed) -> Result<Expr, Fail<Refused>>
-    ensures { Gives result (spec.index_of dim place) }
+/// The index of a single cell in a place: a value, or what the dimension is equal to. Any other place is
+/// a misuse, but not where the cell stands on a left side and is one itself.
+pub fn index_of(on_left: bool, dim: Option<ExprKind>, place: Placed) -> Result<Expr, Fail<Refused>>
+    ensures { Gives result (spec.index_of on_left dim place) }
 {
     let Placed { test, equated } = place;
     match test {
         Test::At(e) => Ok(e),
-        Test::Cmp(op, e) => index_equal(dim, op, e, equated),
-        other => no_index(other),
+        Test::Cmp(op, e) => index_equal(on_left, dim, op, e, equated),
+        other => no_index(on_left, other),
     }
 }

@@ -15,7 +15,7 @@ use crate::forms::is_condition;
 use crate::misuse_numbers::MISUSE_OF_RULE_FORM;
 use crate::misuses::outside_rules;
 use crate::place_tests::{index_of, place_of, placed};
-use crate::positions::{bracketed, inner, place_kind};
+use crate::positions::{bracketed, inner, is_left, place_kind};
 use crate::refusals::{misuse, number};
 use crate::scopes::{Owner, Placed, Position, Scope};
 use crate::walk::bound;
@@ -100,7 +100,7 @@ fn bound_index(
     ensures { Gives result (parts.index_found scope.now at owner n place.now) }
 {
     let p = bound_place(alloc, scope, at, owner, n, place)?;
-    index_of(place_kind(scope, owner, n), p)
+    index_of(is_left(at.part), place_kind(scope, owner, n), p)
 }
 
 /// The indices of a single cell.

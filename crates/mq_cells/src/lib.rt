@@ -16,5 +16,9 @@ mod slots;
 
 pub use bounds::{MAX_ASSIGNMENTS, MAX_LOOKS};
 pub use cells::Cells;
+pub use columns::Columns;
+pub use faults::least_fault;
+pub use held::Held;
 pub use looked::LookCells;
 pub use plain::PlainCells;
+pub use slots::copy_slot;

@@ -32,7 +32,7 @@ use Rattle.mq_bind_expr.specs.Misuses.{any_inside_place, in_condition, outside_r
 use Rattle.mq_bind_expr.specs.NameNodes.{a_condition}
 use Rattle.mq_bind_expr.specs.OperatorNodes.{and_node, between_node, cast_node, cmp_node, in_node, neg_node, not_node, null_node, or_node, prod_node, sum_node}
 use Rattle.mq_bind_expr.specs.PlaceTests.{index_of, place_of, placed}
-use Rattle.mq_bind_expr.specs.Positions.{aggregated, bracketed, inner, is_rule, owner_of, place_kind}
+use Rattle.mq_bind_expr.specs.Positions.{aggregated, bracketed, inner, is_left, is_rule, owner_of, place_kind}
 use Rattle.mq_bind_expr.specs.Refusals.{misuse}
 use Rattle.mq_bind_expr.specs.RuleNodes.{presentnnv_node, presentv_node, present_node, previous_node}
 use Rattle.mq_bind_expr.specs.Steps.{each_from}
@@ -187,11 +187,11 @@ module _ (columns : List ℕ) (scope : Scope) (model : ModelWithin scope.model) 
       → each_from (index_at scope at o) n (places ps) ≡ Ok es → IndexFrom o n es
   indices_from [] at st r lit o n es h = subst (IndexFrom o n) (ok_is [] es h) tt
   indices_from (p ∷ ps) at st r lit o n es h =
-      let w = went (place_bound scope p.0 at o n >>= index_of (place_kind scope o n)) (λ f. each_from (index_at scope at o) (n + 1) (places ps) >>= (λ fs. Ok (f ∷ fs))) es h in
-      let g = went (place_bound scope p.0 at o n) (index_of (place_kind scope o n)) w.value w.first in
+      let w = went (place_bound scope p.0 at o n >>= index_of (is_left at.part) (place_kind scope o n)) (λ f. each_from (index_at scope at o) (n + 1) (places ps) >>= (λ fs. Ok (f ∷ fs))) es h in
+      let g = went (place_bound scope p.0 at o n) (index_of (is_left at.part) (place_kind scope o n)) w.value w.first in
       let v = went (each_from (index_at scope at o) (n + 1) (places ps)) (λ fs. Ok (w.value ∷ fs)) es w.after in
       subst (IndexFrom o n) (ok_is (w.value ∷ v.value) es v.after) (
-        λ l. index_fits s (place_kind scope o n) g.value w.value g.after (p.1 (left_of (place_lit p.0) (places_lit ps) lit) at st r o n l g.value g.first),
+        λ l. index_fits s (is_left at.part) (place_kind scope o n) g.value w.value g.after (p.1 (left_of (place_lit p.0) (places_lit ps) lit) at st r o n l g.value g.first),
         indices_from ps at st r (right_of (place_lit p.0) (places_lit ps) lit) o (n + 1) v.value v.first,
       )
 

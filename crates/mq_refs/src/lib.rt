@@ -17,6 +17,11 @@ mod standpoint;
 mod targets;
 mod walk;
 
+pub use inside::inner_leaf;
 pub use looks::looks_of;
+pub use names::{cell_named, meets_every, tests_named};
 pub use order::{InOrder, arrays_ascend, keys_ascend};
+pub use reading::{flag, is_there};
+pub use references::{kind_in, reference_cell};
+pub use standpoint::Standpoint;
 pub use targets::{eval_cell, eval_cell_in};

@@ -163,9 +163,9 @@ fn is_found(keys: &[Key], key: &[Value]) -> bool
     }
 }
 
-// Whether `key` is among these keys. What the search finds is there; what it misses may stand elsewhere, where they do
-// not ascend.
-fn is_there(keys: &[Key], key: &[Value]) -> bool
+/// Whether `key` is among these keys. What the search finds is there; what it misses may stand elsewhere, where they do
+/// not ascend.
+pub fn is_there(keys: &[Key], key: &[Value]) -> bool
     ensures { result ≡ is_among keys.now key.now }
 {
     match keys.binary_search_by(|k| k.as_slice().cmp(key)) {
@@ -181,8 +181,8 @@ fn stands_among(keys: &[Key], key: &[Value]) -> bool
     keys.iter().any(|k| key.cmp(k.as_slice()).is_eq())
 }
 
-// What a leaf gives that asks whether something holds.
-fn flag(holds: bool) -> Value
+/// What a leaf gives that asks whether something holds.
+pub fn flag(holds: bool) -> Value
     ensures { result ≡ expression.flag holds }
 {
     Value::Num(Num::new(i128::from(holds), 0))
