@@ -1,3 +1,2 @@
 pub mod KeyLemmas
 pub mod RunLemmas
-pub mod SortLemmas

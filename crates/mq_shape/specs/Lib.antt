@@ -1,3 +1,2 @@
 pub mod Repeats
-pub mod Rising
 pub mod Runs

@@ -7,7 +7,7 @@ use Rattle.std.specs.List.Sorted.{IsSorted, IsStable}
 use Rattle.std.specs.Ordering.{is_eq, is_gt, is_lt, on, ordering_reverse}
 use Rattle.std.proofs.lemmas.List.Sorted.{ranks_by, sorted_far}
 use Rattle.mq_ir.specs.Partitions.{ascending, placed}
-use Rattle.mq_shape.specs.Rising.{Low, Rising}
+use Rattle.mq_sort.specs.Rising.{Low, Rising}
 
 equal_is : (r : Ordering) → is_eq r ≡ true → r ≡ Equal
 equal_is Less h = cc
