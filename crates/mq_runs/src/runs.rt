@@ -1,0 +1,77 @@
+//! A model over the rows: its partitions, and what its rules make of each.
+
+use crate::ready::is_ready;
+use crate::scene::Scene;
+use crate::shows::add_result;
+use crate::statements::{add_refused, bound_of};
+use mq_ir::{Bound, Model, ModelPart, PartInput};
+use mq_notation::answers::add;
+use mq_seq::run_seq;
+use mq_shape::partitions;
+use mq_values::Memory;
+use std::alloc::Global;
+
+/// What the rules of a query with MODEL make of each partition, or why the query is refused.
+pub(crate) fn add_run(
+    alloc: Global,
+    scene: &Scene,
+    text: &str,
+    answer: &mut Vec<u8>,
+) -> Result<(), Memory> {
+    add("\t", answer)?;
+    match bound_of(alloc, &scene.catalog, text) {
+        Ok(bound) => add_bound(alloc, scene, &bound, answer),
+        Err(refused) => add_refused(alloc, &refused, answer),
+    }
+}
+
+fn add_bound(
+    alloc: Global,
+    scene: &Scene,
+    bound: &Bound,
+    answer: &mut Vec<u8>,
+) -> Result<(), Memory> {
+    let Bound::Query(query) = bound else {
+        return add("no query", answer);
+    };
+    match &query.model {
+        Some(part) if part.auto => add("AUTOMATIC", answer),
+        Some(part) => add_partitions(alloc, scene, part, answer),
+        None => add("no model", answer),
+    }
+}
+
+fn add_partitions(
+    alloc: Global,
+    scene: &Scene,
+    part: &ModelPart,
+    answer: &mut Vec<u8>,
+) -> Result<(), Memory> {
+    let inputs = partitions(alloc, part, &scene.base)?;
+    if inputs.is_empty() {
+        return add("none", answer);
+    }
+    for (at, input) in inputs.as_slice().iter().enumerate() {
+        add(if at == 0 { "" } else { " | " }, answer)?;
+        add_partition(alloc, scene, part, input, answer)?;
+    }
+    Ok(())
+}
+
+fn add_partition(
+    alloc: Global,
+    scene: &Scene,
+    part: &ModelPart,
+    input: &PartInput,
+    answer: &mut Vec<u8>,
+) -> Result<(), Memory> {
+    if !is_ready(part, input) {
+        return add("NOT READY", answer);
+    }
+    let model = Model {
+        part,
+        lists: &scene.lists,
+        refs: &scene.refs,
+    };
+    add_result(&input.key, run_seq(alloc, &model, input)?, answer)
+}

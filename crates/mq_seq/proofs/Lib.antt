@@ -1,0 +1,13 @@
+mod GridLemmas
+mod KeySetLemmas
+mod LeftLemmas
+mod LentLemmas
+mod MapLemmas
+mod MeaningLemmas
+mod NoteLemmas
+mod PlaceLemmas
+mod SlotLemmas
+mod StepLemmas
+mod TurnLemmas
+mod UntilLemmas
+mod WidthLemmas

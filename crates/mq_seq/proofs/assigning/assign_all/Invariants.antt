@@ -1,0 +1,10 @@
+use Rattle.std.proofs.Common.{◌≡◌}
+use Rattle.mq_seq.specs.Steps.{act_in, target_done}
+use Rattle.mq_seq.proofs.StepLemmas.{Turned}
+use Rattle.mq_seq.proofs.assigning.assign_all.Given as goal
+
+abbrev pub invariant-targets : goal.invariant-targets
+invariant-targets l = record {
+  turned : Turned (target_done (act_in l.act)) l.fn.grid l.targets l.target-index l.grid;
+  same_width : l.grid.width ≡ l.fn.grid.width;
+}

@@ -1,0 +1,24 @@
+use Rattle.std.proofs.Common.{◌<◌, Ok, ap, arith, ◌∙◌}
+use Rattle.mq_ir.specs.Iteration.{turn_count}
+use Rattle.mq_ir.specs.Unfolding.{model_of}
+use Rattle.mq_seq.proofs.TurnLemmas.{rounds_last, rounds_next}
+use Rattle.mq_seq.proofs.turns.take_turns.Goals as goal
+
+pub returns-then-last : goal.returns-then-last
+returns-then-last c =
+    let model = model_of c.args.m.now in
+    let next = c.in_ok-next.next in
+    let lt : c.turns.turn < turn_count model = omega (arith, c.count_of-turn-end.ensures) in
+    rounds_last model (turn_count model) c.args.grid c.turns.turn c.turns.grid next lt (c.in_ok-next.ensures.exact ∙ ap (λ last. Ok (next, last)) c.if-last.true) c.turns.invariant.rounds
+
+pub turns-preserved : goal.turns-preserved
+turns-preserved c =
+    let model = model_of c.args.m.now in
+    let next = c.in_ok-next.next in
+    let lt : c.turns.turn < turn_count model = omega (arith, c.count_of-turn-end.ensures) in
+    record {
+      rounds =
+          rounds_next model (turn_count model) c.args.grid c.turns.turn c.turns.grid next lt (c.in_ok-next.ensures.exact ∙ ap (λ last. Ok (next, last)) c.if-last.false)
+          c.turns.invariant.rounds;
+      same_width = c.in_ok-next.ensures.width ∙ c.turns.invariant.same_width;
+    }

@@ -1,0 +1,13 @@
+use Rattle.std.proofs.Common.{◌≡◌, drop, map}
+use Rattle.std.specs.List.{filter}
+use Rattle.mq_values.specs.Aggregate.{aggregate}
+use Rattle.mq_ir.specs.Reads.{measure_at}
+use Rattle.mq_ir.specs.Targets.{meets_every}
+use Rattle.mq_reads.specs.Aggregation.{comes_to}
+use Rattle.mq_cells.specs.Stores.{cell_name}
+use Rattle.mq_seq.proofs.until.aggregate_of.Given as goal
+
+abbrev pub invariant-loop-key : goal.invariant-loop-key
+invariant-loop-key l =
+    comes_to l.aggregation (map (λ key. measure_at l.cells (cell_name key l.measure)) (filter (meets_every l.tests) (drop l.key-index l.set)))
+    ≡ aggregate l.fn.agg (map (λ key. measure_at l.cells (cell_name key l.measure)) (filter (meets_every l.tests) l.set))

@@ -1,0 +1,74 @@
+//! The single left sides of a rule, one after another.
+ghost use Rattle.std.specs.Prelude.{◌≡◌, length, IfOk};
+ghost use Rattle.std.specs.Map.{keys_of};
+ghost use Rattle.mq_values.specs.Answers.{Gives};
+ghost use Rattle.mq_ir.specs.Results.{each_in_turn};
+ghost use Rattle.mq_ir.specs.Sequential as spec;
+ghost use Rattle.mq_seq.specs.Conditions.{HavePlaces};
+ghost use Rattle.mq_seq.specs.Steps.{act_in, left_done};
+
+use crate::acting::Acting;
+use crate::assigning::assign_all;
+use crate::grid::Grid;
+use crate::placed_fault::PlacedFault;
+use crate::self_order::order_missing;
+use mq_ir::SingleLeft;
+use mq_targets::targets;
+use mq_values::{Fail, FaultKind, Key, MAX_CELLS_OF_PARTITION, Memory, Shared};
+use std::alloc::Global;
+
+/// The cells after these single left sides of a rule have acted one after another, or the first fault.
+pub fn act_all(
+    alloc: Global,
+    act: &Acting<'_>,
+    lefts: &[SingleLeft],
+    grid: Grid,
+) -> Result<Grid, Fail<PlacedFault>>
+    requires { HavePlaces grid.width lefts.now }
+    ensures exact { Gives result (each_in_turn (left_done (act_in act.now)) lefts.now grid) }
+    ensures width { IfOk result (λ g. g.width ≡ grid.width) }
+{
+    let mut grid = grid;
+    'lefts: for left in lefts {
+        grid = act_one(alloc, act, left, grid)?;
+    }
+    Ok(grid)
+}
+
+// One single left side: its cells are created, and then its targets are assigned.
+fn act_one(
+    alloc: Global,
+    act: &Acting<'_>,
+    left: &SingleLeft,
+    grid: Grid,
+) -> Result<Grid, Fail<PlacedFault>>
+    requires { length left.now.places ≡ grid.width }
+    ensures exact { Gives result (left_done (act_in act.now) left.now grid) }
+    ensures width { IfOk result (λ g. g.width ≡ grid.width) }
+{
+    let found = targets(alloc, left, act.rule.mode, grid.index())?;
+    let grid = grid.with_created(alloc, act.model, found.created.as_slice())?;
+    match left_fault(alloc, act, left, found.cells.as_slice(), &grid)? {
+        Some(fault) => Err(Fail::Cause(fault)),
+        None => assign_all(alloc, act, found.cells.as_slice(), grid),
+    }
+}
+
+// Why a single left side may not act on these targets, over the cells with those that it creates.
+fn left_fault(
+    alloc: Global,
+    act: &Acting<'_>,
+    left: &SingleLeft,
+    found: &[Key],
+    grid: &Grid,
+) -> Result<Option<PlacedFault>, Memory>
+    ensures { IfOk result (λ fault. fault ≡ spec.left_fault (act_in act.now grid.now.input) left.now (keys_of grid.now.track.cells) found.now) }
+{
+    if grid.index().len() as usize > MAX_CELLS_OF_PARTITION {
+        return Ok(Some(PlacedFault::new(act.number, Shared::empty(), FaultKind::TooManyCells)));
+    }
+    match order_missing(alloc, act, left, found, grid)? {
+        Some(target) => Ok(Some(PlacedFault::new(act.number, target, FaultKind::SelfOrder))),
+        None => Ok(None),
+    }
+}

@@ -1,0 +1,23 @@
+//! The rules of a model in sequential order: a model and the input of a partition go in.
+//! Out come the cells that the rules leave, each with whether it was a target, or the first fault.
+//! It is what mq_ir's `specs/Iteration` and `specs/Sequential` say.
+#![tactic(auto)]
+
+mod acting;
+mod assigning;
+mod cell_map;
+mod changing;
+mod grid;
+mod key_set;
+mod lefts;
+mod lent_cells;
+mod noted;
+mod outcomes;
+mod placed_fault;
+mod rules;
+mod self_order;
+mod tracked;
+mod turns;
+mod until;
+
+pub use outcomes::run_seq;

@@ -1,0 +1,99 @@
+//! The rules of a model, one after another.
+ghost use Rattle.std.specs.Prelude.{◌≡◌, length, Some, IfOk};
+ghost use Rattle.mq_values.specs.Answers.{Gives};
+ghost use Rattle.mq_ir.specs.Unfolding.{model_of};
+ghost use Rattle.mq_unfold.specs.LeftSides.{rule_of, unfold_kind};
+ghost use Rattle.mq_seq.specs.Conditions.{HavePlaces, LeftHasPlaces, LeftsHavePlaces};
+ghost use Rattle.mq_seq.specs.Steps.{lefts_of, rule_done, turn_done};
+
+use crate::acting::Acting;
+use crate::grid::Grid;
+use crate::lefts::act_all;
+use crate::placed_fault::{PlacedFault, kind_of};
+use mq_ir::{Model, Rule, SingleLeft};
+use mq_unfold::{UnfoldFault, unfold};
+use mq_values::{Fail, FaultKind, Items, Shared};
+use std::alloc::Global;
+
+/// The cells after all rules have acted in text order, or the first fault. `Memory` comes too where there are more rules
+/// than a `u32` can number.
+pub fn act_rules(
+    alloc: Global,
+    m: &Model<'_>,
+    turn: u32,
+    grid: Grid,
+) -> Result<Grid, Fail<PlacedFault>>
+    requires lefts { LeftsHavePlaces m.now.part.now }
+    requires wide { grid.width ≡ length m.now.part.now.dims }
+    ensures exact { Gives result (turn_done (model_of m.now) turn grid) }
+    ensures width { IfOk result (λ g. g.width ≡ grid.width) }
+{
+    let mut grid = grid;
+    let mut number = 0u32;
+    'rules: for rule in m.part.rules.as_slice() {
+        let Some(next) = number.checked_add(1) else {
+            return Err(Fail::Memory);
+        };
+        number = next;
+        grid = act_rule(alloc, m, turn, number, rule, grid)?;
+    }
+    Ok(grid)
+}
+
+// One rule: its single left sides act one after another.
+fn act_rule(
+    alloc: Global,
+    m: &Model<'_>,
+    turn: u32,
+    number: u32,
+    rule: &Rule,
+    grid: Grid,
+) -> Result<Grid, Fail<PlacedFault>>
+    requires there { rule_of m.now.part.now.rules number ≡ Some rule.now }
+    requires places { LeftHasPlaces (length m.now.part.now.dims) rule.now.left }
+    requires wide { grid.width ≡ length m.now.part.now.dims }
+    ensures exact { Gives result (rule_done (model_of m.now) turn (number, rule.now) grid) }
+    ensures width { IfOk result (λ g. g.width ≡ grid.width) }
+{
+    let lefts = single_lefts(alloc, m, turn, number, rule)?;
+    let act = Acting {
+        model: m,
+        number,
+        rule,
+        turn,
+    };
+    act_all(alloc, &act, lefts.as_slice(), grid)
+}
+
+// The single left sides of a rule, or the fault of unfolding it.
+fn single_lefts(
+    alloc: Global,
+    m: &Model<'_>,
+    turn: u32,
+    number: u32,
+    rule: &Rule,
+) -> Result<Items<SingleLeft>, Fail<PlacedFault>>
+    requires there { rule_of m.now.part.now.rules number ≡ Some rule.now }
+    requires places { LeftHasPlaces (length m.now.part.now.dims) rule.now.left }
+    ensures exact { Gives result (lefts_of (model_of m.now) turn number rule.now) }
+    ensures wide { IfOk result (HavePlaces (length m.now.part.now.dims)) }
+{
+    match unfold(alloc, m, number, turn) {
+        Ok(lefts) => Ok(lefts),
+        Err(Fail::Cause(fault)) => Err(Fail::Cause(PlacedFault::new(
+            number,
+            Shared::empty(),
+            kind_of_unfold(fault),
+        ))),
+        Err(Fail::Memory) => Err(Fail::Memory),
+    }
+}
+
+fn kind_of_unfold(fault: UnfoldFault) -> FaultKind
+    ensures { result ≡ unfold_kind fault }
+{
+    match fault {
+        UnfoldFault::Value(fault) => kind_of(fault),
+        UnfoldFault::TooMany => FaultKind::TooManyUnfolded,
+    }
+}
