@@ -1,22 +1,24 @@
 //! Whether the rules may run over a partition, as `run_seq` asks (mq_seq, `specs/Conditions`).
-ghost use Rattle.std.specs.Prelude.{◌↔◌, IsTrue};
-ghost use Rattle.std.specs.List.Sorted.{IsStrictlySortedBy};
+ghost use Rattle.std.specs.Prelude.{◌≡◌, ◌↔◌, length, IfOk, IsTrue};
 ghost use Rattle.std.specs.Map.{keys_of};
-ghost use Rattle.mq_values.specs.Order.{cmp_key};
 ghost use Rattle.mq_seq.specs.Conditions.{HaveLength, IsReady, LeftHasPlaces, LeftsHavePlaces};
 
 use mq_ir::{Left, ModelPart, PartInput};
-use mq_values::Key;
+use mq_refs::keys_ascend;
+use mq_values::{Key, Memory};
+use std::alloc::Global;
 
 /// Whether each left side has a place and each cell a value for each dimension, and the cells ascend where no tuple
 /// stands twice.
-pub(crate) fn is_ready(part: &ModelPart, p: &PartInput) -> bool
-    ensures { IsTrue result ↔ IsReady part.now p.now }
+pub(crate) fn is_ready(alloc: Global, part: &ModelPart, p: &PartInput) -> Result<bool, Memory>
+    ensures { IfOk result (λ ready. IsTrue ready ↔ IsReady part.now p.now) }
 {
-    let cells = p.cells.as_slice();
-    lefts_have_places(part)
-        && have_length(part.dims.len(), cells)
-        && (p.repeated.is_some() || ascend(cells))
+    let keys = keys_in(alloc, p.cells.as_slice())?;
+    Ok(
+        lefts_have_places(part)
+            && have_length(part.dims.len(), &keys)
+            && (p.repeated.is_some() || keys_ascend(&keys)),
+    )
 }
 
 fn lefts_have_places(part: &ModelPart) -> bool
@@ -38,14 +40,25 @@ fn has_places(n: usize, left: &Left) -> bool
     }
 }
 
-fn have_length(n: usize, cells: &[(Key, Key)]) -> bool
-    ensures { IsTrue result ↔ HaveLength n (keys_of cells.now) }
+fn have_length(n: usize, keys: &[Key]) -> bool
+    ensures { IsTrue result ↔ HaveLength n keys.now }
 {
-    cells.iter().all(|cell| cell.0.as_slice().len() == n)
+    keys.iter().all(|key| has_length(n, key))
 }
 
-fn ascend(cells: &[(Key, Key)]) -> bool
-    ensures { IsTrue result ↔ IsStrictlySortedBy cmp_key (keys_of cells.now) }
+fn has_length(n: usize, key: &Key) -> bool
+    ensures { IsTrue result ↔ (length key.now ≡ n) }
 {
-    cells.is_sorted_by(|a, b| a.0.as_slice().cmp(b.0.as_slice()).is_lt())
+    key.as_slice().len() == n
+}
+
+// The keys of these cells.
+fn keys_in(alloc: Global, cells: &[(Key, Key)]) -> Result<Vec<Key>, Memory>
+    ensures { IfOk result (λ keys. keys.items ≡ keys_of cells.now) }
+{
+    let mut keys = Vec::with_capacity(alloc, cells.len())?;
+    for (key, _measures) in cells {
+        keys.push(key.copy()?)?;
+    }
+    Ok(keys)
 }

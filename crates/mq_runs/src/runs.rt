@@ -65,7 +65,7 @@ fn add_partition(
     input: &PartInput,
     answer: &mut Vec<u8>,
 ) -> Result<(), Memory> {
-    if !is_ready(part, input) {
+    if !is_ready(alloc, part, input)? {
         return add("NOT READY", answer);
     }
     let model = Model {
