@@ -1,0 +1,11 @@
+pub mod AnswerLemmas
+pub mod CatalogLemmas
+pub mod ChangeLemmas
+pub mod FitLemmas
+pub mod ListLemmas
+pub mod MarkLemmas
+pub mod NumberLemmas
+pub mod PlaceLemmas
+pub mod ReadyLemmas
+pub mod StateLemmas
+pub mod TurnLemmas
