@@ -1,4 +1,0 @@
-pub mod Catalogs
-pub mod Models
-pub mod Queries
-pub mod Sessions
