@@ -3,6 +3,7 @@
 //! But for the tests of `ready` it has no contracts: what it writes is compared with a table that was worked out by hand.
 #![tactic(auto)]
 
+mod prints;
 mod ready;
 mod rows;
 mod runs;

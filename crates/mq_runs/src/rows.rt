@@ -1,5 +1,6 @@
 //! A row of the table: what is asked, and of what, with a tab between them.
 
+use crate::prints::add_print;
 use crate::runs::add_run;
 use crate::scene::Scene;
 use crate::statements::create_table;
@@ -42,6 +43,7 @@ fn add_answer(
         }
         "reference" => Ok(scene.refs.push(reference(alloc, text)?)?),
         "list" => Ok(scene.lists.push(Items::from_vec(keys(alloc, text)?))?),
+        "print" => Ok(add_print(alloc, scene, text, answer)?),
         "run" => {
             add_run(alloc, scene, text, answer)?;
             scene.forget_model(alloc);
