@@ -25,6 +25,3 @@ pub use queries::{
 };
 pub use statements::{ColDef, Stmt};
 pub use terminals::{Symbol, Terminal};
-
-#[cfg(test)]
-mod tests;

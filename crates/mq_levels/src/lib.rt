@@ -8,8 +8,6 @@ mod leveling;
 mod lists;
 mod marking;
 mod rounds;
-#[cfg(test)]
-mod tests;
 mod waiting;
 
 pub use dealing::Leveled;

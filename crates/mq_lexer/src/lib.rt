@@ -23,6 +23,3 @@ pub use scanner::tokens;
 pub use script::{Statement, next_statement, statements};
 pub use sorts::{Sort, Token};
 pub use words::{folded, is_name, is_reserved, is_sign, is_word};
-
-#[cfg(test)]
-mod tests;

@@ -7,8 +7,6 @@ mod answers;
 mod names;
 mod pieces;
 mod refusals;
-#[cfg(test)]
-mod tests;
 
 pub use answers::{answer_text, count_text, done_text};
 pub use names::fault_name;

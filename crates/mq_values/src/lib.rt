@@ -7,8 +7,6 @@ mod arithmetic;
 mod boxed;
 mod convert;
 mod digits;
-#[cfg(test)]
-mod dim_test_tests;
 mod dim_tests;
 mod faults;
 mod items;
@@ -17,15 +15,11 @@ mod limits;
 mod memory;
 mod number;
 mod number_laws;
-#[cfg(test)]
-mod number_tests;
 mod operators;
 mod order;
 mod printing;
 mod shared;
 mod tally;
-#[cfg(test)]
-mod tests;
 mod text;
 mod value;
 mod words;
