@@ -6,18 +6,18 @@ use Rattle.mq_values.specs.declared.faults.Refused.{Refused}
 use Rattle.mq_values.specs.declared.memory.Fail.{Fail}
 use Rattle.mq_ast.specs.declared.expressions.E.{E}
 use Rattle.mq_ir.specs.Results.{◌>>=◌, each}
-use Rattle.mq_bind_expr.specs.declared.kinds.ExprKind.{ExprKind}
-use Rattle.mq_bind_expr.specs.declared.scopes.Found.{Found}
-use Rattle.mq_bind_expr.specs.declared.scopes.Position.{Position}
-use Rattle.mq_bind_expr.specs.declared.scopes.Scope.{Scope}
+use Rattle.mq_bind_scopes.specs.declared.kinds.ExprKind.{ExprKind}
+use Rattle.mq_bind_scopes.specs.declared.scopes.Found.{Found}
+use Rattle.mq_bind_scopes.specs.declared.scopes.Position.{Position}
+use Rattle.mq_bind_scopes.specs.declared.scopes.Scope.{Scope}
 use Rattle.mq_bind_expr.specs.CellNodes.{unless_rule_form}
 use Rattle.mq_bind_expr.specs.ExpressionParts.{all_found}
 use Rattle.mq_bind_expr.specs.FunctionNodes.{converted}
-use Rattle.mq_bind_expr.specs.Kinds.{mismatch}
-use Rattle.mq_bind_expr.specs.Misuses.{outside_rules}
+use Rattle.mq_bind_scopes.specs.Kinds.{mismatch}
+use Rattle.mq_bind_scopes.specs.Misuses.{outside_rules}
 use Rattle.mq_bind_expr.specs.NameNodes.{a_value}
 use Rattle.mq_bind_expr.specs.PartWalks.{presentnnv_found}
-use Rattle.mq_bind_expr.specs.Positions.{inner}
+use Rattle.mq_bind_scopes.specs.Positions.{inner}
 use Rattle.mq_bind_expr.specs.PresenceForms.{presence_asked}
 use Rattle.mq_bind_expr.specs.RuleNodes.{presence_kind, presentnnv_node, presentnnv_of, single_cell}
 use Rattle.mq_bind_expr.specs.StepLemmas.{fault_is_last}

@@ -8,15 +8,15 @@ use Rattle.mq_ast.specs.declared.expressions.Arm.{Arm}
 use Rattle.mq_ast.specs.declared.expressions.E.{E}
 use Rattle.mq_ast.specs.declared.expressions.E.TheVariants as e
 use Rattle.mq_ir.specs.Results.{◌>>=◌, each}
-use Rattle.mq_bind_expr.specs.declared.scopes.Found.{Found}
-use Rattle.mq_bind_expr.specs.declared.scopes.Position.{Position}
-use Rattle.mq_bind_expr.specs.declared.scopes.Scope.{Scope}
+use Rattle.mq_bind_scopes.specs.declared.scopes.Found.{Found}
+use Rattle.mq_bind_scopes.specs.declared.scopes.Position.{Position}
+use Rattle.mq_bind_scopes.specs.declared.scopes.Scope.{Scope}
 use Rattle.mq_bind_expr.specs.CaseLaws.{bound_case, found_if_any}
 use Rattle.mq_bind_expr.specs.ExpressionRolls.{arm_found}
 use Rattle.mq_bind_expr.specs.ExpressionWalk.{bound}
 use Rattle.mq_bind_expr.specs.FunctionNodes.{ArmFound, case_node}
 use Rattle.mq_bind_expr.specs.PartWalks.{presentnnv_found}
-use Rattle.mq_bind_expr.specs.Positions.{inner}
+use Rattle.mq_bind_scopes.specs.Positions.{inner}
 use Rattle.mq_bind_expr.specs.RuleNodes.{other_presence}
 
 -- a call gives what is meant, also as it is said in another way

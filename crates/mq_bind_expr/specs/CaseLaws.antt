@@ -7,15 +7,15 @@ use Rattle.mq_ast.specs.declared.expressions.E.{E}
 use Rattle.mq_ast.specs.declared.expressions.E.TheOpen as layer
 use Rattle.mq_ast.specs.declared.expressions.E.TheVariants as e
 use Rattle.mq_ir.specs.Results.{◌>>=◌, each}
-use Rattle.mq_bind_expr.specs.declared.scopes.Found.{Found}
-use Rattle.mq_bind_expr.specs.declared.scopes.Position.{Position}
-use Rattle.mq_bind_expr.specs.declared.scopes.Scope.{Scope}
+use Rattle.mq_bind_scopes.specs.declared.scopes.Found.{Found}
+use Rattle.mq_bind_scopes.specs.declared.scopes.Position.{Position}
+use Rattle.mq_bind_scopes.specs.declared.scopes.Scope.{Scope}
 use Rattle.mq_bind_expr.specs.ExpressionParts.{arms_are}
 use Rattle.mq_bind_expr.specs.ExpressionRolls.{arm_found, bound_roll}
 use Rattle.mq_bind_expr.specs.ExpressionWalk.{bound}
 use Rattle.mq_bind_expr.specs.NameNodes.{Walked}
 use Rattle.mq_bind_expr.specs.FunctionNodes.{case_node}
-use Rattle.mq_bind_expr.specs.Positions.{inner}
+use Rattle.mq_bind_scopes.specs.Positions.{inner}
 
 -- a part that may be left out
 abbrev pub found_if_any : Scope → Position → Option E → Result (Option Found) Refused

@@ -12,20 +12,20 @@ use Rattle.mq_ir.specs.declared.expression.Leaf.{Leaf}
 use Rattle.mq_ir.specs.declared.expression.Leaf.TheVariants as leaf
 use Rattle.mq_ir.specs.declared.expression.Test.{Test}
 use Rattle.mq_ir.specs.Results.{◌>>=◌}
-use Rattle.mq_bind_expr.specs.declared.kinds.ExprKind.{ExprKind}
-use Rattle.mq_bind_expr.specs.declared.kinds.ExprKind.TheVariants as kind
-use Rattle.mq_bind_expr.specs.declared.misuse_numbers.TheConstants.{MISUSE_OF_AGGREGATE, MISUSE_OF_PLACE_COUNT, MISUSE_OF_REFERENCE_MEASURE, MISUSE_OF_RULE_FORM}
-use Rattle.mq_bind_expr.specs.declared.scopes.Found.{Found}
-use Rattle.mq_bind_expr.specs.declared.scopes.Named.{Named}
-use Rattle.mq_bind_expr.specs.declared.scopes.Owner.{Owner}
-use Rattle.mq_bind_expr.specs.declared.scopes.Owner.TheVariants as owner
-use Rattle.mq_bind_expr.specs.declared.scopes.Position.{Position}
-use Rattle.mq_bind_expr.specs.declared.scopes.Scope.{Scope}
-use Rattle.mq_bind_expr.specs.OperatorKinds.{aggregate_kind}
-use Rattle.mq_bind_expr.specs.Misuses.{aggregate_without_group, cell_out_of_place, other_place_count, outside_rules}
+use Rattle.mq_bind_scopes.specs.declared.kinds.ExprKind.{ExprKind}
+use Rattle.mq_bind_scopes.specs.declared.kinds.ExprKind.TheVariants as kind
+use Rattle.mq_bind_scopes.specs.declared.misuse_numbers.TheConstants.{MISUSE_OF_AGGREGATE, MISUSE_OF_PLACE_COUNT, MISUSE_OF_REFERENCE_MEASURE, MISUSE_OF_RULE_FORM}
+use Rattle.mq_bind_scopes.specs.declared.scopes.Found.{Found}
+use Rattle.mq_bind_scopes.specs.declared.scopes.Named.{Named}
+use Rattle.mq_bind_scopes.specs.declared.scopes.Owner.{Owner}
+use Rattle.mq_bind_scopes.specs.declared.scopes.Owner.TheVariants as owner
+use Rattle.mq_bind_scopes.specs.declared.scopes.Position.{Position}
+use Rattle.mq_bind_scopes.specs.declared.scopes.Scope.{Scope}
+use Rattle.mq_bind_scopes.specs.OperatorKinds.{aggregate_kind}
+use Rattle.mq_bind_scopes.specs.Misuses.{aggregate_without_group, cell_out_of_place, other_place_count, outside_rules}
 use Rattle.mq_bind_expr.specs.NameNodes.{Walked, a_value}
-use Rattle.mq_bind_expr.specs.Names.{Name, called, found_called, is_reference_measure}
-use Rattle.mq_bind_expr.specs.Refusals.{misuse, refused_where, unknown_name}
+use Rattle.mq_bind_scopes.specs.Names.{Name, called, found_called, is_reference_measure}
+use Rattle.mq_bind_scopes.specs.Refusals.{misuse, refused_where, unknown_name}
 
 -- an aggregate of rows
 abbrev pub agg_node : Position → Agg → Found → Walked

@@ -10,8 +10,8 @@ use Rattle.mq_ast.specs.declared.expressions.E.TheVariants as e
 use Rattle.mq_ast.specs.declared.expressions.Path.{Path}
 use Rattle.mq_ast.specs.declared.expressions.Place.{Place}
 use Rattle.mq_ir.specs.Results.{◌>>=◌}
-use Rattle.mq_bind_expr.specs.declared.scopes.Position.{Position}
-use Rattle.mq_bind_expr.specs.declared.scopes.Scope.{Scope}
+use Rattle.mq_bind_scopes.specs.declared.scopes.Position.{Position}
+use Rattle.mq_bind_scopes.specs.declared.scopes.Scope.{Scope}
 use Rattle.mq_bind_expr.specs.CellNodes.{agg_node, cell_node, count_all_node, range_node}
 use Rattle.mq_bind_expr.specs.RuleNodes.{cv_node, presentnnv_node, presentv_node, previous_node, turn_node}
 use Rattle.mq_bind_expr.specs.ExpressionParts.{all_are, all_found, index_found, indices_are, test_found, tests_are}
@@ -21,7 +21,7 @@ use Rattle.mq_bind_expr.specs.ExpressionWalk.{bound}
 use Rattle.mq_bind_expr.specs.NameNodes.{name_node}
 use Rattle.mq_bind_expr.specs.OperatorNodes.{cast_node}
 use Rattle.mq_bind_expr.specs.FunctionNodes.{call_node}
-use Rattle.mq_bind_expr.specs.Positions.{aggregated, inner, owner_of}
+use Rattle.mq_bind_scopes.specs.Positions.{aggregated, inner, owner_of}
 use Rattle.mq_bind_expr.specs.CaseLaws.{bound_case}
 use Rattle.mq_bind_expr.specs.OperatorLaws.{bound_or, bound_and, bound_not, bound_cmp, bound_between, bound_in, bound_is_null, bound_is_present, bound_is_any, bound_sum, bound_prod, bound_neg, bound_lit}
 

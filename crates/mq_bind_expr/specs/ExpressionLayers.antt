@@ -3,16 +3,16 @@ use Rattle.std.specs.Prelude.{true, false, None, Ok}
 use Rattle.mq_ast.specs.declared.expressions.E.TheOpen as layer
 use Rattle.mq_ir.specs.declared.expression.Test.TheVariants as test
 use Rattle.mq_ir.specs.Results.{◌>>=◌}
-use Rattle.mq_bind_expr.specs.declared.scopes.Scope.{Scope}
+use Rattle.mq_bind_scopes.specs.declared.scopes.Scope.{Scope}
 use Rattle.mq_bind_expr.specs.CellNodes.{agg_node, cell_node, count_all_node, range_node, unless_rule_form}
 use Rattle.mq_bind_expr.specs.RuleNodes.{cv_node, presentnnv_node, presentv_node, present_node, previous_node, turn_node}
 use Rattle.mq_bind_expr.specs.Forms.{is_condition}
-use Rattle.mq_bind_expr.specs.Misuses.{any_inside_place, outside_rules}
+use Rattle.mq_bind_scopes.specs.Misuses.{any_inside_place, outside_rules}
 use Rattle.mq_bind_expr.specs.NameNodes.{a_condition, name_node}
 use Rattle.mq_bind_expr.specs.FunctionNodes.{call_node, case_node}
 use Rattle.mq_bind_expr.specs.OperatorNodes.{and_node, between_node, cast_node, cmp_node, in_node, lit_node, neg_node, not_node, null_node, or_node, prod_node, sum_node}
 use Rattle.mq_bind_expr.specs.PlaceTests.{place_of, placed}
-use Rattle.mq_bind_expr.specs.Positions.{aggregated, bracketed, inner, owner_of, place_kind}
+use Rattle.mq_bind_scopes.specs.Positions.{aggregated, bracketed, inner, owner_of, place_kind}
 use Rattle.mq_bind_expr.specs.Steps.{each_from}
 use Rattle.mq_bind_expr.specs.ExpressionVisits.{Meaning, PlaceMeaning, ArmMeaning, ELayer, PlaceLayer, ArmLayer, ProdLayer, SumLayer, visited, visited_sums, visited_prods, visited_arms, visited_if_any, index_at, test_at}
 

@@ -11,16 +11,16 @@ use Rattle.mq_ast.specs.declared.expressions.SumTerm.{SumTerm}
 use Rattle.mq_ir.specs.declared.expression.Expr.{Expr}
 use Rattle.mq_ir.specs.declared.expression.Test.{Test}
 use Rattle.mq_ir.specs.Results.{◌>>=◌, each}
-use Rattle.mq_bind_expr.specs.declared.scopes.Found.{Found}
-use Rattle.mq_bind_expr.specs.declared.scopes.Owner.{Owner}
-use Rattle.mq_bind_expr.specs.declared.scopes.Owner.TheVariants as owner
-use Rattle.mq_bind_expr.specs.declared.scopes.Position.{Position}
-use Rattle.mq_bind_expr.specs.declared.scopes.Scope.{Scope}
+use Rattle.mq_bind_scopes.specs.declared.scopes.Found.{Found}
+use Rattle.mq_bind_scopes.specs.declared.scopes.Owner.{Owner}
+use Rattle.mq_bind_scopes.specs.declared.scopes.Owner.TheVariants as owner
+use Rattle.mq_bind_scopes.specs.declared.scopes.Position.{Position}
+use Rattle.mq_bind_scopes.specs.declared.scopes.Scope.{Scope}
 use Rattle.mq_bind_expr.specs.ExpressionVisits.{index_at, test_at, visited, visited_arms, visited_prods, visited_sums}
 use Rattle.mq_bind_expr.specs.Steps.{each_from}
 use Rattle.mq_bind_expr.specs.ExpressionWalk.{bound}
 use Rattle.mq_bind_expr.specs.PlaceTests.{index_of}
-use Rattle.mq_bind_expr.specs.Positions.{is_left, place_kind}
+use Rattle.mq_bind_scopes.specs.Positions.{is_left, place_kind}
 use Rattle.mq_bind_expr.specs.ExpressionRolls.{arm_bound, arm_found, arm_is, place_bound, prod_bound, prod_is, sum_bound, sum_is}
 
 -- lists of parts, from left to right

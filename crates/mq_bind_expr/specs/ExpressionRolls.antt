@@ -10,9 +10,9 @@ use Rattle.mq_ast.specs.declared.expressions.Place.TheVariants as place
 use Rattle.mq_ast.specs.declared.expressions.ProdTerm.{ProdTerm, para-ProdTerm, para-roll-ProdTerm, rolls-ProdTerm'}
 use Rattle.mq_ast.specs.declared.expressions.SumTerm.{SumTerm, para-SumTerm, para-roll-SumTerm, rolls-SumTerm'}
 use Rattle.mq_ir.specs.Results.{◌>>=◌}
-use Rattle.mq_bind_expr.specs.declared.scopes.Owner.{Owner}
-use Rattle.mq_bind_expr.specs.declared.scopes.Position.{Position}
-use Rattle.mq_bind_expr.specs.declared.scopes.Scope.{Scope}
+use Rattle.mq_bind_scopes.specs.declared.scopes.Owner.{Owner}
+use Rattle.mq_bind_scopes.specs.declared.scopes.Position.{Position}
+use Rattle.mq_bind_scopes.specs.declared.scopes.Scope.{Scope}
 use Rattle.mq_bind_expr.specs.ExpressionLayers.{layer_arm, layer_bound, layer_place, layer_prod, layer_sum}
 use Rattle.mq_bind_expr.specs.ExpressionVisits.{ArmMeaning, ELayer, Meaning, PlaceMeaning}
 use Rattle.mq_bind_expr.specs.ExpressionWalk.{bound}

@@ -12,16 +12,16 @@ use Rattle.mq_ast.specs.declared.expressions.SumTerm.{SumTerm}
 use Rattle.mq_ir.specs.declared.expression.Expr.{Expr}
 use Rattle.mq_ir.specs.declared.expression.Test.{Test}
 use Rattle.mq_ir.specs.Results.{◌>>=◌, each}
-use Rattle.mq_bind_expr.specs.declared.scopes.Found.{Found}
-use Rattle.mq_bind_expr.specs.declared.scopes.Owner.{Owner}
-use Rattle.mq_bind_expr.specs.declared.scopes.Owner.TheVariants as owner
-use Rattle.mq_bind_expr.specs.declared.scopes.Placed.{Placed}
-use Rattle.mq_bind_expr.specs.declared.scopes.Position.{Position}
-use Rattle.mq_bind_expr.specs.declared.scopes.Scope.{Scope}
+use Rattle.mq_bind_scopes.specs.declared.scopes.Found.{Found}
+use Rattle.mq_bind_scopes.specs.declared.scopes.Owner.{Owner}
+use Rattle.mq_bind_scopes.specs.declared.scopes.Owner.TheVariants as owner
+use Rattle.mq_bind_scopes.specs.declared.scopes.Placed.{Placed}
+use Rattle.mq_bind_scopes.specs.declared.scopes.Position.{Position}
+use Rattle.mq_bind_scopes.specs.declared.scopes.Scope.{Scope}
 use Rattle.mq_bind_expr.specs.NameNodes.{Walked}
 use Rattle.mq_bind_expr.specs.FunctionNodes.{ArmFound}
 use Rattle.mq_bind_expr.specs.PlaceTests.{index_of}
-use Rattle.mq_bind_expr.specs.Positions.{is_left, place_kind}
+use Rattle.mq_bind_scopes.specs.Positions.{is_left, place_kind}
 
 -- what a tree is bound to where it stands; a place also by whose bracket it is in, and by its number there
 abbrev pub Meaning : Type 0

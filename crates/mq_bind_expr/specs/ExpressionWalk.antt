@@ -4,13 +4,13 @@ use Rattle.mq_values.specs.declared.faults.Refused.{Refused}
 use Rattle.mq_ast.specs.declared.expressions.E.{E, para-E}
 use Rattle.mq_ir.specs.declared.expression.Expr.{Expr}
 use Rattle.mq_ir.specs.Results.{◌>>=◌}
-use Rattle.mq_bind_expr.specs.declared.kinds.ExprKind.{ExprKind}
-use Rattle.mq_bind_expr.specs.declared.scopes.Found.{Found}
-use Rattle.mq_bind_expr.specs.declared.scopes.Position.{Position}
-use Rattle.mq_bind_expr.specs.declared.scopes.Scope.{Scope}
+use Rattle.mq_bind_scopes.specs.declared.kinds.ExprKind.{ExprKind}
+use Rattle.mq_bind_scopes.specs.declared.scopes.Found.{Found}
+use Rattle.mq_bind_scopes.specs.declared.scopes.Position.{Position}
+use Rattle.mq_bind_scopes.specs.declared.scopes.Scope.{Scope}
 use Rattle.mq_bind_expr.specs.NameNodes.{Walked}
 use Rattle.mq_bind_expr.specs.OperatorNodes.{is_condition_found}
-use Rattle.mq_bind_expr.specs.Refusals.{kind_mismatch, refused_where}
+use Rattle.mq_bind_scopes.specs.Refusals.{kind_mismatch, refused_where}
 use Rattle.mq_bind_expr.specs.ExpressionLayers.{layer_bound, layer_place, layer_arm, layer_prod, layer_sum}
 use Rattle.mq_bind_expr.specs.ExpressionVisits.{Meaning, PlaceMeaning, ArmMeaning}
 

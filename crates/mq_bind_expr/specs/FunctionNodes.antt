@@ -9,13 +9,13 @@ use Rattle.mq_ir.specs.declared.expression.BoundArm.{BoundArm}
 use Rattle.mq_ir.specs.declared.expression.Expr.{Expr}
 use Rattle.mq_ir.specs.declared.expression.Expr.TheVariants as expr
 use Rattle.mq_ir.specs.Results.{◌>>=◌}
-use Rattle.mq_bind_expr.specs.declared.kinds.ExprKind.{ExprKind}
-use Rattle.mq_bind_expr.specs.declared.kinds.ExprKind.TheVariants as kind
-use Rattle.mq_bind_expr.specs.declared.scopes.Found.{Found}
-use Rattle.mq_bind_expr.specs.OperatorKinds.{call_kind}
-use Rattle.mq_bind_expr.specs.Kinds.{column_kind, common, common_from, is_condition_kind}
+use Rattle.mq_bind_scopes.specs.declared.kinds.ExprKind.{ExprKind}
+use Rattle.mq_bind_scopes.specs.declared.kinds.ExprKind.TheVariants as kind
+use Rattle.mq_bind_scopes.specs.declared.scopes.Found.{Found}
+use Rattle.mq_bind_scopes.specs.OperatorKinds.{call_kind}
+use Rattle.mq_bind_scopes.specs.Kinds.{column_kind, common, common_from, is_condition_kind}
 use Rattle.mq_bind_expr.specs.NameNodes.{Walked, a_value}
-use Rattle.mq_bind_expr.specs.Refusals.{kind_mismatch, refused_where}
+use Rattle.mq_bind_scopes.specs.Refusals.{kind_mismatch, refused_where}
 use Rattle.mq_bind_expr.specs.OperatorNodes.{exprs_of, kinds_of}
 
 -- a result is brought to the kind of the whole, but where that is NULL

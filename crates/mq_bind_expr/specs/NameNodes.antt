@@ -9,20 +9,20 @@ use Rattle.mq_ir.specs.declared.expression.Expr.TheVariants as expr
 use Rattle.mq_ir.specs.declared.expression.Leaf.TheVariants as leaf
 use Rattle.mq_ir.specs.Results.{◌>>=◌}
 use Rattle.mq_ir.specs.Tables.{is_name}
-use Rattle.mq_bind_expr.specs.declared.kinds.ExprKind.{ExprKind}
-use Rattle.mq_bind_expr.specs.declared.kinds.ExprKind.TheVariants as kind
-use Rattle.mq_bind_expr.specs.declared.misuse_numbers.TheConstants.{MISUSE_OF_CONDITION_IN_BRACKETS, MISUSE_OF_NAME_IN_RULE, MISUSE_OF_SHOWN_ITEM, MISUSE_OF_UNGROUPED_COLUMN}
-use Rattle.mq_bind_expr.specs.declared.scopes.Bracket.{Bracket}
-use Rattle.mq_bind_expr.specs.declared.scopes.Found.{Found}
-use Rattle.mq_bind_expr.specs.declared.scopes.Named.{Named}
-use Rattle.mq_bind_expr.specs.declared.scopes.Part.{Part}
-use Rattle.mq_bind_expr.specs.declared.scopes.Part.TheVariants as part
-use Rattle.mq_bind_expr.specs.declared.scopes.Position.{Position}
-use Rattle.mq_bind_expr.specs.declared.scopes.Scope.{Scope}
-use Rattle.mq_bind_expr.specs.Misuses.{in_condition, is_ungrouped}
-use Rattle.mq_bind_expr.specs.Names.{Name, called, column_named}
-use Rattle.mq_bind_expr.specs.Positions.{dimension_at, is_left}
-use Rattle.mq_bind_expr.specs.Refusals.{misuse, refused_where}
+use Rattle.mq_bind_scopes.specs.declared.kinds.ExprKind.{ExprKind}
+use Rattle.mq_bind_scopes.specs.declared.kinds.ExprKind.TheVariants as kind
+use Rattle.mq_bind_scopes.specs.declared.misuse_numbers.TheConstants.{MISUSE_OF_CONDITION_IN_BRACKETS, MISUSE_OF_NAME_IN_RULE, MISUSE_OF_SHOWN_ITEM, MISUSE_OF_UNGROUPED_COLUMN}
+use Rattle.mq_bind_scopes.specs.declared.scopes.Bracket.{Bracket}
+use Rattle.mq_bind_scopes.specs.declared.scopes.Found.{Found}
+use Rattle.mq_bind_scopes.specs.declared.scopes.Named.{Named}
+use Rattle.mq_bind_scopes.specs.declared.scopes.Part.{Part}
+use Rattle.mq_bind_scopes.specs.declared.scopes.Part.TheVariants as part
+use Rattle.mq_bind_scopes.specs.declared.scopes.Position.{Position}
+use Rattle.mq_bind_scopes.specs.declared.scopes.Scope.{Scope}
+use Rattle.mq_bind_scopes.specs.Misuses.{in_condition, is_ungrouped}
+use Rattle.mq_bind_scopes.specs.Names.{Name, called, column_named}
+use Rattle.mq_bind_scopes.specs.Positions.{dimension_at, is_left}
+use Rattle.mq_bind_scopes.specs.Refusals.{misuse, refused_where}
 
 -- what a node is bound to, or the first offence at it or before it
 abbrev pub Walked : Type 0

@@ -9,17 +9,17 @@ use Rattle.mq_ast.specs.declared.expressions.E.TheVariants as e
 use Rattle.mq_ast.specs.declared.expressions.ProdTerm.{ProdTerm}
 use Rattle.mq_ast.specs.declared.expressions.SumTerm.{SumTerm}
 use Rattle.mq_ir.specs.Results.{◌>>=◌, each}
-use Rattle.mq_bind_expr.specs.declared.scopes.Position.{Position}
-use Rattle.mq_bind_expr.specs.declared.scopes.Scope.{Scope}
+use Rattle.mq_bind_scopes.specs.declared.scopes.Position.{Position}
+use Rattle.mq_bind_scopes.specs.declared.scopes.Scope.{Scope}
 use Rattle.mq_bind_expr.specs.CellNodes.{unless_rule_form}
 use Rattle.mq_bind_expr.specs.RuleNodes.{present_node}
 use Rattle.mq_bind_expr.specs.ExpressionParts.{all_are, all_found, prod_found, prods_are, sum_found, sums_are}
 use Rattle.mq_bind_expr.specs.ExpressionRolls.{bound_roll}
 use Rattle.mq_bind_expr.specs.ExpressionWalk.{bound}
-use Rattle.mq_bind_expr.specs.Misuses.{any_inside_place}
+use Rattle.mq_bind_scopes.specs.Misuses.{any_inside_place}
 use Rattle.mq_bind_expr.specs.NameNodes.{a_condition}
 use Rattle.mq_bind_expr.specs.OperatorNodes.{and_node, between_node, cmp_node, in_node, lit_node, neg_node, not_node, null_node, or_node, prod_node, sum_node}
-use Rattle.mq_bind_expr.specs.Positions.{inner}
+use Rattle.mq_bind_scopes.specs.Positions.{inner}
 
 pub bound_or : (scope : Scope) (xs : List E) (at : Position) → bound scope (e.Or xs) at ≡ (all_found scope (inner at) xs >>= or_node)
 bound_or scope xs at =

@@ -13,13 +13,13 @@ use Rattle.mq_ir.specs.declared.expression.BoundSum.{BoundSum}
 use Rattle.mq_ir.specs.declared.expression.Expr.{Expr}
 use Rattle.mq_ir.specs.declared.expression.Expr.TheVariants as expr
 use Rattle.mq_ir.specs.Results.{◌>>=◌}
-use Rattle.mq_bind_expr.specs.declared.kinds.ExprKind.{ExprKind}
-use Rattle.mq_bind_expr.specs.declared.kinds.ExprKind.TheVariants as kind
-use Rattle.mq_bind_expr.specs.declared.scopes.Found.{Found}
-use Rattle.mq_bind_expr.specs.OperatorKinds.{cast_kind, chain_kind, product_kind, sum_kind}
-use Rattle.mq_bind_expr.specs.Kinds.{common, is_condition_kind, number_scale, value_kind, wider}
+use Rattle.mq_bind_scopes.specs.declared.kinds.ExprKind.{ExprKind}
+use Rattle.mq_bind_scopes.specs.declared.kinds.ExprKind.TheVariants as kind
+use Rattle.mq_bind_scopes.specs.declared.scopes.Found.{Found}
+use Rattle.mq_bind_scopes.specs.OperatorKinds.{cast_kind, chain_kind, product_kind, sum_kind}
+use Rattle.mq_bind_scopes.specs.Kinds.{common, is_condition_kind, number_scale, value_kind, wider}
 use Rattle.mq_bind_expr.specs.NameNodes.{Walked, a_condition, a_value}
-use Rattle.mq_bind_expr.specs.Refusals.{kind_mismatch, refused_where}
+use Rattle.mq_bind_scopes.specs.Refusals.{kind_mismatch, refused_where}
 
 abbrev pub exprs_of : List Found → List Expr
 exprs_of = map (λ (f : Found). f.e)

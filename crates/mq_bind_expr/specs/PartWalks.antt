@@ -6,17 +6,17 @@ use Rattle.mq_ast.specs.declared.expressions.Path.{Path}
 use Rattle.mq_ast.specs.declared.expressions.Place.{Place}
 use Rattle.mq_ir.specs.declared.expression.Test.TheVariants as test
 use Rattle.mq_ir.specs.Results.{◌>>=◌}
-use Rattle.mq_bind_expr.specs.declared.scopes.Owner.{Owner}
-use Rattle.mq_bind_expr.specs.declared.scopes.Placed.{Placed}
-use Rattle.mq_bind_expr.specs.declared.scopes.Position.{Position}
-use Rattle.mq_bind_expr.specs.declared.scopes.Scope.{Scope}
+use Rattle.mq_bind_scopes.specs.declared.scopes.Owner.{Owner}
+use Rattle.mq_bind_scopes.specs.declared.scopes.Placed.{Placed}
+use Rattle.mq_bind_scopes.specs.declared.scopes.Position.{Position}
+use Rattle.mq_bind_scopes.specs.declared.scopes.Scope.{Scope}
 use Rattle.mq_bind_expr.specs.CellNodes.{cell_node}
 use Rattle.mq_bind_expr.specs.ExpressionParts.{all_found, index_found}
 use Rattle.mq_bind_expr.specs.ExpressionWalk.{bound}
 use Rattle.mq_bind_expr.specs.Forms.{is_condition}
 use Rattle.mq_bind_expr.specs.NameNodes.{Walked}
 use Rattle.mq_bind_expr.specs.PlaceTests.{place_of, placed}
-use Rattle.mq_bind_expr.specs.Positions.{bracketed, inner, owner_of, place_kind}
+use Rattle.mq_bind_scopes.specs.Positions.{bracketed, inner, owner_of, place_kind}
 use Rattle.mq_bind_expr.specs.RuleNodes.{presentnnv_node}
 use Rattle.mq_bind_expr.specs.Steps.{each_from}
 

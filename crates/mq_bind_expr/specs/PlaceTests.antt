@@ -16,14 +16,14 @@ use Rattle.mq_ir.specs.declared.expression.Expr.TheOpen as layer
 use Rattle.mq_ir.specs.declared.expression.Leaf.{Leaf}
 use Rattle.mq_ir.specs.declared.expression.Test.{Test, out-Test}
 use Rattle.mq_ir.specs.declared.expression.Test.TheVariants as test
-use Rattle.mq_bind_expr.specs.declared.kinds.ExprKind.{ExprKind}
-use Rattle.mq_bind_expr.specs.declared.misuse_numbers.TheConstants.{MISUSE_OF_CONDITION_IN_BRACKETS, MISUSE_OF_CONDITION_IN_CELL}
-use Rattle.mq_bind_expr.specs.declared.scopes.Found.{Found}
-use Rattle.mq_bind_expr.specs.declared.scopes.Placed.{Placed}
+use Rattle.mq_bind_scopes.specs.declared.kinds.ExprKind.{ExprKind}
+use Rattle.mq_bind_scopes.specs.declared.misuse_numbers.TheConstants.{MISUSE_OF_CONDITION_IN_BRACKETS, MISUSE_OF_CONDITION_IN_CELL}
+use Rattle.mq_bind_scopes.specs.declared.scopes.Found.{Found}
+use Rattle.mq_bind_scopes.specs.declared.scopes.Placed.{Placed}
 use Rattle.mq_bind_expr.specs.Dimensions.{is_dimension, names_dimension}
 use Rattle.mq_bind_expr.specs.Forms.{is_any_form, is_condition}
-use Rattle.mq_bind_expr.specs.Kinds.{is_index}
-use Rattle.mq_bind_expr.specs.Refusals.{kind_mismatch, misuse, refused_where}
+use Rattle.mq_bind_scopes.specs.Kinds.{is_index}
+use Rattle.mq_bind_scopes.specs.Refusals.{kind_mismatch, misuse, refused_where}
 
 -- an operand does not name the dimension
 abbrev pub is_free : Expr → Bool

@@ -4,12 +4,12 @@ use Rattle.mq_values.specs.declared.faults.Refused.{Refused}
 use Rattle.mq_ir.specs.declared.expression.Expr.{Expr}
 use Rattle.mq_ir.specs.declared.expression.Leaf.{Leaf}
 use Rattle.mq_ir.specs.Results.{◌>>=◌}
-use Rattle.mq_bind_expr.specs.declared.kinds.ExprKind.{ExprKind}
-use Rattle.mq_bind_expr.specs.declared.scopes.Found.{Found}
-use Rattle.mq_bind_expr.specs.declared.scopes.Position.{Position}
+use Rattle.mq_bind_scopes.specs.declared.kinds.ExprKind.{ExprKind}
+use Rattle.mq_bind_scopes.specs.declared.scopes.Found.{Found}
+use Rattle.mq_bind_scopes.specs.declared.scopes.Position.{Position}
 use Rattle.mq_bind_expr.specs.CellNodes.{unless_rule_form}
-use Rattle.mq_bind_expr.specs.Kinds.{mismatch}
-use Rattle.mq_bind_expr.specs.Misuses.{outside_rules}
+use Rattle.mq_bind_scopes.specs.Kinds.{mismatch}
+use Rattle.mq_bind_scopes.specs.Misuses.{outside_rules}
 use Rattle.mq_bind_expr.specs.RuleNodes.{leaf_cell, presence_kind, single_cell}
 
 -- the measure of a single cell of the main model

@@ -8,21 +8,21 @@ use Rattle.mq_ir.specs.declared.expression.Expr.TheVariants as expr
 use Rattle.mq_ir.specs.declared.expression.Leaf.{Leaf, out-Leaf}
 use Rattle.mq_ir.specs.declared.expression.Leaf.TheVariants as leaf
 use Rattle.mq_ir.specs.Results.{◌>>=◌}
-use Rattle.mq_bind_expr.specs.declared.kinds.ExprKind.{ExprKind}
-use Rattle.mq_bind_expr.specs.declared.kinds.ExprKind.TheVariants as kind
-use Rattle.mq_bind_expr.specs.declared.misuse_numbers.TheConstants.{MISUSE_OF_REFERENCE_MEASURE, MISUSE_OF_RULE_FORM}
-use Rattle.mq_bind_expr.specs.declared.scopes.Bracket.{Bracket}
-use Rattle.mq_bind_expr.specs.declared.scopes.Found.{Found}
-use Rattle.mq_bind_expr.specs.declared.scopes.Owner.TheVariants as owner
-use Rattle.mq_bind_expr.specs.declared.scopes.Position.{Position}
-use Rattle.mq_bind_expr.specs.declared.scopes.Scope.{Scope}
-use Rattle.mq_bind_expr.specs.Kinds.{common, mismatch}
-use Rattle.mq_bind_expr.specs.Misuses.{cell_out_of_place, cv_out_of_place, outside_rules, previous_outside_until, turn_without_iterate}
+use Rattle.mq_bind_scopes.specs.declared.kinds.ExprKind.{ExprKind}
+use Rattle.mq_bind_scopes.specs.declared.kinds.ExprKind.TheVariants as kind
+use Rattle.mq_bind_scopes.specs.declared.misuse_numbers.TheConstants.{MISUSE_OF_REFERENCE_MEASURE, MISUSE_OF_RULE_FORM}
+use Rattle.mq_bind_scopes.specs.declared.scopes.Bracket.{Bracket}
+use Rattle.mq_bind_scopes.specs.declared.scopes.Found.{Found}
+use Rattle.mq_bind_scopes.specs.declared.scopes.Owner.TheVariants as owner
+use Rattle.mq_bind_scopes.specs.declared.scopes.Position.{Position}
+use Rattle.mq_bind_scopes.specs.declared.scopes.Scope.{Scope}
+use Rattle.mq_bind_scopes.specs.Kinds.{common, mismatch}
+use Rattle.mq_bind_scopes.specs.Misuses.{cell_out_of_place, cv_out_of_place, outside_rules, previous_outside_until, turn_without_iterate}
 use Rattle.mq_bind_expr.specs.NameNodes.{Walked, a_condition, a_value}
-use Rattle.mq_bind_expr.specs.Names.{Name, called}
+use Rattle.mq_bind_scopes.specs.Names.{Name, called}
 use Rattle.mq_bind_expr.specs.FunctionNodes.{converted}
-use Rattle.mq_bind_expr.specs.Positions.{place_kind}
-use Rattle.mq_bind_expr.specs.Refusals.{misuse}
+use Rattle.mq_bind_scopes.specs.Positions.{place_kind}
+use Rattle.mq_bind_scopes.specs.Refusals.{misuse}
 use Rattle.mq_bind_expr.specs.CellNodes.{unless_rule_form}
 
 -- CV of a dimension; CV() is that of its place between the brackets of a measure of the main model

@@ -5,11 +5,10 @@ ghost use Rattle.std.specs.List.{list_all};
 ghost use Rattle.std.specs.Option.{option_map};
 ghost use Rattle.mq_values.specs.Answers.{Gives};
 ghost use Rattle.mq_bind_expr.specs.FunctionNodes as spec;
-ghost use Rattle.mq_bind_expr.specs.Kinds as kinds;
+ghost use Rattle.mq_bind_scopes.specs.Kinds as kinds;
 
 use crate::founds::{Held, converted_of, expr_of};
-use crate::kinds::{ExprKind, is_condition_kind, wider};
-use crate::refusals::mismatch;
+use mq_bind_scopes::{ExprKind, is_condition_kind, mismatch, wider};
 use mq_ir::{BoundArm, Expr};
 use mq_values::{Boxed, Fail, Items, Memory, Refused};
 use std::alloc::Global;

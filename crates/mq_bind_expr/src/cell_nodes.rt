@@ -8,18 +8,14 @@ ghost use Rattle.mq_values.specs.Answers.{Gives};
 ghost use Rattle.mq_bind_expr.specs.CellNodes as spec;
 
 use crate::founds::{Held, expr_of};
-use crate::kinds::{ExprKind, aggregate_kind};
-use crate::misuse_numbers::{
-    MISUSE_OF_AGGREGATE, MISUSE_OF_PLACE_COUNT, MISUSE_OF_REFERENCE_MEASURE, MISUSE_OF_RULE_FORM,
-};
-use crate::misuses::{
-    aggregate_without_group, cell_out_of_place, other_place_count, outside_rules,
-};
-use crate::names::{called, found_called, is_reference_measure};
-use crate::refusals::{misuse, unknown_name};
-use crate::scopes::{Found, Named, Owner, Position, Scope};
 use crate::values::a_value;
 use mq_ast::Path;
+use mq_bind_scopes::{
+    ExprKind, Found, MISUSE_OF_AGGREGATE, MISUSE_OF_PLACE_COUNT, MISUSE_OF_REFERENCE_MEASURE,
+    MISUSE_OF_RULE_FORM, Named, Owner, Position, Scope, aggregate_kind, aggregate_without_group,
+    called, cell_out_of_place, found_called, is_reference_measure, misuse, other_place_count,
+    outside_rules, unknown_name,
+};
 use mq_ir::{Expr, Leaf, Test};
 use mq_lexer::folded;
 use mq_values::{Agg, Fail, Items, Memory, Refused, Words};

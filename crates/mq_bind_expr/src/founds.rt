@@ -3,13 +3,12 @@
 ghost use Rattle.std.specs.Prelude.{◌≡◌, IfOk};
 ghost use Rattle.mq_values.specs.Answers.{Gives};
 ghost use Rattle.mq_bind_expr.specs.FunctionNodes as result_of;
-ghost use Rattle.mq_bind_expr.specs.Kinds as kinds;
-ghost use Rattle.mq_bind_expr.specs.OperatorKinds as made;
+ghost use Rattle.mq_bind_scopes.specs.Kinds as kinds;
+ghost use Rattle.mq_bind_scopes.specs.OperatorKinds as made;
 ghost use Rattle.mq_bind_expr.specs.OperatorNodes as spec;
 
-use crate::kinds::{ExprKind, is_condition_kind, product_kind, sum_kind, wider};
-use crate::scopes::Found;
 use crate::values::converted;
+use mq_bind_scopes::{ExprKind, Found, is_condition_kind, product_kind, sum_kind, wider};
 use mq_ir::{BoundProd, BoundSum, Expr};
 use mq_values::{Boxed, Fail, Items, Memory, ProdOp, Refused, SumOp};
 use std::alloc::Global;

@@ -3,15 +3,13 @@
 ghost use Rattle.std.specs.Prelude.{◌≡◌, IfOk};
 ghost use Rattle.mq_values.specs.Answers.{Gives};
 ghost use Rattle.mq_bind_expr.specs.FunctionNodes as spec;
-ghost use Rattle.mq_bind_expr.specs.OperatorKinds as made;
+ghost use Rattle.mq_bind_scopes.specs.OperatorKinds as made;
 ghost use Rattle.mq_bind_expr.specs.OperatorNodes.{kinds_of};
 
 use crate::case_parts::{case_kind, case_of};
 use crate::founds::{Held, exprs_of, go_together};
-use crate::kinds::{ExprKind, number_scale, rounded_kind};
-use crate::refusals::mismatch;
-use crate::scopes::Found;
 use crate::values::{a_value, converted};
+use mq_bind_scopes::{ExprKind, Found, mismatch, number_scale, rounded_kind};
 use mq_ir::Expr;
 use mq_values::{Fail, Func, Items, Memory, Refused};
 use std::alloc::Global;

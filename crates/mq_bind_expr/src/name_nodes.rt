@@ -5,18 +5,13 @@ ghost use Rattle.std.specs.Option.{option_map};
 ghost use Rattle.mq_values.specs.Answers.{Gives};
 ghost use Rattle.mq_bind_expr.specs.NameNodes as spec;
 
-use crate::kinds::ExprKind;
-use crate::misuse_numbers::{
-    MISUSE_OF_CONDITION_IN_BRACKETS, MISUSE_OF_NAME_IN_RULE, MISUSE_OF_SHOWN_ITEM,
-    MISUSE_OF_UNGROUPED_COLUMN,
-};
-use crate::misuses::{in_condition, is_ungrouped};
-use crate::names::{called, column_named};
-use crate::positions::{dimension_at, is_left};
-use crate::refusals::misuse;
-use crate::scopes::{Bracket, Found, Named, Part, Position, Scope};
 use crate::values::{a_value, column_leaf};
 use mq_ast::Path;
+use mq_bind_scopes::{
+    Bracket, ExprKind, Found, MISUSE_OF_CONDITION_IN_BRACKETS, MISUSE_OF_NAME_IN_RULE,
+    MISUSE_OF_SHOWN_ITEM, MISUSE_OF_UNGROUPED_COLUMN, Named, Part, Position, Scope, called,
+    column_named, dimension_at, in_condition, is_left, is_ungrouped, misuse,
+};
 use mq_lexer::folded;
 use mq_values::{Fail, Memory, Refused, Words};
 use std::alloc::Global;

@@ -8,13 +8,11 @@ use crate::founds::{
     Held, all_conditions, common_from, exprs_of, go_together, is_condition_found,
     product_chain_kind, product_terms, sum_chain_kind, sum_terms,
 };
-use crate::kinds::{ExprKind, cast_kind, number_scale, value_kind, wider};
-use crate::refusals::mismatch;
-use crate::scopes::Found;
 use crate::trees::{
     between, cast, comparison, membership, negation, null_test, opposite, product, sum,
 };
 use crate::values::{a_condition, a_value};
+use mq_bind_scopes::{ExprKind, Found, cast_kind, mismatch, number_scale, value_kind, wider};
 use mq_ir::Expr;
 use mq_values::{CmpOp, Fail, Items, Kind, Memory, ProdOp, Refused, SumOp, Value};
 use std::alloc::Global;

@@ -13,11 +13,11 @@ ghost use Rattle.mq_bind_expr.specs.PlaceTests as spec;
 use crate::dimensions::{is_dimension, names_dimension};
 use crate::forms::{is_any_form, is_condition};
 use crate::founds::Held;
-use crate::kinds::{ExprKind, is_index};
-use crate::misuse_numbers::{MISUSE_OF_CONDITION_IN_BRACKETS, MISUSE_OF_CONDITION_IN_CELL};
-use crate::refusals::{mismatch, misuse};
-use crate::scopes::Placed;
 use mq_ast::E;
+use mq_bind_scopes::{
+    ExprKind, MISUSE_OF_CONDITION_IN_BRACKETS, MISUSE_OF_CONDITION_IN_CELL, Placed, is_index,
+    mismatch, misuse,
+};
 use mq_ir::{Expr, Test};
 use mq_values::{Boxed, CmpOp, Fail, Items, Memory, Refused, Value};
 use std::alloc::Global;

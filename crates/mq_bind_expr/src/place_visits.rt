@@ -6,20 +6,19 @@ ghost use Rattle.mq_values.specs.Answers.{Gives};
 ghost use Rattle.mq_bind_expr.specs.CellNodes.{unless_rule_form};
 ghost use Rattle.mq_bind_expr.specs.ExpressionParts as parts;
 ghost use Rattle.mq_bind_expr.specs.ExpressionRolls as rolls;
-ghost use Rattle.mq_bind_expr.specs.Misuses as misuses;
+ghost use Rattle.mq_bind_scopes.specs.Misuses as misuses;
 ghost use Rattle.mq_bind_expr.specs.PartWalks as walks;
 ghost use Rattle.mq_bind_expr.specs.PlaceTests as tests;
 ghost use Rattle.mq_bind_expr.specs.Steps.{each_from};
 
 use crate::forms::is_condition;
-use crate::misuse_numbers::MISUSE_OF_RULE_FORM;
-use crate::misuses::outside_rules;
 use crate::place_tests::{index_of, place_of, placed};
-use crate::positions::{bracketed, inner, is_left, place_kind};
-use crate::refusals::{misuse, number};
-use crate::scopes::{Owner, Placed, Position, Scope};
 use crate::walk::bound;
 use mq_ast::{E, Place};
+use mq_bind_scopes::{
+    MISUSE_OF_RULE_FORM, Owner, Placed, Position, Scope, bracketed, inner, is_left, misuse, number,
+    outside_rules, place_kind,
+};
 use mq_ir::{Expr, Test};
 use mq_values::{Fail, Items, Refused};
 use std::alloc::Global;

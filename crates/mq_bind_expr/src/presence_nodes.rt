@@ -6,14 +6,13 @@ ghost use Rattle.mq_bind_expr.specs.PresenceForms as forms;
 ghost use Rattle.mq_bind_expr.specs.RuleNodes as spec;
 
 use crate::founds::{Held, converted_of, go_together, on_heap};
-use crate::kinds::ExprKind;
-use crate::misuse_numbers::{MISUSE_OF_REFERENCE_MEASURE, MISUSE_OF_RULE_FORM};
-use crate::misuses::{cell_out_of_place, outside_rules};
-use crate::refusals::{mismatch, misuse};
 use crate::rule_nodes::single_cell;
-use crate::scopes::{Found, Position};
 use crate::threes::as_three;
 use crate::values::a_value;
+use mq_bind_scopes::{
+    ExprKind, Found, MISUSE_OF_REFERENCE_MEASURE, MISUSE_OF_RULE_FORM, Position, cell_out_of_place,
+    mismatch, misuse, outside_rules,
+};
 use mq_ir::{Expr, Leaf};
 use mq_values::{Boxed, Fail, Items, Refused};
 use std::alloc::Global;

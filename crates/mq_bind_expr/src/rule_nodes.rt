@@ -4,16 +4,12 @@ ghost use Rattle.mq_values.specs.Answers.{Gives};
 ghost use Rattle.mq_bind_expr.specs.RuleNodes as spec;
 
 use crate::founds::Held;
-use crate::kinds::ExprKind;
-use crate::misuse_numbers::{MISUSE_OF_REFERENCE_MEASURE, MISUSE_OF_RULE_FORM};
-use crate::misuses::{
-    cell_out_of_place, cv_out_of_place, outside_rules, previous_outside_until, turn_without_iterate,
-};
-use crate::names::called;
-use crate::positions::place_kind;
-use crate::refusals::misuse;
-use crate::scopes::{Bracket, Found, Owner, Position, Scope};
 use crate::values::{a_condition, a_value};
+use mq_bind_scopes::{
+    Bracket, ExprKind, Found, MISUSE_OF_REFERENCE_MEASURE, MISUSE_OF_RULE_FORM, Owner, Position,
+    Scope, called, cell_out_of_place, cv_out_of_place, misuse, outside_rules, place_kind,
+    previous_outside_until, turn_without_iterate,
+};
 use mq_ir::{Expr, Leaf};
 use mq_lexer::folded;
 use mq_values::{Fail, Items, Refused, Words};

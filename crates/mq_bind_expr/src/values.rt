@@ -4,8 +4,7 @@ ghost use Rattle.std.specs.Prelude.{◌≡◌, IfOk};
 ghost use Rattle.mq_bind_expr.specs.NameNodes as spec;
 ghost use Rattle.mq_bind_expr.specs.FunctionNodes.{converted};
 
-use crate::kinds::{ExprKind, column_kind};
-use crate::scopes::Found;
+use mq_bind_scopes::{ExprKind, Found, column_kind};
 use mq_ir::{Expr, Leaf};
 use mq_values::{Boxed, Memory};
 use std::alloc::Global;

@@ -7,9 +7,9 @@ ghost use Rattle.mq_bind_expr.specs.ExpressionParts as parts;
 ghost use Rattle.mq_bind_expr.specs.ExpressionRolls as rolls;
 
 use crate::founds::Held;
-use crate::scopes::{Found, Position, Scope};
 use crate::walk::bound;
 use mq_ast::{Arm, E, ProdTerm, SumTerm};
+use mq_bind_scopes::{Found, Position, Scope};
 use mq_values::{Boxed, Fail, Items, ProdOp, Refused, SumOp};
 use std::alloc::Global;
 

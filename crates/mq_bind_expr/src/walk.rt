@@ -5,29 +5,28 @@ ghost use Rattle.std.specs.Prelude.{Ok};
 ghost use Rattle.mq_values.specs.Answers.{Gives};
 ghost use Rattle.mq_bind_expr.specs.CellNodes as cells;
 ghost use Rattle.mq_bind_expr.specs.ExpressionWalk as spec;
-ghost use Rattle.mq_bind_expr.specs.Misuses as misuses;
+ghost use Rattle.mq_bind_scopes.specs.Misuses as misuses;
 ghost use Rattle.mq_bind_expr.specs.NameNodes as names;
 ghost use Rattle.mq_bind_expr.specs.PartWalks as walks;
 
 use crate::cell_nodes::{agg_node, cell_node, count_all_node, range_node};
 use crate::founds::{Held, expr_of, is_condition_found};
 use crate::function_nodes::{call_node, case_node};
-use crate::misuse_numbers::MISUSE_OF_RULE_FORM;
-use crate::misuses::any_inside_place;
 use crate::name_nodes::name_node;
 use crate::operator_nodes::{
     and_node, between_node, cast_node, cmp_node, in_node, lit_node, neg_node, not_node, null_node,
     or_node, prod_node, sum_node,
 };
 use crate::place_visits::{bound_indices, bound_tests};
-use crate::positions::{aggregated, inner, owner_of};
 use crate::presence_nodes::{other_presence, presence_asked, presentnnv_node, presentv_node};
-use crate::refusals::{mismatch, misuse};
 use crate::rule_nodes::{cv_node, present_node, previous_node, turn_node};
-use crate::scopes::{Found, Position, Scope};
 use crate::values::a_condition;
 use crate::visits::{found_arms, found_each, found_factors, found_if_any, found_terms};
 use mq_ast::{E, Path, Place};
+use mq_bind_scopes::{
+    Found, MISUSE_OF_RULE_FORM, Position, Scope, aggregated, any_inside_place, inner, mismatch,
+    misuse, owner_of,
+};
 use mq_ir::Expr;
 use mq_values::{Boxed, Fail, Refused};
 use std::alloc::Global;

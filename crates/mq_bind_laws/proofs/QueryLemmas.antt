@@ -23,14 +23,15 @@ use Rattle.mq_ir.specs.Results.{each_in_turn}
 use Rattle.mq_binder.specs.declared.found.ReferenceFound.{ReferenceFound}
 use Rattle.mq_binder.specs.declared.found.Lists.{Lists}
 use Rattle.mq_binder.specs.declared.found.Sources.{Sources}
-use Rattle.mq_bind_expr.specs.declared.scopes.Scope.{Scope}
-use Rattle.mq_bind_expr.specs.Names.{Name, called}
+use Rattle.mq_bind_scopes.specs.declared.scopes.Scope.{Scope}
+use Rattle.mq_bind_scopes.specs.Names.{Name, called}
 use Rattle.mq_bind_expr.specs.Steps.{each_behind}
 use Rattle.mq_binder.specs.ForWalk.{list_bound}
 use Rattle.mq_binder.specs.FromWalk.{base_of, grouped_by, item_seen, no_sources, sources_of, table_called}
 use Rattle.mq_binder.specs.LeftWalk.{left_bound, left_place, left_places}
-use Rattle.mq_binder.specs.ListWalk.{ignores_nav}
-use Rattle.mq_binder.specs.ModelWalk.{head_bound, lists_and_rules, lists_bound, model_group, model_over, rule_scope, rules_over}
+use Rattle.mq_bind_scopes.specs.Options.{ignores_nav}
+use Rattle.mq_bind_scopes.specs.Heads.{head_bound}
+use Rattle.mq_binder.specs.ModelWalk.{lists_and_rules, lists_bound, model_group, model_over, rule_scope, rules_over}
 use Rattle.mq_binder.specs.PlainWalk.{plain_bound}
 use Rattle.mq_binder.specs.QueryWalk.{model_rows, query_bound, query_with}
 use Rattle.mq_binder.specs.ReferenceWalk.{reference_bound, reference_name, references_bound}

@@ -4,8 +4,8 @@ use Rattle.std.specs.List.{flat_map, list_any}
 use Rattle.mq_values.specs.declared.faults.Refused.{Refused}
 use Rattle.mq_ir.specs.Results.{◌>>=◌, each_in_turn}
 use Rattle.mq_ir.specs.Tables.{is_name}
-use Rattle.mq_bind_expr.specs.Names.{Name}
-use Rattle.mq_bind_expr.specs.Refusals.{refused_where}
+use Rattle.mq_bind_scopes.specs.Names.{Name}
+use Rattle.mq_bind_scopes.specs.Refusals.{refused_where}
 use Rattle.mq_bind_expr.specs.Steps.{each_behind, each_with, each_with_from}
 
 -- this name is among these

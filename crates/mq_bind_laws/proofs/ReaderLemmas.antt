@@ -42,22 +42,23 @@ use Rattle.mq_binder.specs.declared.found.ModelFound.{ModelFound}
 use Rattle.mq_binder.specs.declared.found.PlainFound.{PlainFound}
 use Rattle.mq_binder.specs.declared.found.ReferenceFound.{ReferenceFound}
 use Rattle.mq_binder.specs.declared.found.Sources.{Sources}
-use Rattle.mq_bind_expr.specs.declared.kinds.ExprKind.{ExprKind}
-use Rattle.mq_bind_expr.specs.declared.misuse_numbers.TheConstants.{MISUSE_OF_FOR, MISUSE_OF_PLACE_COUNT}
-use Rattle.mq_bind_expr.specs.declared.scopes.Owner.TheVariants as owner
-use Rattle.mq_bind_expr.specs.declared.scopes.Part.TheVariants as part
-use Rattle.mq_bind_expr.specs.declared.scopes.Scope.{Scope}
+use Rattle.mq_bind_scopes.specs.declared.kinds.ExprKind.{ExprKind}
+use Rattle.mq_bind_scopes.specs.declared.misuse_numbers.TheConstants.{MISUSE_OF_FOR, MISUSE_OF_PLACE_COUNT}
+use Rattle.mq_bind_scopes.specs.declared.scopes.Owner.TheVariants as owner
+use Rattle.mq_bind_scopes.specs.declared.scopes.Part.TheVariants as part
+use Rattle.mq_bind_scopes.specs.declared.scopes.Scope.{Scope}
 use Rattle.mq_bind_expr.specs.ExpressionWalk.{bound_filter}
-use Rattle.mq_bind_expr.specs.Names.{Name, called}
-use Rattle.mq_bind_expr.specs.Misuses.{other_place_count}
-use Rattle.mq_bind_expr.specs.Positions.{place_kind, standing}
-use Rattle.mq_bind_expr.specs.Refusals.{duplicate_name, kind_mismatch, misuse, refused_where}
+use Rattle.mq_bind_scopes.specs.Names.{Name, called}
+use Rattle.mq_bind_scopes.specs.Misuses.{other_place_count}
+use Rattle.mq_bind_scopes.specs.Positions.{place_kind, standing}
+use Rattle.mq_bind_scopes.specs.Refusals.{duplicate_name, kind_mismatch, misuse, refused_where}
 use Rattle.mq_bind_expr.specs.Steps.{each_behind, each_from}
 use Rattle.mq_binder.specs.ForWalk.{for_checked, has_width, list_bound, names_place, pairs_fit, rows_found, value_row, values_found}
 use Rattle.mq_binder.specs.FromWalk.{alias_of, base_of, base_over, grouped_by, grouping, item_seen, no_sources, on_bound, row_scope, sources_of, table_called, with_item}
 use Rattle.mq_binder.specs.LeftWalk.{expression_place, kind_called, left_bound, left_place, left_places, names_each, numbers_called, steps_place, tuples_found, with_lists}
-use Rattle.mq_binder.specs.ListWalk.{ignores_nav}
-use Rattle.mq_binder.specs.ModelWalk.{head_bound, iterate_of, lists_and_rules, lists_bound, model_group, model_over, model_part, rule_scope, rules_over}
+use Rattle.mq_bind_scopes.specs.Options.{ignores_nav}
+use Rattle.mq_bind_scopes.specs.Heads.{head_bound}
+use Rattle.mq_binder.specs.ModelWalk.{iterate_of, lists_and_rules, lists_bound, model_group, model_over, model_part, rule_scope, rules_over}
 use Rattle.mq_binder.specs.PlainWalk.{items_over, plain_bound, plain_of, plain_over}
 use Rattle.mq_binder.specs.QueryWalk.{few_shown, model_key, model_query, model_rows, plain_query, printed_key, query_bound, query_with, shown_scope}
 use Rattle.mq_binder.specs.ReferenceWalk.{dims_listed, lists_over, measures_listed, reference_bound, reference_name, reference_of, references_bound}

@@ -21,8 +21,8 @@ use Rattle.mq_ir.specs.Partitions.{Tuple}
 use Rattle.mq_ir.specs.Results.{◌>>=◌}
 use Rattle.mq_ir.specs.Statement.{Files, Printed, State, View, change_step, file_bytes, staged, step, taken, with_rows}
 use Rattle.mq_ir.specs.Tables.{Table, Tables, is_name, table_at}
-use Rattle.mq_bind_expr.specs.Names.{Name}
-use Rattle.mq_bind_expr.specs.Refusals.{unknown_name}
+use Rattle.mq_bind_scopes.specs.Names.{Name}
+use Rattle.mq_bind_scopes.specs.Refusals.{unknown_name}
 use Rattle.mq_binder.specs.QueryWalk.{query_bound}
 use Rattle.mq_bind_laws.specs.FurtherTable.{StaysUnlessUnknown}
 use Rattle.mq_bind_laws.specs.StatementsBetween.{QueryIgnoresViews, QueryOutlasts, catalog_of, table_entry, view_entry}

@@ -18,8 +18,8 @@ use Rattle.mq_ir.specs.declared.statement.Bound.{Bound}
 use Rattle.mq_ir.specs.declared.statement.Bound.TheVariants as bound
 use Rattle.mq_ir.specs.Names.{is_table, is_view}
 use Rattle.mq_ir.specs.Results.{◌>>=◌}
-use Rattle.mq_bind_expr.specs.Names.{Name}
-use Rattle.mq_bind_expr.specs.Refusals.{duplicate_name, limit, refused_where}
+use Rattle.mq_bind_scopes.specs.Names.{Name}
+use Rattle.mq_bind_scopes.specs.Refusals.{duplicate_name, limit, refused_where}
 use Rattle.mq_binder.specs.FromWalk.{table_called}
 use Rattle.mq_binder.specs.QueryWalk.{query_bound}
 use Rattle.mq_binder.specs.StatementWalk.{if_table, statement_bound}

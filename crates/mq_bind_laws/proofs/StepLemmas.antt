@@ -2,8 +2,8 @@
 use Rattle.std.proofs.Common.{◌≡◌, inl, inr, ℕ, ◌+◌, List, [], ◌∷◌, ◌++◌, Bool, true, false, Result, Ok, Err, refl, sym, ap, ◌∙◌, subst}
 use Rattle.mq_values.specs.declared.faults.Refused.{Refused}
 use Rattle.mq_ir.specs.Results.{◌>>=◌, each_in_turn}
-use Rattle.mq_bind_expr.specs.Names.{Name}
-use Rattle.mq_bind_expr.specs.Refusals.{refused_where, unknown_name}
+use Rattle.mq_bind_scopes.specs.Names.{Name}
+use Rattle.mq_bind_scopes.specs.Refusals.{refused_where, unknown_name}
 use Rattle.mq_bind_expr.specs.Steps.{each_behind, each_with, each_with_from}
 use Rattle.mq_bind_laws.specs.FurtherTable.{StaysUnlessUnknown}
 

@@ -12,8 +12,8 @@ use Rattle.mq_ir.specs.declared.statement.Bound.{Bound}
 use Rattle.mq_ir.specs.declared.statement.Schema.{Schema}
 use Rattle.mq_ir.specs.Names.{is_table}
 use Rattle.mq_ir.specs.Tables.{is_name}
-use Rattle.mq_bind_expr.specs.Names.{Name}
-use Rattle.mq_bind_expr.specs.Refusals.{refused_where, unknown_name}
+use Rattle.mq_bind_scopes.specs.Names.{Name}
+use Rattle.mq_bind_scopes.specs.Refusals.{refused_where, unknown_name}
 use Rattle.mq_binder.specs.FromWalk.{table_called}
 use Rattle.mq_binder.specs.StatementWalk.{if_table}
 use Rattle.mq_bind_laws.specs.FurtherTable.{StaysUnlessUnknown, with_table, with_table_at}

@@ -25,11 +25,11 @@ use Rattle.mq_ir.specs.Names.{is_taken}
 use Rattle.mq_ir.specs.Results.{◌>>=◌}
 use Rattle.mq_ir.specs.Statement.{Files, Printed, State, View, change_step, file_bytes, first_reader, staged, step, tables_read, taken, unless_refused}
 use Rattle.mq_ir.specs.Tables.{Table, Tables, is_name, table_at}
-use Rattle.mq_bind_expr.specs.Names.{Name}
-use Rattle.mq_bind_expr.specs.declared.scopes.Part.TheVariants as part
+use Rattle.mq_bind_scopes.specs.Names.{Name}
+use Rattle.mq_bind_scopes.specs.declared.scopes.Part.TheVariants as part
 use Rattle.mq_bind_expr.specs.ExpressionWalk.{bound_filter}
-use Rattle.mq_bind_expr.specs.Positions.{standing}
-use Rattle.mq_bind_expr.specs.Refusals.{duplicate_name, limit, refused_where}
+use Rattle.mq_bind_scopes.specs.Positions.{standing}
+use Rattle.mq_bind_scopes.specs.Refusals.{duplicate_name, limit, refused_where}
 use Rattle.mq_binder.specs.ChangeWalk.{change_scope, sets_bound}
 use Rattle.mq_binder.specs.FromWalk.{table_called}
 use Rattle.mq_binder.specs.QueryWalk.{query_bound}

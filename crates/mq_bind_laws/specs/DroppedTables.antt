@@ -7,7 +7,7 @@ use Rattle.mq_ir.specs.declared.catalog.TableEntry.{TableEntry}
 use Rattle.mq_ir.specs.declared.query.BoundQuery.{BoundQuery}
 use Rattle.mq_ir.specs.Statement.{tables_read}
 use Rattle.mq_ir.specs.Tables.{is_name}
-use Rattle.mq_bind_expr.specs.Names.{Name}
+use Rattle.mq_bind_scopes.specs.Names.{Name}
 use Rattle.mq_binder.specs.QueryWalk.{query_bound}
 
 -- a catalog without the table of a name

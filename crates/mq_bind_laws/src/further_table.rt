@@ -6,7 +6,7 @@ ghost use Rattle.mq_ir.specs.declared.catalog.Catalog.{Catalog};
 ghost use Rattle.mq_ir.specs.declared.catalog.TableEntry.{TableEntry};
 ghost use Rattle.mq_ir.specs.declared.query.BoundQuery.{BoundQuery};
 ghost use Rattle.mq_ir.specs.declared.statement.Bound.{Bound};
-ghost use Rattle.mq_bind_expr.specs.Names.{Name};
+ghost use Rattle.mq_bind_scopes.specs.Names.{Name};
 ghost use Rattle.mq_bind_laws.specs.FurtherTable.{QueryStays, QueryStaysAnywhere, QueryStaysBound, StatementStays, StatementStaysBound, TableStays, ViewStays};
 
 /// A query that is bound is bound to the same with a further table, and one that is refused is refused for the same

@@ -17,14 +17,14 @@ use Rattle.mq_ir.specs.declared.statement.Bound.TheVariants as bound
 use Rattle.mq_ir.specs.declared.statement.Column.{Column}
 use Rattle.mq_ir.specs.Results.{◌>>=◌}
 use Rattle.mq_ir.specs.Tables.{is_name}
-use Rattle.mq_bind_expr.specs.declared.scopes.Named.{Named}
-use Rattle.mq_bind_expr.specs.declared.scopes.Position.{Position}
-use Rattle.mq_bind_expr.specs.declared.scopes.RowColumn.{RowColumn}
-use Rattle.mq_bind_expr.specs.declared.scopes.Scope.{Scope}
+use Rattle.mq_bind_scopes.specs.declared.scopes.Named.{Named}
+use Rattle.mq_bind_scopes.specs.declared.scopes.Position.{Position}
+use Rattle.mq_bind_scopes.specs.declared.scopes.RowColumn.{RowColumn}
+use Rattle.mq_bind_scopes.specs.declared.scopes.Scope.{Scope}
 use Rattle.mq_bind_expr.specs.Forms.{item_name, plain_path}
 use Rattle.mq_binder.specs.FromWalk.{alias_of}
-use Rattle.mq_bind_expr.specs.Names.{Name, column_in, is_called, is_meant, item_called, item_seen, sole}
-use Rattle.mq_bind_expr.specs.Refusals.{duplicate_name, refused_where, unknown_name}
+use Rattle.mq_bind_scopes.specs.Names.{Name, column_in, is_called, is_meant, item_called, item_seen, sole}
+use Rattle.mq_bind_scopes.specs.Refusals.{duplicate_name, refused_where, unknown_name}
 use Rattle.mq_binder.specs.StatementLaws.{AliasHidesColumn, AliasHidesTable, ColumnsByCapitals, PathsByCapitals, TablesByCapitals}
 use Rattle.mq_binder.specs.StatementWalk.{delete_bound, if_table, if_view, insert_bound, update_bound, view_bound}
 use Rattle.mq_bind_expr.specs.Steps.{each_behind}

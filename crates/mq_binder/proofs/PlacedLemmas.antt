@@ -5,7 +5,7 @@ use Rattle.std.specs.Option.{option_map_or, unwrap_or}
 use Rattle.std.proofs.lemmas.List.{length_push, map-append}
 use Rattle.mq_ir.specs.declared.expression.Expr.{Expr}
 use Rattle.mq_ir.specs.declared.statement.Schema.{Schema}
-use Rattle.mq_bind_expr.specs.declared.scopes.Found.{Found}
+use Rattle.mq_bind_scopes.specs.declared.scopes.Found.{Found}
 use Rattle.mq_binder.specs.ChangeWalk.{placed_values, row_with}
 use Rattle.mq_binder.specs.RowPlaces.{null_row, put_at}
 use Rattle.mq_bind_expr.specs.OperatorNodes.{exprs_of}

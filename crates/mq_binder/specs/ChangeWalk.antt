@@ -9,19 +9,19 @@ use Rattle.mq_ir.specs.declared.expression.Expr.TheVariants as expr
 use Rattle.mq_ir.specs.declared.statement.Column.{Column}
 use Rattle.mq_ir.specs.declared.statement.Schema.{Schema}
 use Rattle.mq_ir.specs.Results.{◌>>=◌, each}
-use Rattle.mq_bind_expr.specs.declared.kinds.ExprKind.{ExprKind}
-use Rattle.mq_bind_expr.specs.declared.kinds.ExprKind.TheVariants as kind
-use Rattle.mq_bind_expr.specs.declared.scopes.Found.{Found}
-use Rattle.mq_bind_expr.specs.declared.scopes.Part.TheVariants as part
-use Rattle.mq_bind_expr.specs.declared.scopes.Scope.{Scope}
+use Rattle.mq_bind_scopes.specs.declared.kinds.ExprKind.{ExprKind}
+use Rattle.mq_bind_scopes.specs.declared.kinds.ExprKind.TheVariants as kind
+use Rattle.mq_bind_scopes.specs.declared.scopes.Found.{Found}
+use Rattle.mq_bind_scopes.specs.declared.scopes.Part.TheVariants as part
+use Rattle.mq_bind_scopes.specs.declared.scopes.Scope.{Scope}
 use Rattle.mq_bind_expr.specs.ExpressionWalk.{bound}
 use Rattle.mq_binder.specs.FromWalk.{columns_of_item, row_scope}
-use Rattle.mq_bind_expr.specs.Kinds.{is_assignable, of_column}
-use Rattle.mq_bind_expr.specs.Names.{Name}
+use Rattle.mq_bind_scopes.specs.Kinds.{is_assignable, of_column}
+use Rattle.mq_bind_scopes.specs.Names.{Name}
 use Rattle.mq_bind_expr.specs.OperatorNodes.{exprs_of}
-use Rattle.mq_bind_expr.specs.Positions.{standing}
+use Rattle.mq_bind_scopes.specs.Positions.{standing}
 use Rattle.mq_bind_expr.specs.Steps.{each_behind}
-use Rattle.mq_bind_expr.specs.Refusals.{kind_mismatch, refused_where}
+use Rattle.mq_bind_scopes.specs.Refusals.{kind_mismatch, refused_where}
 use Rattle.mq_binder.specs.TableWalk.{columns_named, new_column}
 
 -- the kind of the column of a number

@@ -1,5 +1,5 @@
 -- The FORs of a left side: what they go through, and whether it goes with the dimensions that they stand for.
-use Rattle.std.specs.Prelude.{ℕ, ◌+◌, List, [], ◌∷◌, ◌++◌, length, map, zip, Bool, true, false, not, ◌&&◌, ◌==◌, Option, Some, None, Result, Ok}
+use Rattle.std.specs.Prelude.{ℕ, List, [], ◌∷◌, ◌++◌, length, map, zip, Bool, false, not, ◌&&◌, ◌==◌, Option, Result, Ok}
 use Rattle.std.specs.List.{list_all}
 use Rattle.std.specs.Option.{option_map_or}
 use Rattle.mq_lexer.specs.Words.{folded}
@@ -16,23 +16,22 @@ use Rattle.mq_ir.specs.Results.{◌>>=◌, each}
 use Rattle.mq_ir.specs.Tables.{is_name}
 use Rattle.mq_binder.specs.declared.found.ListFound.{ListFound}
 use Rattle.mq_binder.specs.declared.found.PlainFound.{PlainFound}
-use Rattle.mq_bind_expr.specs.declared.kinds.ExprKind.{ExprKind}
-use Rattle.mq_bind_expr.specs.declared.kinds.ExprKind.TheVariants as kind
-use Rattle.mq_bind_expr.specs.declared.misuse_numbers.TheConstants.{MISUSE_OF_FOR}
-use Rattle.mq_bind_expr.specs.declared.scopes.Found.{Found}
-use Rattle.mq_bind_expr.specs.declared.scopes.Named.{Named}
-use Rattle.mq_bind_expr.specs.declared.scopes.Owner.TheVariants as owner
-use Rattle.mq_bind_expr.specs.declared.scopes.Part.TheVariants as part
-use Rattle.mq_bind_expr.specs.declared.scopes.Printed.{Printed}
-use Rattle.mq_bind_expr.specs.declared.scopes.Scope.{Scope}
+use Rattle.mq_bind_scopes.specs.declared.kinds.ExprKind.{ExprKind}
+use Rattle.mq_bind_scopes.specs.declared.misuse_numbers.TheConstants.{MISUSE_OF_FOR}
+use Rattle.mq_bind_scopes.specs.declared.scopes.Found.{Found}
+use Rattle.mq_bind_scopes.specs.declared.scopes.Named.{Named}
+use Rattle.mq_bind_scopes.specs.declared.scopes.Owner.TheVariants as owner
+use Rattle.mq_bind_scopes.specs.declared.scopes.Part.TheVariants as part
+use Rattle.mq_bind_scopes.specs.declared.scopes.Printed.{Printed}
+use Rattle.mq_bind_scopes.specs.declared.scopes.Scope.{Scope}
 use Rattle.mq_bind_expr.specs.ExpressionWalk.{bound}
-use Rattle.mq_bind_expr.specs.Kinds.{is_index}
-use Rattle.mq_bind_expr.specs.Names.{Name}
+use Rattle.mq_bind_scopes.specs.ForSteps.{steps_fit}
+use Rattle.mq_bind_scopes.specs.Names.{Name}
 use Rattle.mq_bind_expr.specs.OperatorNodes.{exprs_of, kinds_of}
 use Rattle.mq_bind_expr.specs.PlaceTests.{fits_dimension}
 use Rattle.mq_binder.specs.PlainWalk.{plain_bound}
-use Rattle.mq_bind_expr.specs.Positions.{dimension_at, place_kind, standing}
-use Rattle.mq_bind_expr.specs.Refusals.{kind_mismatch, misuse, refused_where}
+use Rattle.mq_bind_scopes.specs.Positions.{dimension_at, place_kind, standing}
+use Rattle.mq_bind_scopes.specs.Refusals.{kind_mismatch, misuse, refused_where}
 
 -- What a FOR goes through. Its subquery is a query of its own, and is put behind the subqueries of the FORs before it.
 abbrev pub value_row : Scope → List E → Result (List Found) Refused
@@ -68,12 +67,6 @@ for_checked dims is_named found =
 -- a place of one FOR names the dimension of its place
 abbrev pub names_place : Scope → ℕ → Name → Bool
 names_place scope n name = option_map_or (λ (d : Named). is_name (folded name) d.name) (dimension_at scope owner.Main n) false
-
--- FOR .. FROM wants a dimension of numbers
-abbrev pub steps_fit : Option ExprKind → List ExprKind → Bool
-steps_fit None kinds = true
-steps_fit (Some (kind.Number s)) kinds = list_all (is_index (kind.Number s)) kinds
-steps_fit (Some _) kinds = false
 
 abbrev pub steps_checked : Scope → ℕ → Name → Bool → Found → Found → Found → Result LeftItem Refused
 steps_checked scope n dim down start stop step =

@@ -19,16 +19,16 @@ use Rattle.mq_ir.specs.Results.{◌>>=◌, each, each_in_turn}
 use Rattle.mq_ir.specs.Tables.{is_name}
 use Rattle.mq_binder.specs.declared.found.Base.{Base}
 use Rattle.mq_binder.specs.declared.found.Sources.{Sources}
-use Rattle.mq_bind_expr.specs.declared.scopes.ModelNames.{ModelNames}
-use Rattle.mq_bind_expr.specs.declared.scopes.Part.TheVariants as part
-use Rattle.mq_bind_expr.specs.declared.scopes.RowColumn.{RowColumn}
-use Rattle.mq_bind_expr.specs.declared.scopes.Scope.{Scope}
+use Rattle.mq_bind_scopes.specs.declared.scopes.ModelNames.{ModelNames}
+use Rattle.mq_bind_scopes.specs.declared.scopes.Part.TheVariants as part
+use Rattle.mq_bind_scopes.specs.declared.scopes.RowColumn.{RowColumn}
+use Rattle.mq_bind_scopes.specs.declared.scopes.Scope.{Scope}
 use Rattle.mq_bind_expr.specs.ExpressionWalk.{bound_filter}
 use Rattle.mq_bind_expr.specs.Steps.{each_from}
-use Rattle.mq_bind_expr.specs.Kinds.{of_column}
-use Rattle.mq_bind_expr.specs.Names.{Name, column_named}
-use Rattle.mq_bind_expr.specs.Positions.{standing, standing_on}
-use Rattle.mq_bind_expr.specs.Refusals.{duplicate_name, limit, refused_where, unknown_name}
+use Rattle.mq_bind_scopes.specs.Kinds.{of_column}
+use Rattle.mq_bind_scopes.specs.Names.{Name, column_named}
+use Rattle.mq_bind_scopes.specs.Positions.{standing, standing_on}
+use Rattle.mq_bind_scopes.specs.Refusals.{duplicate_name, limit, refused_where, unknown_name}
 
 -- the columns of the table of a name
 abbrev pub table_called : Catalog → Name → Result Schema Refused

@@ -21,20 +21,20 @@ use Rattle.mq_ir.specs.Results.{◌>>=◌}
 use Rattle.mq_ir.specs.Tables.{is_name}
 use Rattle.mq_binder.specs.declared.found.LeftFound.{LeftFound}
 use Rattle.mq_binder.specs.declared.found.ListFound.{ListFound}
-use Rattle.mq_bind_expr.specs.declared.kinds.ExprKind.{ExprKind}
-use Rattle.mq_bind_expr.specs.declared.misuse_numbers.TheConstants.{MISUSE_OF_FOR, MISUSE_OF_PLACE_COUNT}
-use Rattle.mq_bind_expr.specs.declared.scopes.Named.{Named}
-use Rattle.mq_bind_expr.specs.declared.scopes.Owner.TheVariants as owner
-use Rattle.mq_bind_expr.specs.declared.scopes.Part.TheVariants as part
-use Rattle.mq_bind_expr.specs.declared.scopes.Scope.{Scope}
+use Rattle.mq_bind_scopes.specs.declared.kinds.ExprKind.{ExprKind}
+use Rattle.mq_bind_scopes.specs.declared.misuse_numbers.TheConstants.{MISUSE_OF_FOR, MISUSE_OF_PLACE_COUNT}
+use Rattle.mq_bind_scopes.specs.declared.scopes.Named.{Named}
+use Rattle.mq_bind_scopes.specs.declared.scopes.Owner.TheVariants as owner
+use Rattle.mq_bind_scopes.specs.declared.scopes.Part.TheVariants as part
+use Rattle.mq_bind_scopes.specs.declared.scopes.Scope.{Scope}
 use Rattle.mq_bind_expr.specs.ExpressionWalk.{bound}
 use Rattle.mq_bind_expr.specs.Forms.{is_condition}
-use Rattle.mq_bind_expr.specs.Misuses.{other_place_count}
-use Rattle.mq_bind_expr.specs.Names.{Name}
+use Rattle.mq_bind_scopes.specs.Misuses.{other_place_count}
+use Rattle.mq_bind_scopes.specs.Names.{Name}
 use Rattle.mq_bind_expr.specs.PlaceTests.{place_of}
-use Rattle.mq_bind_expr.specs.Positions.{bracketed, place_kind, standing}
+use Rattle.mq_bind_scopes.specs.Positions.{bracketed, place_kind, standing}
 use Rattle.mq_bind_expr.specs.Steps.{each_with_from}
-use Rattle.mq_bind_expr.specs.Refusals.{misuse, refused_where}
+use Rattle.mq_bind_scopes.specs.Refusals.{misuse, refused_where}
 use Rattle.mq_binder.specs.ForWalk.{list_bound, for_checked, names_place, steps_checked}
 
 -- a value names one cell or row of cells, every other test is symbolic

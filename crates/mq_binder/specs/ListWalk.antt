@@ -1,27 +1,25 @@
--- The lists of a model or a reference: partition columns, dimensions and measures, and its options.
-use Rattle.std.specs.Prelude.{ℕ, List, length, map, filter, Bool, true, false, ◌||◌, nat_lt, if◌then◌else◌, Option, Some, None, Result, Ok, Err}
+-- The lists of a model or a reference: partition columns, dimensions and measures.
+use Rattle.std.specs.Prelude.{ℕ, List, length, map, nat_lt, Option, Some, None, Result, Ok, Err}
 use Rattle.std.specs.List.{list_any}
 use Rattle.std.specs.Option.{ok_or}
 use Rattle.mq_values.specs.declared.faults.Refused.{Refused}
 use Rattle.mq_values.specs.declared.value.Kind.{Kind}
-use Rattle.mq_ast.specs.declared.queries.Opt.{Opt}
-use Rattle.mq_ast.specs.declared.queries.Opt.TheVariants as opt
 use Rattle.mq_ast.specs.declared.queries.Sel.{Sel}
 use Rattle.mq_ir.specs.declared.expression.Expr.{Expr}
 use Rattle.mq_ir.specs.Results.{◌>>=◌}
 use Rattle.mq_ir.specs.Tables.{is_name}
 use Rattle.mq_binder.specs.declared.found.ListItem.{ListItem}
-use Rattle.mq_bind_expr.specs.declared.misuse_numbers.TheConstants.{MISUSE_OF_ITEM_WITHOUT_NAME, MISUSE_OF_OPTIONS}
-use Rattle.mq_bind_expr.specs.declared.scopes.Found.{Found}
-use Rattle.mq_bind_expr.specs.declared.scopes.Named.{Named}
-use Rattle.mq_bind_expr.specs.declared.scopes.Position.{Position}
-use Rattle.mq_bind_expr.specs.declared.scopes.Scope.{Scope}
+use Rattle.mq_bind_scopes.specs.declared.misuse_numbers.TheConstants.{MISUSE_OF_ITEM_WITHOUT_NAME}
+use Rattle.mq_bind_scopes.specs.declared.scopes.Found.{Found}
+use Rattle.mq_bind_scopes.specs.declared.scopes.Named.{Named}
+use Rattle.mq_bind_scopes.specs.declared.scopes.Position.{Position}
+use Rattle.mq_bind_scopes.specs.declared.scopes.Scope.{Scope}
 use Rattle.mq_bind_expr.specs.ExpressionWalk.{bound}
 use Rattle.mq_bind_expr.specs.Forms.{name_of}
-use Rattle.mq_bind_expr.specs.Kinds.{column_kind}
-use Rattle.mq_bind_expr.specs.Names.{Name}
+use Rattle.mq_bind_scopes.specs.Kinds.{column_kind}
+use Rattle.mq_bind_scopes.specs.Names.{Name}
 use Rattle.mq_bind_expr.specs.Steps.{each_behind}
-use Rattle.mq_bind_expr.specs.Refusals.{duplicate_name, kind_mismatch, limit, misuse, refused_where}
+use Rattle.mq_bind_scopes.specs.Refusals.{duplicate_name, kind_mismatch, limit, misuse, refused_where}
 
 -- an item has a kind
 abbrev pub item_kind : Found → Result Kind Refused
@@ -59,26 +57,3 @@ list_kinds = map (λ (i : ListItem). i.kind)
 
 abbrev pub list_names : List ListItem → List Name
 list_names = map listed_name
-
--- IGNORE NAV and KEEP NAV in one list, or one option twice
-abbrev pub is_nav : Opt → Bool
-is_nav opt.UniqueDimension = false
-is_nav _ = true
-
-abbrev pub is_unique : Opt → Bool
-is_unique opt.UniqueDimension = true
-is_unique _ = false
-
-abbrev pub is_ignore : Opt → Bool
-is_ignore opt.IgnoreNav = true
-is_ignore _ = false
-
-abbrev pub options_clash : List Opt → Bool
-options_clash opts = nat_lt 1 (length (filter is_nav opts)) || nat_lt 1 (length (filter is_unique opts))
-
-abbrev pub options_checked : {A : Type 0} → List Opt → Result A Refused → Result A Refused
-options_checked opts next = refused_where (options_clash opts) (misuse MISUSE_OF_OPTIONS) next
-
--- whether NAV is ignored: by the own option, else by the one around it
-abbrev pub ignores_nav : List Opt → Bool → Bool
-ignores_nav opts around = if list_any is_nav opts then list_any is_ignore opts else around

@@ -1,15 +1,14 @@
 -- A MODEL clause: its options and references, its lists with their limits, the main options, the rules and UNTIL.
-use Rattle.std.specs.Prelude.{ℕ, pos, negsuc, List, [], ◌++◌, length, map, Bool, false, ◌||◌, ◌&&◌, nat_lt, nat_le, Option, Some, None, is_some, Result, Ok, Err, unwrap_or, if◌then◌else◌}
+use Rattle.std.specs.Prelude.{ℕ, List, [], ◌++◌, length, map, Bool, false, ◌||◌, Option, None, is_some, Result, Ok, unwrap_or}
 use Rattle.std.specs.Option.{option_map}
-use Rattle.mq_values.specs.Number.{Number}
 use Rattle.mq_values.specs.declared.faults.Refused.{Refused}
-use Rattle.mq_values.specs.declared.limits.TheConstants.{MAX_DIMENSIONS, MAX_MEASURES, MAX_PARTITION_COLUMNS, MAX_RULES, MAX_TURNS}
+use Rattle.mq_values.specs.declared.limits.TheConstants.{MAX_DIMENSIONS, MAX_MEASURES, MAX_PARTITION_COLUMNS}
 use Rattle.mq_values.specs.declared.operators.Mode.TheVariants as mode
 use Rattle.mq_ast.specs.declared.queries.ModelTree.{ModelTree}
 use Rattle.mq_ast.specs.declared.queries.Sel.{Sel}
 use Rattle.mq_ir.specs.declared.catalog.Catalog.{Catalog}
 use Rattle.mq_ir.specs.declared.expression.Expr.{Expr}
-use Rattle.mq_ir.specs.declared.limit_numbers.TheConstants.{LIMIT_OF_DIMENSIONS, LIMIT_OF_MEASURES, LIMIT_OF_PARTITION_COLUMNS, LIMIT_OF_RULES, LIMIT_OF_TURNS}
+use Rattle.mq_ir.specs.declared.limit_numbers.TheConstants.{LIMIT_OF_DIMENSIONS, LIMIT_OF_MEASURES, LIMIT_OF_PARTITION_COLUMNS}
 use Rattle.mq_ir.specs.declared.query.ColRef.{ColRef}
 use Rattle.mq_ir.specs.declared.query.Iterate.{Iterate}
 use Rattle.mq_ir.specs.declared.query.ModelPart.{ModelPart}
@@ -21,17 +20,17 @@ use Rattle.mq_binder.specs.declared.found.ModelFound.{ModelFound}
 use Rattle.mq_binder.specs.declared.found.ReferenceFound.{ReferenceFound}
 use Rattle.mq_ir.specs.declared.query.PlainPart.{PlainPart}
 use Rattle.mq_ir.specs.declared.query.Rule.{Rule}
-use Rattle.mq_bind_expr.specs.declared.misuse_numbers.TheConstants.{MISUSE_OF_ITERATE}
-use Rattle.mq_bind_expr.specs.declared.scopes.Part.TheVariants as part
-use Rattle.mq_bind_expr.specs.declared.scopes.Scope.{Scope}
+use Rattle.mq_bind_scopes.specs.declared.scopes.Part.TheVariants as part
+use Rattle.mq_bind_scopes.specs.declared.scopes.Scope.{Scope}
 use Rattle.mq_bind_expr.specs.ExpressionWalk.{bound_filter}
 use Rattle.mq_binder.specs.FromWalk.{group_of, grouped_by}
-use Rattle.mq_binder.specs.ListWalk.{ignores_nav, items_listed, limited, list_columns, list_exprs, list_kinds, list_names, options_checked}
-use Rattle.mq_bind_expr.specs.Names.{Name}
+use Rattle.mq_bind_scopes.specs.Options.{ignores_nav, options_checked}
+use Rattle.mq_binder.specs.ListWalk.{items_listed, limited, list_columns, list_exprs, list_kinds, list_names}
+use Rattle.mq_bind_scopes.specs.Names.{Name}
 use Rattle.mq_binder.specs.PlainWalk.{any_aggregate}
-use Rattle.mq_bind_expr.specs.Positions.{standing}
+use Rattle.mq_bind_scopes.specs.Positions.{standing}
 use Rattle.mq_binder.specs.ReferenceWalk.{references_bound}
-use Rattle.mq_bind_expr.specs.Refusals.{limit, misuse, refused_where}
+use Rattle.mq_bind_scopes.specs.Heads.{head_bound}
 use Rattle.mq_binder.specs.RuleWalk.{rules_bound}
 
 -- a list of the model with the limit of its length, behind columns of these names
@@ -48,21 +47,6 @@ lists_bound scope m =
 
 abbrev pub all_items : Lists → List ListItem
 all_items lists = lists.parts ++ lists.dims ++ lists.measures
-
--- the number of ITERATE is a whole number from 1 on
-abbrev pub turns_of : Number → Option ℕ
-turns_of n = elim n.mant [ pos turns ↦ if nat_lt 0 turns && nat_le turns MAX_TURNS then Some turns else None | negsuc k ↦ None ]
-
-abbrev pub turns_bound : Option Number → Result (Option ℕ) Refused
-turns_bound None = Ok None
-turns_bound (Some n) = elim (turns_of n) [ Some turns ↦ Ok (Some turns) | None ↦ Err (limit LIMIT_OF_TURNS) ]
-
--- the main options, the number of rules, that of ITERATE, and ITERATE with AUTOMATIC ORDER
-abbrev pub head_bound : ModelTree → Result (Option ℕ) Refused
-head_bound m =
-    options_checked m.main_opts (
-    refused_where (nat_lt MAX_RULES (length m.rules)) (limit LIMIT_OF_RULES) (
-    turns_bound m.iterate >>= (λ turns. refused_where (m.auto && is_some turns) (misuse MISUSE_OF_ITERATE) (Ok turns))))
 
 -- what rules and UNTIL may name
 abbrev pub rule_scope : List ReferenceFound → Lists → Bool → Scope

@@ -13,18 +13,18 @@ use Rattle.mq_ir.specs.declared.query.FromPart.{FromPart}
 use Rattle.mq_ir.specs.Results.{◌>>=◌, each}
 use Rattle.mq_binder.specs.declared.found.Base.{Base}
 use Rattle.mq_binder.specs.declared.found.PlainFound.{PlainFound}
-use Rattle.mq_bind_expr.specs.declared.misuse_numbers.TheConstants.{MISUSE_OF_UNGROUPED_COLUMN}
-use Rattle.mq_bind_expr.specs.declared.scopes.Part.TheVariants as part
-use Rattle.mq_bind_expr.specs.declared.scopes.Printed.{Printed}
-use Rattle.mq_bind_expr.specs.declared.scopes.RowColumn.{RowColumn}
-use Rattle.mq_bind_expr.specs.declared.scopes.Scope.{Scope}
+use Rattle.mq_bind_scopes.specs.declared.misuse_numbers.TheConstants.{MISUSE_OF_UNGROUPED_COLUMN}
+use Rattle.mq_bind_scopes.specs.declared.scopes.Part.TheVariants as part
+use Rattle.mq_bind_scopes.specs.declared.scopes.Printed.{Printed}
+use Rattle.mq_bind_scopes.specs.declared.scopes.RowColumn.{RowColumn}
+use Rattle.mq_bind_scopes.specs.declared.scopes.Scope.{Scope}
 use Rattle.mq_bind_expr.specs.ExpressionWalk.{bound_value}
 use Rattle.mq_bind_expr.specs.Forms.{has_aggregate, name_of}
 use Rattle.mq_binder.specs.FromWalk.{base_of, group_of, grouped_by}
-use Rattle.mq_bind_expr.specs.Misuses.{is_ungrouped}
+use Rattle.mq_bind_scopes.specs.Misuses.{is_ungrouped}
 use Rattle.mq_bind_expr.specs.NameNodes.{column_leaf}
-use Rattle.mq_bind_expr.specs.Positions.{standing}
-use Rattle.mq_bind_expr.specs.Refusals.{limit, misuse, refused_where}
+use Rattle.mq_bind_scopes.specs.Positions.{standing}
+use Rattle.mq_bind_scopes.specs.Refusals.{limit, misuse, refused_where}
 
 -- an item with the column that it prints
 abbrev pub Item : Type 0

@@ -19,18 +19,18 @@ use Rattle.mq_ir.specs.Results.{◌>>=◌, each}
 use Rattle.mq_ir.specs.Tables.{is_name}
 use Rattle.mq_binder.specs.declared.found.ModelFound.{ModelFound}
 use Rattle.mq_binder.specs.declared.found.PlainFound.{PlainFound}
-use Rattle.mq_bind_expr.specs.declared.misuse_numbers.TheConstants.{MISUSE_OF_SHOWN_ITEM}
-use Rattle.mq_bind_expr.specs.declared.scopes.Named.{Named}
-use Rattle.mq_bind_expr.specs.declared.scopes.Part.TheVariants as part
-use Rattle.mq_bind_expr.specs.declared.scopes.Printed.{Printed}
-use Rattle.mq_bind_expr.specs.declared.scopes.Scope.{Scope}
+use Rattle.mq_bind_scopes.specs.declared.misuse_numbers.TheConstants.{MISUSE_OF_SHOWN_ITEM}
+use Rattle.mq_bind_scopes.specs.declared.scopes.Named.{Named}
+use Rattle.mq_bind_scopes.specs.declared.scopes.Part.TheVariants as part
+use Rattle.mq_bind_scopes.specs.declared.scopes.Printed.{Printed}
+use Rattle.mq_bind_scopes.specs.declared.scopes.Scope.{Scope}
 use Rattle.mq_bind_expr.specs.ExpressionWalk.{bound_value}
 use Rattle.mq_binder.specs.FromWalk.{base_of, grouped_by, no_model}
 use Rattle.mq_binder.specs.ModelWalk.{model_group, model_over}
-use Rattle.mq_bind_expr.specs.Names.{Name, called}
+use Rattle.mq_bind_scopes.specs.Names.{Name, called}
 use Rattle.mq_binder.specs.PlainWalk.{few_printed, plain_bound}
-use Rattle.mq_bind_expr.specs.Positions.{standing}
-use Rattle.mq_bind_expr.specs.Refusals.{misuse, unknown_name}
+use Rattle.mq_bind_scopes.specs.Positions.{standing}
+use Rattle.mq_bind_scopes.specs.Refusals.{misuse, unknown_name}
 
 -- ORDER BY without MODEL names the leftmost printed column of a name
 abbrev pub prints : Name → Printed → Bool

@@ -13,17 +13,18 @@ use Rattle.mq_ir.specs.Tables.{is_name}
 use Rattle.mq_binder.specs.declared.found.ListItem.{ListItem}
 use Rattle.mq_binder.specs.declared.found.PlainFound.{PlainFound}
 use Rattle.mq_binder.specs.declared.found.ReferenceFound.{ReferenceFound}
-use Rattle.mq_bind_expr.specs.declared.scopes.Part.TheVariants as part
-use Rattle.mq_bind_expr.specs.declared.scopes.Printed.{Printed}
-use Rattle.mq_bind_expr.specs.declared.scopes.RowColumn.{RowColumn}
-use Rattle.mq_bind_expr.specs.declared.scopes.Scope.{Scope}
+use Rattle.mq_bind_scopes.specs.declared.scopes.Part.TheVariants as part
+use Rattle.mq_bind_scopes.specs.declared.scopes.Printed.{Printed}
+use Rattle.mq_bind_scopes.specs.declared.scopes.RowColumn.{RowColumn}
+use Rattle.mq_bind_scopes.specs.declared.scopes.Scope.{Scope}
 use Rattle.mq_binder.specs.FromWalk.{row_scope}
-use Rattle.mq_binder.specs.ListWalk.{ignores_nav, items_listed, limited, list_columns, list_exprs, list_kinds, list_names, options_checked}
-use Rattle.mq_bind_expr.specs.Names.{Name}
+use Rattle.mq_bind_scopes.specs.Options.{ignores_nav, options_checked}
+use Rattle.mq_binder.specs.ListWalk.{items_listed, limited, list_columns, list_exprs, list_kinds, list_names}
+use Rattle.mq_bind_scopes.specs.Names.{Name}
 use Rattle.mq_binder.specs.PlainWalk.{plain_bound}
-use Rattle.mq_bind_expr.specs.Positions.{standing}
+use Rattle.mq_bind_scopes.specs.Positions.{standing}
 use Rattle.mq_bind_expr.specs.Steps.{each_behind}
-use Rattle.mq_bind_expr.specs.Refusals.{duplicate_name, refused_where}
+use Rattle.mq_bind_scopes.specs.Refusals.{duplicate_name, refused_where}
 
 -- The lists of a reference name the printed columns of its query, which are the columns of one item without an alias.
 abbrev pub printed_column : ℕ → Printed → List RowColumn

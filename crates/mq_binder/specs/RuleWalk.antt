@@ -1,6 +1,5 @@
 -- The rules of a model: each its measure, its left side, its ORDER BY and its right side; and then UNTIL.
-use Rattle.std.specs.Prelude.{ℕ, List, [], ◌∷◌, Bool, true, false, not, ◌||◌, Result, Ok, unwrap_or}
-use Rattle.std.specs.List.{list_any}
+use Rattle.std.specs.Prelude.{ℕ, List, [], ◌∷◌, Bool, not, ◌||◌, Result, Ok, unwrap_or}
 use Rattle.std.specs.Option.{ok_or}
 use Rattle.mq_lexer.specs.Words.{folded}
 use Rattle.mq_values.specs.declared.faults.Refused.{Refused}
@@ -9,34 +8,23 @@ use Rattle.mq_ast.specs.declared.queries.OrderKey.{OrderKey}
 use Rattle.mq_ast.specs.declared.queries.RuleTree.{RuleTree}
 use Rattle.mq_ir.specs.declared.catalog.Catalog.{Catalog}
 use Rattle.mq_ir.specs.declared.query.Left.{Left}
-use Rattle.mq_ir.specs.declared.query.Left.TheVariants as left
-use Rattle.mq_ir.specs.declared.query.LeftItem.{LeftItem}
-use Rattle.mq_ir.specs.declared.query.LeftItem.TheVariants as item
 use Rattle.mq_ir.specs.declared.query.PlainPart.{PlainPart}
 use Rattle.mq_ir.specs.declared.query.Rule.{Rule}
 use Rattle.mq_ir.specs.Results.{◌>>=◌, each}
 use Rattle.mq_binder.specs.declared.found.LeftFound.{LeftFound}
-use Rattle.mq_bind_expr.specs.declared.kinds.ExprKind.{ExprKind}
-use Rattle.mq_bind_expr.specs.declared.misuse_numbers.TheConstants.{MISUSE_OF_ORDER}
-use Rattle.mq_bind_expr.specs.declared.scopes.Found.{Found}
-use Rattle.mq_bind_expr.specs.declared.scopes.Part.TheVariants as part
-use Rattle.mq_bind_expr.specs.declared.scopes.Scope.{Scope}
+use Rattle.mq_bind_scopes.specs.declared.kinds.ExprKind.{ExprKind}
+use Rattle.mq_bind_scopes.specs.declared.misuse_numbers.TheConstants.{MISUSE_OF_ORDER}
+use Rattle.mq_bind_scopes.specs.declared.scopes.Found.{Found}
+use Rattle.mq_bind_scopes.specs.declared.scopes.Part.TheVariants as part
+use Rattle.mq_bind_scopes.specs.declared.scopes.Scope.{Scope}
 use Rattle.mq_bind_expr.specs.ExpressionWalk.{bound}
-use Rattle.mq_bind_expr.specs.Kinds.{is_assignable}
+use Rattle.mq_bind_scopes.specs.Kinds.{is_assignable}
 use Rattle.mq_binder.specs.LeftWalk.{dimension_called, left_bound}
-use Rattle.mq_bind_expr.specs.Names.{called}
-use Rattle.mq_bind_expr.specs.Positions.{standing}
+use Rattle.mq_bind_scopes.specs.Names.{called}
+use Rattle.mq_bind_scopes.specs.Positions.{standing}
 use Rattle.mq_bind_expr.specs.Steps.{each_with}
-use Rattle.mq_bind_expr.specs.Refusals.{kind_mismatch, misuse, refused_where}
-
--- what all rules of a model share: the mode at RULES, and whether their order is AUTOMATIC
-abbrev pub is_symbolic_item : LeftItem → Bool
-is_symbolic_item (item.Sym t) = true
-is_symbolic_item _ = false
-
-abbrev pub is_symbolic : Left → Bool
-is_symbolic (left.Places items) = list_any is_symbolic_item items
-is_symbolic (left.Tuples dims source) = false
+use Rattle.mq_bind_scopes.specs.Refusals.{kind_mismatch, misuse, refused_where}
+use Rattle.mq_bind_scopes.specs.SymbolicSides.{is_symbolic}
 
 -- a key of ORDER BY on a left side is a dimension
 abbrev pub left_key : Scope → OrderKey → Result (ℕ × Bool) Refused

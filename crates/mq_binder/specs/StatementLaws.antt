@@ -15,16 +15,16 @@ use Rattle.mq_ast.specs.declared.statements.Stmt.TheVariants as stmt
 use Rattle.mq_ir.specs.declared.catalog.Catalog.{Catalog}
 use Rattle.mq_ir.specs.declared.statement.Bound.{Bound}
 use Rattle.mq_ir.specs.declared.statement.Column.{Column}
-use Rattle.mq_bind_expr.specs.declared.scopes.Found.{Found}
-use Rattle.mq_bind_expr.specs.declared.scopes.Named.{Named}
-use Rattle.mq_bind_expr.specs.declared.scopes.Position.{Position}
-use Rattle.mq_bind_expr.specs.declared.scopes.RowColumn.{RowColumn}
-use Rattle.mq_bind_expr.specs.declared.scopes.Scope.{Scope}
+use Rattle.mq_bind_scopes.specs.declared.scopes.Found.{Found}
+use Rattle.mq_bind_scopes.specs.declared.scopes.Named.{Named}
+use Rattle.mq_bind_scopes.specs.declared.scopes.Position.{Position}
+use Rattle.mq_bind_scopes.specs.declared.scopes.RowColumn.{RowColumn}
+use Rattle.mq_bind_scopes.specs.declared.scopes.Scope.{Scope}
 use Rattle.mq_bind_expr.specs.ExpressionWalk.{bound, kind_of}
 use Rattle.mq_bind_expr.specs.Forms.{name_of, plain_path}
 use Rattle.mq_binder.specs.FromWalk.{alias_of, row_scope}
-use Rattle.mq_bind_expr.specs.Names.{Name, called, column_named}
-use Rattle.mq_bind_expr.specs.Refusals.{unknown_name}
+use Rattle.mq_bind_scopes.specs.Names.{Name, called, column_named}
+use Rattle.mq_bind_scopes.specs.Refusals.{unknown_name}
 use Rattle.mq_binder.specs.StatementWalk.{statement_bound}
 use Rattle.mq_binder.specs.TableWalk.{columns_named}
 

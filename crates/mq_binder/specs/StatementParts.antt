@@ -11,12 +11,12 @@ use Rattle.mq_ir.specs.declared.statement.Bound.TheVariants as bound
 use Rattle.mq_ir.specs.declared.statement.Change.TheVariants as change
 use Rattle.mq_ir.specs.declared.statement.Schema.{Schema}
 use Rattle.mq_ir.specs.Results.{◌>>=◌}
-use Rattle.mq_bind_expr.specs.declared.scopes.Part.TheVariants as part
-use Rattle.mq_bind_expr.specs.declared.scopes.Scope.{Scope}
+use Rattle.mq_bind_scopes.specs.declared.scopes.Part.TheVariants as part
+use Rattle.mq_bind_scopes.specs.declared.scopes.Scope.{Scope}
 use Rattle.mq_binder.specs.ChangeWalk.{rows_bound}
 use Rattle.mq_bind_expr.specs.ExpressionWalk.{bound_filter}
-use Rattle.mq_bind_expr.specs.Names.{Name}
-use Rattle.mq_bind_expr.specs.Positions.{standing}
+use Rattle.mq_bind_scopes.specs.Names.{Name}
+use Rattle.mq_bind_scopes.specs.Positions.{standing}
 use Rattle.mq_binder.specs.QueryWalk.{query_bound}
 use Rattle.mq_binder.specs.TableWalk.{table_bound}
 

@@ -15,15 +15,15 @@ use Rattle.mq_ir.specs.declared.statement.Change.TheVariants as change
 use Rattle.mq_ir.specs.declared.statement.Schema.{Schema}
 use Rattle.mq_ir.specs.Names.{is_table, is_view}
 use Rattle.mq_ir.specs.Results.{◌>>=◌}
-use Rattle.mq_bind_expr.specs.declared.scopes.Part.TheVariants as part
-use Rattle.mq_bind_expr.specs.declared.scopes.Scope.{Scope}
+use Rattle.mq_bind_scopes.specs.declared.scopes.Part.TheVariants as part
+use Rattle.mq_bind_scopes.specs.declared.scopes.Scope.{Scope}
 use Rattle.mq_binder.specs.ChangeWalk.{change_scope, rows_bound, sets_bound}
 use Rattle.mq_bind_expr.specs.ExpressionWalk.{bound_filter}
 use Rattle.mq_binder.specs.FromWalk.{table_called}
-use Rattle.mq_bind_expr.specs.Names.{Name}
-use Rattle.mq_bind_expr.specs.Positions.{standing}
+use Rattle.mq_bind_scopes.specs.Names.{Name}
+use Rattle.mq_bind_scopes.specs.Positions.{standing}
 use Rattle.mq_binder.specs.QueryWalk.{query_bound}
-use Rattle.mq_bind_expr.specs.Refusals.{limit, refused_where, unknown_name}
+use Rattle.mq_bind_scopes.specs.Refusals.{limit, refused_where, unknown_name}
 use Rattle.mq_binder.specs.TableWalk.{new_name, table_bound}
 
 -- the name of a table, and that of a view

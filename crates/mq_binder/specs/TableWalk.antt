@@ -15,9 +15,9 @@ use Rattle.mq_ir.specs.FitsExpression.{kind_fits}
 use Rattle.mq_ir.specs.Names.{is_taken}
 use Rattle.mq_ir.specs.Results.{◌>>=◌}
 use Rattle.mq_ir.specs.Tables.{is_name}
-use Rattle.mq_bind_expr.specs.Names.{Name}
+use Rattle.mq_bind_scopes.specs.Names.{Name}
 use Rattle.mq_bind_expr.specs.Steps.{each_behind}
-use Rattle.mq_bind_expr.specs.Refusals.{duplicate_name, limit, refused_where, unknown_name}
+use Rattle.mq_bind_scopes.specs.Refusals.{duplicate_name, limit, refused_where, unknown_name}
 
 -- a name that is new to the catalog
 abbrev pub new_name : {A : Type 0} → Catalog → Name → Result A Refused → Result A Refused

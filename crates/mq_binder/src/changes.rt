@@ -8,16 +8,16 @@ ghost use Rattle.mq_ast.specs.declared.expressions.E.{E as TreeOf};
 ghost use Rattle.mq_binder.specs.ChangeWalk as spec;
 ghost use Rattle.mq_bind_expr.specs.ExpressionWalk as walk;
 ghost use Rattle.mq_bind_expr.specs.OperatorNodes as nodes;
-ghost use Rattle.mq_bind_expr.specs.Positions as positions;
+ghost use Rattle.mq_bind_scopes.specs.Positions as positions;
 ghost use Rattle.mq_binder.specs.RowPlaces as places;
 
 use crate::lists::all_columns;
 use crate::sources::{push_columns, row_scope};
 use crate::tables::{columns_named, new_column};
 use mq_ast::E;
-use mq_bind_expr::{
-    ExprKind, Found, Held, Part, Scope, bound, expr_of, is_assignable, mismatch, number, of_column,
-    standing,
+use mq_bind_expr::{Held, bound, expr_of};
+use mq_bind_scopes::{
+    ExprKind, Found, Part, Scope, is_assignable, mismatch, number, of_column, standing,
 };
 use mq_ir::{Column, Expr, Schema};
 use mq_values::{Boxed, Fail, Items, Memory, Refused, Value, Words};

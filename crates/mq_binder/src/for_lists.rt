@@ -6,17 +6,17 @@ ghost use Rattle.std.specs.List.{list_all};
 ghost use Rattle.mq_values.specs.Answers.{Gives};
 ghost use Rattle.mq_ir.specs.Results.{each};
 ghost use Rattle.mq_ir.specs.declared.query.LeftItem.TheVariants as item;
-ghost use Rattle.mq_bind_expr.specs.declared.scopes.Printed.{Printed as PrintedOf};
+ghost use Rattle.mq_bind_scopes.specs.declared.scopes.Printed.{Printed as PrintedOf};
 ghost use Rattle.mq_binder.specs.ForWalk as spec;
-ghost use Rattle.mq_bind_expr.specs.Kinds as kinds_as;
 ghost use Rattle.mq_bind_expr.specs.OperatorNodes as nodes;
 
 use crate::found::{ListFound, PlainFound};
 use crate::plain::plain_bound;
 use mq_ast::{E, ForList};
-use mq_bind_expr::{
-    ExprKind, Held, MISUSE_OF_FOR, Owner, Part, Printed, Scope, bound, dimension_at,
-    fits_dimension, is_index, mismatch, misuse, number, place_kind, standing,
+use mq_bind_expr::{Held, bound, fits_dimension};
+use mq_bind_scopes::{
+    ExprKind, MISUSE_OF_FOR, Owner, Part, Printed, Scope, dimension_at, mismatch, misuse, number,
+    place_kind, standing, steps_fit,
 };
 use mq_ir::{Catalog, Expr, LeftItem, ListSource, PlainPart};
 use mq_lexer::folded;
@@ -218,23 +218,6 @@ pub fn names_place(alloc: Global, scope: &Scope, n: u32, name: &Words) -> Result
     match dimension_at(scope, Owner::Main, n) {
         Some(dimension) => Ok(name == dimension.name),
         None => Ok(false),
-    }
-}
-
-fn all_index(to: ExprKind, start: ExprKind, stop: ExprKind, step: ExprKind) -> bool
-    ensures { result ≡ list_all (kinds_as.is_index to) (start ∷ stop ∷ step ∷ []) }
-{
-    is_index(to, start) && is_index(to, stop) && is_index(to, step)
-}
-
-// FOR .. FROM wants a dimension of numbers.
-fn steps_fit(dim: Option<ExprKind>, start: ExprKind, stop: ExprKind, step: ExprKind) -> bool
-    ensures { result ≡ spec.steps_fit dim (start ∷ stop ∷ step ∷ []) }
-{
-    match dim {
-        None => true,
-        Some(ExprKind::Number(s)) => all_index(ExprKind::Number(s), start, stop, step),
-        Some(_) => false,
     }
 }
 

@@ -1,6 +1,6 @@
 //! What the walk over a statement has found of its parts.
 
-use mq_bind_expr::{ExprKind, Named, Printed, ReferenceNames, RowColumn, Scope};
+use mq_bind_scopes::{ExprKind, Named, Printed, ReferenceNames, RowColumn, Scope};
 use mq_ir::{
     ColRef, Expr, FromPart, Left, LeftItem, ListSource, ModelPart, PlainPart, RefPart, Rule,
 };

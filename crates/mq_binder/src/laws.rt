@@ -8,13 +8,13 @@ ghost use Rattle.mq_ast.specs.declared.queries.Sel.{Sel};
 ghost use Rattle.mq_ast.specs.declared.statements.Stmt.{Stmt};
 ghost use Rattle.mq_ir.specs.declared.catalog.Catalog.{Catalog};
 ghost use Rattle.mq_ir.specs.declared.statement.Column.{Column};
-ghost use Rattle.mq_bind_expr.specs.Names.{Name};
+ghost use Rattle.mq_bind_scopes.specs.Names.{Name};
 ghost use Rattle.mq_binder.specs.StatementLaws.{AliasHidesColumn, AliasHidesTable, ColumnsByCapitals, KindOfTree, OneAnswer, PathsByCapitals, TablesByCapitals};
-ghost use Rattle.mq_bind_expr.specs.declared.scopes.Found.{Found};
-ghost use Rattle.mq_bind_expr.specs.declared.scopes.Named.{Named};
-ghost use Rattle.mq_bind_expr.specs.declared.scopes.Position.{Position};
-ghost use Rattle.mq_bind_expr.specs.declared.scopes.RowColumn.{RowColumn};
-ghost use Rattle.mq_bind_expr.specs.declared.scopes.Scope.{Scope};
+ghost use Rattle.mq_bind_scopes.specs.declared.scopes.Found.{Found};
+ghost use Rattle.mq_bind_scopes.specs.declared.scopes.Named.{Named};
+ghost use Rattle.mq_bind_scopes.specs.declared.scopes.Position.{Position};
+ghost use Rattle.mq_bind_scopes.specs.declared.scopes.RowColumn.{RowColumn};
+ghost use Rattle.mq_bind_scopes.specs.declared.scopes.Scope.{Scope};
 
 /// Names are compared in capital letters: paths, lists of columns and the names of tables and views that differ in the
 /// case of their letters alone are bound alike (docs/LANGUAGE.md, "Names").

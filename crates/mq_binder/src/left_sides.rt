@@ -11,9 +11,10 @@ ghost use Rattle.mq_binder.specs.LeftWalk as spec;
 use crate::for_lists::{for_checked, list_bound, names_place, steps_checked};
 use crate::found::{LeftFound, ListFound};
 use mq_ast::{E, ForList, LeftPlace, LeftTree};
-use mq_bind_expr::{
-    ExprKind, MISUSE_OF_FOR, MISUSE_OF_PLACE_COUNT, Owner, Part, Scope, bound, bracketed,
-    is_condition, misuse, number, other_place_count, place_called, place_kind, place_of, standing,
+use mq_bind_expr::{bound, is_condition, place_of};
+use mq_bind_scopes::{
+    ExprKind, MISUSE_OF_FOR, MISUSE_OF_PLACE_COUNT, Owner, Part, Scope, bracketed, misuse, number,
+    other_place_count, place_called, place_kind, standing,
 };
 use mq_ir::{Catalog, Left, LeftItem, PlainPart, Test};
 use mq_lexer::folded;

@@ -1,17 +1,18 @@
-//! The lists of a model or a reference: partition columns, dimensions and measures, and its options
+//! The lists of a model or a reference: partition columns, dimensions and measures
 //! (docs/LANGUAGE.md, "The order of binding").
 
-ghost use Rattle.std.specs.Prelude.{◌≡◌, ◌++◌, filter, length, IfOk, OnOk, None, Some};
-ghost use Rattle.std.specs.List.{list_any, range_with_len};
+ghost use Rattle.std.specs.Prelude.{◌≡◌, ◌++◌, IfOk, OnOk, None, Some};
+ghost use Rattle.std.specs.List.{range_with_len};
 ghost use Rattle.mq_values.specs.Answers.{Gives};
 ghost use Rattle.mq_binder.specs.ListWalk as spec;
 
 use crate::found::ListItem;
 use crate::tables::has_name;
-use mq_ast::{Opt, Sel};
-use mq_bind_expr::{
-    Found, Held, MISUSE_OF_ITEM_WITHOUT_NAME, Named, Position, Scope, bound, column_kind,
-    duplicate_name, limit, mismatch, misuse, name_of, number,
+use mq_ast::Sel;
+use mq_bind_expr::{Held, bound, name_of};
+use mq_bind_scopes::{
+    Found, MISUSE_OF_ITEM_WITHOUT_NAME, Named, Position, Scope, column_kind, duplicate_name, limit,
+    mismatch, misuse, number,
 };
 use mq_ir::Expr;
 use mq_values::{Boxed, Fail, Items, Kind, Memory, Refused, Words};
@@ -185,72 +186,6 @@ pub fn list_names(alloc: Global, items: &[ListItem]) -> Result<Items<Words>, Mem
     let mut names = Items::new(alloc);
     push_names(&mut names, items)?;
     Ok(names)
-}
-
-fn is_nav(option: Opt) -> bool
-    ensures { result ≡ spec.is_nav option }
-{
-    match option {
-        Opt::UniqueDimension => false,
-        Opt::IgnoreNav | Opt::KeepNav => true,
-    }
-}
-
-fn is_unique(option: Opt) -> bool
-    ensures { result ≡ spec.is_unique option }
-{
-    !is_nav(option)
-}
-
-fn is_ignore(option: Opt) -> bool
-    ensures { result ≡ spec.is_ignore option }
-{
-    match option {
-        Opt::IgnoreNav => true,
-        Opt::UniqueDimension | Opt::KeepNav => false,
-    }
-}
-
-fn count_nav(opts: &[Opt]) -> usize
-    ensures { result ≡ length (filter spec.is_nav opts.now) }
-{
-    opts.iter().filter(|o| is_nav(**o)).count()
-}
-
-fn count_unique(opts: &[Opt]) -> usize
-    ensures { result ≡ length (filter spec.is_unique opts.now) }
-{
-    opts.iter().filter(|o| is_unique(**o)).count()
-}
-
-/// IGNORE NAV and KEEP NAV in one list, or one option twice.
-pub fn options_clash(opts: &[Opt]) -> bool
-    ensures { result ≡ spec.options_clash opts.now }
-{
-    count_nav(opts) > 1 || count_unique(opts) > 1
-}
-
-fn any_nav(opts: &[Opt]) -> bool
-    ensures { result ≡ list_any spec.is_nav opts.now }
-{
-    opts.iter().any(|o| is_nav(*o))
-}
-
-fn any_ignore(opts: &[Opt]) -> bool
-    ensures { result ≡ list_any spec.is_ignore opts.now }
-{
-    opts.iter().any(|o| is_ignore(*o))
-}
-
-/// Whether NAV is ignored: by the own option, else by the one around it.
-pub fn ignores_nav(opts: &[Opt], around: bool) -> bool
-    ensures { result ≡ spec.ignores_nav opts.now around }
-{
-    if any_nav(opts) {
-        any_ignore(opts)
-    } else {
-        around
-    }
 }
 
 /// The items of a list, behind items of these names.

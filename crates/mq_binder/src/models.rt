@@ -5,31 +5,31 @@ ghost use Rattle.mq_values.specs.Answers.{Gives};
 ghost use Rattle.mq_binder.specs.declared.found.ReferenceFound.{ReferenceFound as ReferenceOf};
 ghost use Rattle.mq_binder.specs.FromWalk as rows;
 ghost use Rattle.mq_binder.specs.ListWalk as listed;
+ghost use Rattle.mq_bind_scopes.specs.Options as options;
 ghost use Rattle.mq_binder.specs.ModelWalk as spec;
 ghost use Rattle.mq_binder.specs.PlainWalk as plain;
 
 use crate::found::{ListItem, Lists, ModelFound, ReferenceFound};
 use crate::lists::{
-    ignores_nav, items_listed, limited, list_columns, list_exprs, list_kinds, list_names,
-    options_clash, push_names,
+    items_listed, limited, list_columns, list_exprs, list_kinds, list_names, push_names,
 };
 use crate::plain::any_aggregate;
 use crate::references::references_bound;
 use crate::rules::rules_bound;
 use crate::sources::group_of;
 use mq_ast::{ModelTree, Sel};
-use mq_bind_expr::{
-    MISUSE_OF_ITERATE, MISUSE_OF_OPTIONS, ModelNames, Named, Part, ReferenceNames, Scope,
-    bound_filter, limit, misuse, number, standing,
+use mq_bind_expr::bound_filter;
+use mq_bind_scopes::{
+    MISUSE_OF_OPTIONS, ModelNames, Named, Part, ReferenceNames, Scope, head_bound, ignores_nav,
+    misuse, number, options_clash, standing,
 };
 use mq_ir::{
     Catalog, ColRef, Expr, Iterate, LIMIT_OF_DIMENSIONS, LIMIT_OF_MEASURES,
-    LIMIT_OF_PARTITION_COLUMNS, LIMIT_OF_RULES, LIMIT_OF_TURNS, ModelPart, PlainPart, RefPart,
-    Rule,
+    LIMIT_OF_PARTITION_COLUMNS, ModelPart, PlainPart, RefPart, Rule,
 };
 use mq_values::{
-    Boxed, Fail, Items, Kind, MAX_DIMENSIONS, MAX_MEASURES, MAX_PARTITION_COLUMNS, MAX_RULES,
-    MAX_TURNS, Memory, Mode, Num, Refused, Words,
+    Boxed, Fail, Items, Kind, MAX_DIMENSIONS, MAX_MEASURES, MAX_PARTITION_COLUMNS, Memory, Mode,
+    Refused, Words,
 };
 use std::alloc::Global;
 
@@ -100,51 +100,6 @@ fn all_items(lists: Lists) -> Result<Items<ListItem>, Memory>
     push_all(&mut items, lists.dims)?;
     push_all(&mut items, lists.measures)?;
     Ok(items)
-}
-
-// The number of ITERATE is a whole number from 1 on.
-fn turns_of(n: &Num) -> Option<u32>
-    ensures { result ≡ spec.turns_of n.now }
-{
-    match u32::try_from(n.mant()) {
-        Ok(turns) => {
-            if 0 < turns && turns as usize <= MAX_TURNS {
-                Some(turns)
-            } else {
-                None
-            }
-        }
-        Err(_) => None,
-    }
-}
-
-fn turns_bound(iterate: &Option<Num>) -> Result<Option<u32>, Fail<Refused>>
-    ensures { Gives result (spec.turns_bound iterate.now) }
-{
-    match iterate {
-        None => Ok(None),
-        Some(n) => match turns_of(n) {
-            Some(turns) => Ok(Some(turns)),
-            None => Err(limit(LIMIT_OF_TURNS)),
-        },
-    }
-}
-
-// The main options, the number of rules, that of ITERATE, and ITERATE with AUTOMATIC ORDER.
-fn head_bound(m: &ModelTree) -> Result<Option<u32>, Fail<Refused>>
-    ensures { Gives result (spec.head_bound m.now) }
-{
-    if options_clash(m.main_opts.as_slice()) {
-        return Err(misuse(MISUSE_OF_OPTIONS));
-    }
-    if m.rules.len() > MAX_RULES {
-        return Err(limit(LIMIT_OF_RULES));
-    }
-    let turns = turns_bound(&m.iterate)?;
-    if m.auto && turns.is_some() {
-        return Err(misuse(MISUSE_OF_ITERATE));
-    }
-    Ok(turns)
 }
 
 fn same_named(c: &Named) -> Result<Named, Memory>
@@ -275,7 +230,7 @@ fn model_kinds(
 }
 
 fn nav_ignored(m: &ModelTree) -> bool
-    ensures { result ≡ listed.ignores_nav m.now.main_opts (listed.ignores_nav m.now.opts false) }
+    ensures { result ≡ options.ignores_nav m.now.main_opts (options.ignores_nav m.now.opts false) }
 {
     ignores_nav(
         m.main_opts.as_slice(),
@@ -293,7 +248,7 @@ fn model_part(
       parts = kinds.parts;
       dims = kinds.dims;
       measures = kinds.measures;
-      ignore_nav = listed.ignores_nav m.now.main_opts (listed.ignores_nav m.now.opts false);
+      ignore_nav = options.ignores_nav m.now.main_opts (options.ignores_nav m.now.opts false);
       updated_only = m.now.updated_only;
       auto = m.now.auto;
       iterate = iterate;

@@ -5,18 +5,19 @@ ghost use Rattle.std.specs.List.{list_any};
 ghost use Rattle.mq_ir.specs.Results.{each};
 ghost use Rattle.mq_values.specs.Answers.{Gives};
 ghost use Rattle.mq_binder.specs.PlainWalk as spec;
-ghost use Rattle.mq_bind_expr.specs.declared.scopes.RowColumn.{RowColumn as ColumnOf};
-ghost use Rattle.mq_bind_expr.specs.declared.scopes.Part.TheVariants as part;
-ghost use Rattle.mq_bind_expr.specs.Misuses as misuses;
-ghost use Rattle.mq_bind_expr.specs.Positions as positions;
+ghost use Rattle.mq_bind_scopes.specs.declared.scopes.RowColumn.{RowColumn as ColumnOf};
+ghost use Rattle.mq_bind_scopes.specs.declared.scopes.Part.TheVariants as part;
+ghost use Rattle.mq_bind_scopes.specs.Misuses as misuses;
+ghost use Rattle.mq_bind_scopes.specs.Positions as positions;
 
 use crate::bases::base_of;
 use crate::found::PlainFound;
 use crate::sources::{group_of, grouped_by};
 use mq_ast::{Plain, Sel};
-use mq_bind_expr::{
-    ExprKind, Held, MISUSE_OF_UNGROUPED_COLUMN, Part, Printed, RowColumn, Scope, bound_value,
-    column_leaf, has_aggregate, is_ungrouped, limit, misuse, name_of, standing,
+use mq_bind_expr::{Held, bound_value, column_leaf, has_aggregate, name_of};
+use mq_bind_scopes::{
+    ExprKind, MISUSE_OF_UNGROUPED_COLUMN, Part, Printed, RowColumn, Scope, is_ungrouped, limit,
+    misuse, standing,
 };
 use mq_ir::{Catalog, ColRef, Expr, FromPart, ItemPart, LIMIT_OF_PRINTED_COLUMNS, PlainPart};
 use mq_values::{Fail, Items, MAX_PRINTED_COLUMNS, Memory, Refused, Words};

@@ -7,7 +7,7 @@ ghost use Rattle.mq_ir.specs.Results.{each};
 ghost use Rattle.mq_values.specs.Answers.{Gives};
 ghost use Rattle.mq_binder.specs.FromWalk as rows;
 ghost use Rattle.mq_binder.specs.QueryWalk as spec;
-ghost use Rattle.mq_bind_expr.specs.Refusals as refusals;
+ghost use Rattle.mq_bind_scopes.specs.Refusals as refusals;
 
 use crate::bases::base_of;
 use crate::found::{ModelFound, PlainFound};
@@ -16,9 +16,10 @@ use crate::models::{model_group, model_over};
 use crate::plain::{few_printed, plain_bound};
 use crate::sources::{grouped_by, no_model};
 use mq_ast::{ModelTree, OrderKey, Query, Sel};
-use mq_bind_expr::{
-    Found, MISUSE_OF_SHOWN_ITEM, Named, Part, Printed, Scope, bound_value, called, misuse, number,
-    standing, unknown_name,
+use mq_bind_expr::bound_value;
+use mq_bind_scopes::{
+    Found, MISUSE_OF_SHOWN_ITEM, Named, Part, Printed, Scope, called, misuse, number, standing,
+    unknown_name,
 };
 use mq_ir::{BoundQuery, Catalog, ColRef, Expr, FromPart, ItemPart, Leaf, ModelPart};
 use mq_lexer::folded;

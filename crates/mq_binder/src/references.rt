@@ -9,17 +9,14 @@ ghost use Rattle.mq_binder.specs.ReferenceWalk as spec;
 ghost use Rattle.mq_bind_expr.specs.Steps.{each_behind};
 
 use crate::found::{ListItem, PlainFound, ReferenceFound};
-use crate::lists::{
-    ignores_nav, items_listed, limited, list_columns, list_exprs, list_names, options_clash,
-    push_kinds,
-};
+use crate::lists::{items_listed, limited, list_columns, list_exprs, list_names, push_kinds};
 use crate::plain::plain_bound;
 use crate::sources::row_scope;
 use crate::tables::has_name;
 use mq_ast::RefTree;
-use mq_bind_expr::{
-    MISUSE_OF_OPTIONS, Part, Printed, ReferenceNames, RowColumn, Scope, duplicate_name, misuse,
-    number, standing,
+use mq_bind_scopes::{
+    MISUSE_OF_OPTIONS, Part, Printed, ReferenceNames, RowColumn, Scope, duplicate_name,
+    ignores_nav, misuse, number, options_clash, standing,
 };
 use mq_ir::{
     Catalog, ColRef, Expr, LIMIT_OF_DIMENSIONS, LIMIT_OF_MEASURES, LIMIT_OF_REFERENCES, RefPart,

@@ -2,7 +2,6 @@
 //! (docs/LANGUAGE.md, "The order of binding").
 
 ghost use Rattle.std.specs.Prelude.{◌≡◌};
-ghost use Rattle.std.specs.List.{list_any};
 ghost use Rattle.mq_values.specs.Answers.{Gives};
 ghost use Rattle.mq_ir.specs.Results.{each};
 ghost use Rattle.mq_binder.specs.RuleWalk as spec;
@@ -10,38 +9,15 @@ ghost use Rattle.mq_binder.specs.RuleWalk as spec;
 use crate::found::LeftFound;
 use crate::left_sides::{dimension_called, left_bound};
 use mq_ast::{OrderKey, RuleTree};
-use mq_bind_expr::{
-    ExprKind, Held, MISUSE_OF_ORDER, Part, Scope, bound, called, is_assignable, mismatch, misuse,
-    standing,
+use mq_bind_expr::{Held, bound};
+use mq_bind_scopes::{
+    ExprKind, MISUSE_OF_ORDER, Part, Scope, called, is_assignable, is_order_misused, mismatch,
+    misuse, standing,
 };
-use mq_ir::{Catalog, Left, LeftItem, PlainPart, Rule};
+use mq_ir::{Catalog, Left, PlainPart, Rule};
 use mq_lexer::folded;
 use mq_values::{Fail, Items, Memory, Mode, Refused};
 use std::alloc::Global;
-
-fn is_symbolic_item(item: &LeftItem) -> bool
-    ensures { result ≡ spec.is_symbolic_item item.now }
-{
-    match item {
-        LeftItem::Sym(_) => true,
-        _ => false,
-    }
-}
-
-fn any_symbolic(items: &[LeftItem]) -> bool
-    ensures { result ≡ list_any spec.is_symbolic_item items.now }
-{
-    items.iter().any(|item| is_symbolic_item(item))
-}
-
-fn is_symbolic(left: &Left) -> bool
-    ensures { result ≡ spec.is_symbolic left.now }
-{
-    match left {
-        Left::Places(items) => any_symbolic(items.as_slice()),
-        Left::Tuples(_, _) => false,
-    }
-}
 
 // A key of ORDER BY on a left side is a dimension.
 fn left_key(alloc: Global, scope: &Scope, key: &OrderKey) -> Result<(u32, bool), Fail<Refused>>
@@ -80,7 +56,7 @@ fn left_order(
     match keys {
         [] => Ok(Items::new(alloc)),
         [_, ..] => {
-            if auto || !is_symbolic(left) {
+            if is_order_misused(auto, left) {
                 return Err(misuse(MISUSE_OF_ORDER));
             }
             left_keys(alloc, scope, keys)

@@ -7,12 +7,12 @@ ghost use Rattle.mq_values.specs.Answers.{Gives};
 ghost use Rattle.mq_ir.specs.Results.{each, each_in_turn};
 ghost use Rattle.mq_ir.specs.Tables.{is_name};
 ghost use Rattle.mq_binder.specs.FromWalk as spec;
-ghost use Rattle.mq_bind_expr.specs.Refusals as refusals;
+ghost use Rattle.mq_bind_scopes.specs.Refusals as refusals;
 
 use crate::found::Sources;
 use crate::tables::has_name;
 use mq_ast::{FromItem, Path};
-use mq_bind_expr::{
+use mq_bind_scopes::{
     ModelNames, Part, RowColumn, Scope, column_named, duplicate_name, limit, number, of_column,
     standing, unknown_name,
 };

@@ -9,7 +9,7 @@ ghost use Rattle.mq_ir.specs.declared.statement.Column.{Column as ColumnOf};
 ghost use Rattle.mq_binder.specs.TableWalk as spec;
 
 use mq_ast::ColDef;
-use mq_bind_expr::{duplicate_name, kind_fits, limit, number, unknown_name};
+use mq_bind_scopes::{duplicate_name, kind_fits, limit, number, unknown_name};
 use mq_ir::{Catalog, Column, LIMIT_OF_COLUMNS, LIMIT_OF_SCALE, LIMIT_OF_TABLES, Schema, TableDef};
 use mq_lexer::folded;
 use mq_values::{Fail, Items, MAX_COLUMNS, MAX_TABLES, Memory, Refused, Words};

@@ -21,29 +21,29 @@ use Rattle.mq_ir.specs.declared.expression.Test.{Test}
 use Rattle.mq_ir.specs.FitsExpression.{Scope as FitScope, expression_fits, is_inner, test_fits}
 use Rattle.mq_ir.specs.LeavesLaws.{leaves_leaf}
 use Rattle.mq_ir.specs.Results.{◌>>=◌}
-use Rattle.mq_bind_expr.specs.declared.kinds.ExprKind.{ExprKind}
-use Rattle.mq_bind_expr.specs.declared.kinds.ExprKind.TheVariants as kind
-use Rattle.mq_bind_expr.specs.declared.misuse_numbers.TheConstants.{MISUSE_OF_AGGREGATE, MISUSE_OF_PLACE_COUNT, MISUSE_OF_REFERENCE_MEASURE, MISUSE_OF_RULE_FORM}
-use Rattle.mq_bind_expr.specs.declared.scopes.Bracket.{Bracket}
-use Rattle.mq_bind_expr.specs.declared.scopes.Found.{Found}
-use Rattle.mq_bind_expr.specs.declared.scopes.Owner.{Owner}
-use Rattle.mq_bind_expr.specs.declared.scopes.Owner.TheVariants as owner
-use Rattle.mq_bind_expr.specs.declared.scopes.Part.{Part}
-use Rattle.mq_bind_expr.specs.declared.scopes.Part.TheVariants as part
-use Rattle.mq_bind_expr.specs.declared.scopes.Position.{Position}
-use Rattle.mq_bind_expr.specs.declared.scopes.ReferenceNames.{ReferenceNames}
-use Rattle.mq_bind_expr.specs.declared.scopes.Scope.{Scope}
+use Rattle.mq_bind_scopes.specs.declared.kinds.ExprKind.{ExprKind}
+use Rattle.mq_bind_scopes.specs.declared.kinds.ExprKind.TheVariants as kind
+use Rattle.mq_bind_scopes.specs.declared.misuse_numbers.TheConstants.{MISUSE_OF_AGGREGATE, MISUSE_OF_PLACE_COUNT, MISUSE_OF_REFERENCE_MEASURE, MISUSE_OF_RULE_FORM}
+use Rattle.mq_bind_scopes.specs.declared.scopes.Bracket.{Bracket}
+use Rattle.mq_bind_scopes.specs.declared.scopes.Found.{Found}
+use Rattle.mq_bind_scopes.specs.declared.scopes.Owner.{Owner}
+use Rattle.mq_bind_scopes.specs.declared.scopes.Owner.TheVariants as owner
+use Rattle.mq_bind_scopes.specs.declared.scopes.Part.{Part}
+use Rattle.mq_bind_scopes.specs.declared.scopes.Part.TheVariants as part
+use Rattle.mq_bind_scopes.specs.declared.scopes.Position.{Position}
+use Rattle.mq_bind_scopes.specs.declared.scopes.ReferenceNames.{ReferenceNames}
+use Rattle.mq_bind_scopes.specs.declared.scopes.Scope.{Scope}
 use Rattle.mq_bind_expr.specs.CellNodes.{agg_node, cell_called, cell_misuse, cell_node, count_all_node, first_name, measures_of, range_node, range_of, range_over, unless_misuse, unless_rule_form}
 use Rattle.mq_bind_expr.specs.DimensionLaws.{names_leaf}
 use Rattle.mq_bind_expr.specs.Dimensions.{is_column_leaf}
 use Rattle.mq_bind_expr.specs.FunctionNodes.{converted}
-use Rattle.mq_bind_expr.specs.Kinds.{common, mismatch}
-use Rattle.mq_bind_expr.specs.Misuses.{aggregate_without_group, cell_out_of_place, in_condition, other_place_count, outside_rules, previous_outside_until}
+use Rattle.mq_bind_scopes.specs.Kinds.{common, mismatch}
+use Rattle.mq_bind_scopes.specs.Misuses.{aggregate_without_group, cell_out_of_place, in_condition, other_place_count, outside_rules, previous_outside_until}
 use Rattle.mq_bind_expr.specs.NameNodes.{a_condition, a_value}
-use Rattle.mq_bind_expr.specs.Names.{Name, called, found_called, is_reference_measure}
-use Rattle.mq_bind_expr.specs.OperatorKinds.{aggregate_kind}
-use Rattle.mq_bind_expr.specs.Positions.{aggregated, is_grouping, is_left, is_rule}
-use Rattle.mq_bind_expr.specs.Refusals.{misuse, refused_where, unknown_name}
+use Rattle.mq_bind_scopes.specs.Names.{Name, called, found_called, is_reference_measure}
+use Rattle.mq_bind_scopes.specs.OperatorKinds.{aggregate_kind}
+use Rattle.mq_bind_scopes.specs.Positions.{aggregated, is_grouping, is_left, is_rule}
+use Rattle.mq_bind_scopes.specs.Refusals.{misuse, refused_where, unknown_name}
 use Rattle.mq_bind_expr.specs.RuleNodes.{leaf_cell, other_presence, presence_kind, present_node, presentnnv_node, presentnnv_of, presentv_node, presentv_of, previous_node, single_cell}
 use Rattle.mq_fit_laws.proofs.FineLemmas.{fine_is_present, fine_outer, fine_present_nnv, fine_present_v}
 use Rattle.mq_fit_laws.proofs.FitsLemmas.{fits_leaf, flat_fit, indices_fit, inner_roll, leaf_cell as leaf_cell_fits, leaf_count_all, leaf_fit, leaf_group, leaf_not_null, leaf_present, leaf_previous, leaf_range, leaf_ref_cell}

@@ -27,14 +27,14 @@ use Rattle.mq_ir.specs.FitsStatement.{change_fits_schema, fits, inserts_fit, set
 use Rattle.mq_ir.specs.Names.{schema_of}
 use Rattle.mq_ir.specs.Results.{◌>>=◌, each}
 use Rattle.mq_ir.specs.Tables.{is_name}
-use Rattle.mq_bind_expr.specs.declared.scopes.Found.{Found}
-use Rattle.mq_bind_expr.specs.declared.scopes.Part.TheVariants as part
+use Rattle.mq_bind_scopes.specs.declared.scopes.Found.{Found}
+use Rattle.mq_bind_scopes.specs.declared.scopes.Part.TheVariants as part
 use Rattle.mq_bind_expr.specs.ExpressionWalk.{bound, bound_filter}
-use Rattle.mq_bind_expr.specs.Kinds.{is_assignable}
-use Rattle.mq_bind_expr.specs.Names.{Name}
+use Rattle.mq_bind_scopes.specs.Kinds.{is_assignable}
+use Rattle.mq_bind_scopes.specs.Names.{Name}
 use Rattle.mq_bind_expr.specs.OperatorNodes.{exprs_of}
-use Rattle.mq_bind_expr.specs.Positions.{standing}
-use Rattle.mq_bind_expr.specs.Refusals.{duplicate_name, kind_mismatch, refused_where, unknown_name}
+use Rattle.mq_bind_scopes.specs.Positions.{standing}
+use Rattle.mq_bind_scopes.specs.Refusals.{duplicate_name, kind_mismatch, refused_where, unknown_name}
 use Rattle.mq_binder.specs.ChangeWalk.{change_scope, goes_into, inserted_columns, kind_at, no_columns, placed_values, row_bound, row_with, rows_bound, set_bound, set_value, sets_bound}
 use Rattle.mq_binder.specs.FromWalk.{table_called}
 use Rattle.mq_binder.specs.StatementWalk.{delete_bound, insert_bound, update_bound, update_over}

@@ -26,18 +26,18 @@ use Rattle.mq_ir.specs.FitsExpression.{Scope as FitScope, expression_fits}
 use Rattle.mq_ir.specs.Names.{is_table, schema_of, width_of}
 use Rattle.mq_ir.specs.Results.{◌>>=◌, each, each_in_turn}
 use Rattle.mq_ir.specs.Tables.{is_name}
-use Rattle.mq_bind_expr.specs.declared.scopes.ModelNames.{ModelNames}
-use Rattle.mq_bind_expr.specs.declared.scopes.Part.TheVariants as part
-use Rattle.mq_bind_expr.specs.declared.scopes.Position.{Position}
-use Rattle.mq_bind_expr.specs.declared.scopes.RowColumn.{RowColumn}
-use Rattle.mq_bind_expr.specs.declared.scopes.Scope.{Scope}
+use Rattle.mq_bind_scopes.specs.declared.scopes.ModelNames.{ModelNames}
+use Rattle.mq_bind_scopes.specs.declared.scopes.Part.TheVariants as part
+use Rattle.mq_bind_scopes.specs.declared.scopes.Position.{Position}
+use Rattle.mq_bind_scopes.specs.declared.scopes.RowColumn.{RowColumn}
+use Rattle.mq_bind_scopes.specs.declared.scopes.Scope.{Scope}
 use Rattle.mq_bind_expr.specs.ExpressionWalk.{bound, bound_filter, needs_condition}
-use Rattle.mq_bind_expr.specs.Kinds.{of_column}
-use Rattle.mq_bind_expr.specs.Misuses.{in_condition}
-use Rattle.mq_bind_expr.specs.Names.{Column, Name, column_in, column_named, is_in_sight, is_meant, is_of_item, item_called, sole}
+use Rattle.mq_bind_scopes.specs.Kinds.{of_column}
+use Rattle.mq_bind_scopes.specs.Misuses.{in_condition}
+use Rattle.mq_bind_scopes.specs.Names.{Column, Name, column_in, column_named, is_in_sight, is_meant, is_of_item, item_called, sole}
 use Rattle.mq_bind_expr.specs.OperatorNodes.{is_condition_found}
-use Rattle.mq_bind_expr.specs.Positions.{standing, standing_on}
-use Rattle.mq_bind_expr.specs.Refusals.{duplicate_name, kind_mismatch, limit, refused_where, unknown_name}
+use Rattle.mq_bind_scopes.specs.Positions.{standing, standing_on}
+use Rattle.mq_bind_scopes.specs.Refusals.{duplicate_name, kind_mismatch, limit, refused_where, unknown_name}
 use Rattle.mq_bind_expr.specs.Steps.{each_from}
 use Rattle.mq_binder.specs.declared.found.Base.{Base}
 use Rattle.mq_binder.specs.declared.found.Sources.{Sources}

@@ -17,11 +17,11 @@ use Rattle.mq_values.specs.declared.value.Kind.TheVariants as column
 use Rattle.mq_ir.specs.declared.limit_numbers.TheConstants.{LIMIT_OF_SCALE}
 use Rattle.mq_ir.specs.FitsExpression.{call_fits, kind_fits}
 use Rattle.mq_ir.specs.Results.{◌>>=◌}
-use Rattle.mq_bind_expr.specs.declared.kinds.ExprKind.{ExprKind}
-use Rattle.mq_bind_expr.specs.declared.kinds.ExprKind.TheVariants as kind
-use Rattle.mq_bind_expr.specs.Kinds.{column_kind, common_from, is_condition_kind, is_null_kind, number_scale, of_column, operand_scale, wider}
-use Rattle.mq_bind_expr.specs.OperatorKinds.{aggregate_kind, call_kind, cast_kind, chain_kind, is_castable, product_kind, product_scale, sum_kind}
-use Rattle.mq_bind_expr.specs.Refusals.{kind_mismatch, limit, refused_where}
+use Rattle.mq_bind_scopes.specs.declared.kinds.ExprKind.{ExprKind}
+use Rattle.mq_bind_scopes.specs.declared.kinds.ExprKind.TheVariants as kind
+use Rattle.mq_bind_scopes.specs.Kinds.{column_kind, common_from, is_condition_kind, is_null_kind, number_scale, of_column, operand_scale, wider}
+use Rattle.mq_bind_scopes.specs.OperatorKinds.{aggregate_kind, call_kind, cast_kind, chain_kind, is_castable, product_kind, product_scale, sum_kind}
+use Rattle.mq_bind_scopes.specs.Refusals.{kind_mismatch, limit, refused_where}
 use Rattle.mq_fit_laws.specs.Literals.{is_within}
 use Rattle.mq_fit_laws.proofs.StepLemmas.{Each, both, just_is, ok_is, passed, right_of, was_not, went}
 

@@ -27,11 +27,11 @@ use Rattle.mq_ir.specs.Partitions.{Tuple}
 use Rattle.mq_ir.specs.Results.{◌>>=◌}
 use Rattle.mq_ir.specs.Statement.{Files, Printed, State, View, change_step, file_bytes, first_reader, staged, taken, unless_refused, with_rows}
 use Rattle.mq_ir.specs.Tables.{Table, Tables, is_name, table_at}
-use Rattle.mq_bind_expr.specs.declared.scopes.Found.{Found}
-use Rattle.mq_bind_expr.specs.declared.scopes.Part.{Part}
-use Rattle.mq_bind_expr.specs.declared.scopes.Part.TheVariants as part
-use Rattle.mq_bind_expr.specs.declared.scopes.RowColumn.{RowColumn}
-use Rattle.mq_bind_expr.specs.declared.scopes.Scope.{Scope}
+use Rattle.mq_bind_scopes.specs.declared.scopes.Found.{Found}
+use Rattle.mq_bind_scopes.specs.declared.scopes.Part.{Part}
+use Rattle.mq_bind_scopes.specs.declared.scopes.Part.TheVariants as part
+use Rattle.mq_bind_scopes.specs.declared.scopes.RowColumn.{RowColumn}
+use Rattle.mq_bind_scopes.specs.declared.scopes.Scope.{Scope}
 use Rattle.mq_binder.specs.declared.found.Base.{Base}
 use Rattle.mq_binder.specs.declared.found.PlainFound.{PlainFound}
 use Rattle.mq_binder.specs.FromWalk.{no_model}

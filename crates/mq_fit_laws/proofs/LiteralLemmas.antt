@@ -7,9 +7,9 @@ use Rattle.mq_ast.specs.declared.expressions.Place.{Place, map-Place, para-Place
 use Rattle.mq_ast.specs.declared.expressions.ProdTerm.{ProdTerm, para-ProdTerm, para-roll-ProdTerm, roll-ProdTerm}
 use Rattle.mq_ast.specs.declared.expressions.SumTerm.{SumTerm, para-SumTerm, para-roll-SumTerm, roll-SumTerm}
 use Rattle.mq_ir.specs.Results.{◌>>=◌}
-use Rattle.mq_bind_expr.specs.declared.scopes.Owner.{Owner}
-use Rattle.mq_bind_expr.specs.declared.scopes.Position.{Position}
-use Rattle.mq_bind_expr.specs.declared.scopes.Scope.{Scope}
+use Rattle.mq_bind_scopes.specs.declared.scopes.Owner.{Owner}
+use Rattle.mq_bind_scopes.specs.declared.scopes.Position.{Position}
+use Rattle.mq_bind_scopes.specs.declared.scopes.Scope.{Scope}
 use Rattle.mq_bind_expr.specs.ExpressionLayers.{layer_arm, layer_bound, layer_place, layer_prod, layer_sum}
 use Rattle.mq_bind_expr.specs.ExpressionRolls.{arm_bound, place_bound, prod_bound, sum_bound}
 use Rattle.mq_bind_expr.specs.ExpressionVisits.{ArmMeaning, Meaning, PlaceLayer, PlaceMeaning}

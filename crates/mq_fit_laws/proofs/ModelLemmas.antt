@@ -30,19 +30,21 @@ use Rattle.mq_ir.specs.declared.query.Rule.{Rule}
 use Rattle.mq_ir.specs.Fits.{fits_if_there, item_fits, iterate_fits, left_fits, model_fits, model_scope, numbers_each_once, plain_fits, reference_fits, row_scope as fit_row_scope, rule_fits, source_fits, turns_fit}
 use Rattle.mq_ir.specs.FitsExpression.{Scope as FitScope, expression_fits, kind_fits}
 use Rattle.mq_ir.specs.Results.{◌>>=◌}
-use Rattle.mq_bind_expr.specs.declared.misuse_numbers.TheConstants.{MISUSE_OF_ITERATE, MISUSE_OF_OPTIONS}
-use Rattle.mq_bind_expr.specs.declared.scopes.Part.TheVariants as part
-use Rattle.mq_bind_expr.specs.declared.scopes.Scope.{Scope}
+use Rattle.mq_bind_scopes.specs.declared.misuse_numbers.TheConstants.{MISUSE_OF_ITERATE, MISUSE_OF_OPTIONS}
+use Rattle.mq_bind_scopes.specs.declared.scopes.Part.TheVariants as part
+use Rattle.mq_bind_scopes.specs.declared.scopes.Scope.{Scope}
 use Rattle.mq_bind_expr.specs.ExpressionWalk.{bound_filter}
-use Rattle.mq_bind_expr.specs.Names.{Name}
-use Rattle.mq_bind_expr.specs.Positions.{standing}
-use Rattle.mq_bind_expr.specs.Refusals.{limit, misuse, refused_where}
+use Rattle.mq_bind_scopes.specs.Names.{Name}
+use Rattle.mq_bind_scopes.specs.Positions.{standing}
+use Rattle.mq_bind_scopes.specs.Refusals.{limit, misuse, refused_where}
 use Rattle.mq_binder.specs.declared.found.ListItem.{ListItem}
 use Rattle.mq_binder.specs.declared.found.Lists.{Lists as ModelLists}
 use Rattle.mq_binder.specs.declared.found.ModelFound.{ModelFound}
 use Rattle.mq_binder.specs.declared.found.ReferenceFound.{ReferenceFound}
-use Rattle.mq_binder.specs.ListWalk.{ignores_nav, items_listed, limited, list_columns, list_exprs, list_kinds, list_names, options_clash}
-use Rattle.mq_binder.specs.ModelWalk.{all_items, head_bound, items_limited, iterate_of, lists_and_rules, lists_bound, model_over, model_part, rule_scope, rules_over, turns_bound, turns_of}
+use Rattle.mq_bind_scopes.specs.Options.{ignores_nav, options_clash}
+use Rattle.mq_binder.specs.ListWalk.{items_listed, limited, list_columns, list_exprs, list_kinds, list_names}
+use Rattle.mq_binder.specs.ModelWalk.{all_items, items_limited, iterate_of, lists_and_rules, lists_bound, model_over, model_part, rule_scope, rules_over}
+use Rattle.mq_bind_scopes.specs.Heads.{head_bound, turns_bound, turns_of}
 use Rattle.mq_binder.specs.ReferenceWalk.{references_bound}
 use Rattle.mq_binder.specs.RuleWalk.{rules_bound}
 use Rattle.mq_fit_laws.specs.Catalogs.{columns_within}

@@ -16,15 +16,15 @@ use Rattle.mq_ir.specs.declared.expression.Expr.{Expr}
 use Rattle.mq_ir.specs.declared.expression.Expr.TheVariants as expr
 use Rattle.mq_ir.specs.FitsExpression.{Scope, call_fits}
 use Rattle.mq_ir.specs.Results.{◌>>=◌}
-use Rattle.mq_bind_expr.specs.declared.kinds.ExprKind.{ExprKind}
-use Rattle.mq_bind_expr.specs.declared.kinds.ExprKind.TheVariants as kind
-use Rattle.mq_bind_expr.specs.declared.scopes.Found.{Found}
+use Rattle.mq_bind_scopes.specs.declared.kinds.ExprKind.{ExprKind}
+use Rattle.mq_bind_scopes.specs.declared.kinds.ExprKind.TheVariants as kind
+use Rattle.mq_bind_scopes.specs.declared.scopes.Found.{Found}
 use Rattle.mq_bind_expr.specs.FunctionNodes.{ArmFound, arguments_of, bound_arm, bound_arms, call_node, case_kind, case_node, case_of, converted, converted_all, converted_found, expr_found, is_nvl, kinds_if_any, result_kind, results_kind, tests_fit}
-use Rattle.mq_bind_expr.specs.Kinds.{column_kind, common, common_from, number_scale, value_kind, wider}
+use Rattle.mq_bind_scopes.specs.Kinds.{column_kind, common, common_from, number_scale, value_kind, wider}
 use Rattle.mq_bind_expr.specs.NameNodes.{a_condition, a_value}
-use Rattle.mq_bind_expr.specs.OperatorKinds.{call_kind, cast_kind, chain_kind, product_kind, sum_kind}
+use Rattle.mq_bind_scopes.specs.OperatorKinds.{call_kind, cast_kind, chain_kind, product_kind, sum_kind}
 use Rattle.mq_bind_expr.specs.OperatorNodes.{all_conditions, and_node, between_node, cast_node, cmp_node, equated_by, exprs_of, go_together, in_node, is_condition_found, kinds_of, lit_node, neg_node, not_node, null_node, or_node, prod_node, prod_terms, sum_node, sum_terms, term_kinds}
-use Rattle.mq_bind_expr.specs.Refusals.{kind_mismatch}
+use Rattle.mq_bind_scopes.specs.Refusals.{kind_mismatch}
 use Rattle.mq_fit_laws.specs.Literals.{is_within}
 use Rattle.mq_fit_laws.proofs.FineLemmas.{ArmSound, SoundIfAny, arm_sound, fine_and, fine_between, fine_call, fine_case, fine_cast, fine_cmp, fine_convert, fine_in, fine_is_null, fine_lit, fine_neg, fine_not, fine_or, fine_prod, fine_sum, none_sound}
 use Rattle.mq_fit_laws.proofs.KindLemmas.{Within, call_within, cast_within, chain_within, column_fits, common_within, product_within, scale_within, sum_within}

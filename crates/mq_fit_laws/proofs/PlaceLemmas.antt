@@ -20,14 +20,14 @@ use Rattle.mq_ir.specs.declared.expression.Test.TheVariants as test
 use Rattle.mq_ir.specs.FitsExpression.{Scope, expression_fits, is_inner, test_fits}
 use Rattle.mq_ir.specs.LeavesLaws.{leaves_lit}
 use Rattle.mq_ir.specs.Looks.{leaves_of}
-use Rattle.mq_bind_expr.specs.declared.kinds.ExprKind.{ExprKind}
-use Rattle.mq_bind_expr.specs.declared.misuse_numbers.TheConstants.{MISUSE_OF_CONDITION_IN_BRACKETS, MISUSE_OF_CONDITION_IN_CELL}
-use Rattle.mq_bind_expr.specs.declared.scopes.Found.{Found}
-use Rattle.mq_bind_expr.specs.declared.scopes.Placed.{Placed}
+use Rattle.mq_bind_scopes.specs.declared.kinds.ExprKind.{ExprKind}
+use Rattle.mq_bind_scopes.specs.declared.misuse_numbers.TheConstants.{MISUSE_OF_CONDITION_IN_BRACKETS, MISUSE_OF_CONDITION_IN_CELL}
+use Rattle.mq_bind_scopes.specs.declared.scopes.Found.{Found}
+use Rattle.mq_bind_scopes.specs.declared.scopes.Placed.{Placed}
 use Rattle.mq_bind_expr.specs.Dimensions.{is_dimension}
 use Rattle.mq_bind_expr.specs.Forms.{is_any_form, is_condition}
 use Rattle.mq_bind_expr.specs.PlaceTests.{any_place, condition_place, fits_dimension, index_equal, index_of, no_index, no_test, place_of, placed, test_of, value_place}
-use Rattle.mq_bind_expr.specs.Refusals.{kind_mismatch, misuse}
+use Rattle.mq_bind_scopes.specs.Refusals.{kind_mismatch, misuse}
 use Rattle.mq_fit_laws.proofs.FitsLemmas.{any_fits, at_fits, cmp_fits, fits_lit, flat_fit}
 use Rattle.mq_fit_laws.proofs.OperandLemmas.{FoundFits}
 use Rattle.mq_fit_laws.proofs.SoundLemmas.{flat_of}

@@ -17,19 +17,19 @@ use Rattle.mq_ir.specs.declared.query.FromPart.{FromPart}
 use Rattle.mq_ir.specs.Fits.{from_fits, group_fits, plain_fits, row_scope as fit_row_scope}
 use Rattle.mq_ir.specs.FitsExpression.{expression_fits}
 use Rattle.mq_ir.specs.Names.{width_of}
-use Rattle.mq_bind_expr.specs.declared.misuse_numbers.TheConstants.{MISUSE_OF_UNGROUPED_COLUMN}
-use Rattle.mq_bind_expr.specs.declared.scopes.Found.{Found}
-use Rattle.mq_bind_expr.specs.declared.scopes.Part.TheVariants as part
-use Rattle.mq_bind_expr.specs.declared.scopes.Position.{Position}
-use Rattle.mq_bind_expr.specs.declared.scopes.Printed.{Printed}
-use Rattle.mq_bind_expr.specs.declared.scopes.RowColumn.{RowColumn}
-use Rattle.mq_bind_expr.specs.declared.scopes.Scope.{Scope}
+use Rattle.mq_bind_scopes.specs.declared.misuse_numbers.TheConstants.{MISUSE_OF_UNGROUPED_COLUMN}
+use Rattle.mq_bind_scopes.specs.declared.scopes.Found.{Found}
+use Rattle.mq_bind_scopes.specs.declared.scopes.Part.TheVariants as part
+use Rattle.mq_bind_scopes.specs.declared.scopes.Position.{Position}
+use Rattle.mq_bind_scopes.specs.declared.scopes.Printed.{Printed}
+use Rattle.mq_bind_scopes.specs.declared.scopes.RowColumn.{RowColumn}
+use Rattle.mq_bind_scopes.specs.declared.scopes.Scope.{Scope}
 use Rattle.mq_bind_expr.specs.ExpressionWalk.{bound, bound_value, needs_value}
 use Rattle.mq_bind_expr.specs.Forms.{name_of}
-use Rattle.mq_bind_expr.specs.Misuses.{in_condition, is_ungrouped}
+use Rattle.mq_bind_scopes.specs.Misuses.{in_condition, is_ungrouped}
 use Rattle.mq_bind_expr.specs.OperatorNodes.{is_condition_found}
-use Rattle.mq_bind_expr.specs.Positions.{standing}
-use Rattle.mq_bind_expr.specs.Refusals.{kind_mismatch, limit, misuse}
+use Rattle.mq_bind_scopes.specs.Positions.{standing}
+use Rattle.mq_bind_scopes.specs.Refusals.{kind_mismatch, limit, misuse}
 use Rattle.mq_binder.specs.declared.found.Base.{Base}
 use Rattle.mq_binder.specs.declared.found.PlainFound.{PlainFound}
 use Rattle.mq_binder.specs.FromWalk.{base_of, group_of, grouped_by}

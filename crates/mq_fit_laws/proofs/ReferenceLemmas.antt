@@ -19,23 +19,24 @@ use Rattle.mq_ir.specs.Fits.{plain_fits, reference_fits, row_scope as fit_row_sc
 use Rattle.mq_ir.specs.FitsExpression.{expression_fits, kind_fits}
 use Rattle.mq_ir.specs.Results.{◌>>=◌}
 use Rattle.mq_ir.specs.Tables.{is_name}
-use Rattle.mq_bind_expr.specs.declared.misuse_numbers.TheConstants.{MISUSE_OF_ITEM_WITHOUT_NAME, MISUSE_OF_OPTIONS}
-use Rattle.mq_bind_expr.specs.declared.scopes.Found.{Found}
-use Rattle.mq_bind_expr.specs.declared.scopes.Part.TheVariants as part
-use Rattle.mq_bind_expr.specs.declared.scopes.Position.{Position}
-use Rattle.mq_bind_expr.specs.declared.scopes.Printed.{Printed}
-use Rattle.mq_bind_expr.specs.declared.scopes.Scope.{Scope}
+use Rattle.mq_bind_scopes.specs.declared.misuse_numbers.TheConstants.{MISUSE_OF_ITEM_WITHOUT_NAME, MISUSE_OF_OPTIONS}
+use Rattle.mq_bind_scopes.specs.declared.scopes.Found.{Found}
+use Rattle.mq_bind_scopes.specs.declared.scopes.Part.TheVariants as part
+use Rattle.mq_bind_scopes.specs.declared.scopes.Position.{Position}
+use Rattle.mq_bind_scopes.specs.declared.scopes.Printed.{Printed}
+use Rattle.mq_bind_scopes.specs.declared.scopes.Scope.{Scope}
 use Rattle.mq_bind_expr.specs.ExpressionWalk.{bound}
 use Rattle.mq_bind_expr.specs.Forms.{name_of}
-use Rattle.mq_bind_expr.specs.Kinds.{column_kind}
-use Rattle.mq_bind_expr.specs.Names.{Name}
-use Rattle.mq_bind_expr.specs.Positions.{standing}
-use Rattle.mq_bind_expr.specs.Refusals.{duplicate_name, kind_mismatch, limit, misuse}
+use Rattle.mq_bind_scopes.specs.Kinds.{column_kind}
+use Rattle.mq_bind_scopes.specs.Names.{Name}
+use Rattle.mq_bind_scopes.specs.Positions.{standing}
+use Rattle.mq_bind_scopes.specs.Refusals.{duplicate_name, kind_mismatch, limit, misuse}
 use Rattle.mq_bind_expr.specs.Steps.{each_behind}
 use Rattle.mq_binder.specs.declared.found.ListItem.{ListItem}
 use Rattle.mq_binder.specs.declared.found.PlainFound.{PlainFound}
 use Rattle.mq_binder.specs.declared.found.ReferenceFound.{ReferenceFound}
-use Rattle.mq_binder.specs.ListWalk.{item_checked, item_kind, items_listed, limited, list_columns, list_exprs, list_item, list_kinds, list_names, listed_name, options_checked, options_clash}
+use Rattle.mq_binder.specs.ListWalk.{item_checked, item_kind, items_listed, limited, list_columns, list_exprs, list_item, list_kinds, list_names, listed_name}
+use Rattle.mq_bind_scopes.specs.Options.{options_checked, options_clash}
 use Rattle.mq_binder.specs.PlainWalk.{plain_bound}
 use Rattle.mq_binder.specs.ReferenceWalk.{dims_listed, lists_over, measures_listed, printed_column, printed_scope, reference_bound, reference_name, reference_of, references_bound}
 use Rattle.mq_fit_laws.specs.Catalogs.{columns_within}

@@ -40,32 +40,34 @@ use Rattle.mq_ir.specs.FitsExpression.{Scope as FitScope, expression_fits, is_in
 use Rattle.mq_ir.specs.Looks.{leaves_of}
 use Rattle.mq_ir.specs.Results.{◌>>=◌, each}
 use Rattle.mq_ir.specs.Tables.{is_name}
-use Rattle.mq_bind_expr.specs.declared.kinds.ExprKind.{ExprKind}
-use Rattle.mq_bind_expr.specs.declared.kinds.ExprKind.TheVariants as kind
-use Rattle.mq_bind_expr.specs.declared.misuse_numbers.TheConstants.{MISUSE_OF_FOR, MISUSE_OF_ORDER, MISUSE_OF_PLACE_COUNT}
-use Rattle.mq_bind_expr.specs.declared.scopes.Found.{Found}
-use Rattle.mq_bind_expr.specs.declared.scopes.Named.{Named}
-use Rattle.mq_bind_expr.specs.declared.scopes.Owner.TheVariants as owner
-use Rattle.mq_bind_expr.specs.declared.scopes.Part.TheVariants as part
-use Rattle.mq_bind_expr.specs.declared.scopes.Placed.{Placed}
-use Rattle.mq_bind_expr.specs.declared.scopes.Printed.{Printed}
-use Rattle.mq_bind_expr.specs.declared.scopes.Scope.{Scope}
+use Rattle.mq_bind_scopes.specs.declared.kinds.ExprKind.{ExprKind}
+use Rattle.mq_bind_scopes.specs.declared.kinds.ExprKind.TheVariants as kind
+use Rattle.mq_bind_scopes.specs.declared.misuse_numbers.TheConstants.{MISUSE_OF_FOR, MISUSE_OF_ORDER, MISUSE_OF_PLACE_COUNT}
+use Rattle.mq_bind_scopes.specs.declared.scopes.Found.{Found}
+use Rattle.mq_bind_scopes.specs.declared.scopes.Named.{Named}
+use Rattle.mq_bind_scopes.specs.declared.scopes.Owner.TheVariants as owner
+use Rattle.mq_bind_scopes.specs.declared.scopes.Part.TheVariants as part
+use Rattle.mq_bind_scopes.specs.declared.scopes.Placed.{Placed}
+use Rattle.mq_bind_scopes.specs.declared.scopes.Printed.{Printed}
+use Rattle.mq_bind_scopes.specs.declared.scopes.Scope.{Scope}
 use Rattle.mq_bind_expr.specs.ExpressionWalk.{bound}
 use Rattle.mq_bind_expr.specs.Forms.{is_condition}
-use Rattle.mq_bind_expr.specs.Kinds.{is_assignable}
-use Rattle.mq_bind_expr.specs.Misuses.{other_place_count}
-use Rattle.mq_bind_expr.specs.Names.{Name, called}
+use Rattle.mq_bind_scopes.specs.Kinds.{is_assignable}
+use Rattle.mq_bind_scopes.specs.Misuses.{other_place_count}
+use Rattle.mq_bind_scopes.specs.Names.{Name, called}
 use Rattle.mq_bind_expr.specs.OperatorNodes.{exprs_of, kinds_of}
 use Rattle.mq_bind_expr.specs.PlaceTests.{place_of}
-use Rattle.mq_bind_expr.specs.Positions.{bracketed, place_kind, standing}
-use Rattle.mq_bind_expr.specs.Refusals.{kind_mismatch, misuse, refused_where}
+use Rattle.mq_bind_scopes.specs.Positions.{bracketed, place_kind, standing}
+use Rattle.mq_bind_scopes.specs.Refusals.{kind_mismatch, misuse, refused_where}
 use Rattle.mq_bind_expr.specs.Steps.{each_with, each_with_from}
 use Rattle.mq_binder.specs.declared.found.LeftFound.{LeftFound}
 use Rattle.mq_binder.specs.declared.found.ListFound.{ListFound}
-use Rattle.mq_binder.specs.ForWalk.{for_checked, has_width, list_bound, names_place, pairs_fit, rows_found, steps_checked, steps_fit, value_row, values_found}
+use Rattle.mq_binder.specs.ForWalk.{for_checked, has_width, list_bound, names_place, pairs_fit, rows_found, steps_checked, value_row, values_found}
+use Rattle.mq_bind_scopes.specs.ForSteps.{steps_fit}
 use Rattle.mq_binder.specs.LeftWalk.{dimension_called, expression_place, kind_called, left_bound, left_item, left_place, left_places, names_each, numbers_called, steps_place, tuples_found, with_lists}
 use Rattle.mq_binder.specs.PlainWalk.{plain_bound}
-use Rattle.mq_binder.specs.RuleWalk.{is_symbolic, left_key, left_order, right_bound, rule_behind, rule_bound, rule_of, rules_bound}
+use Rattle.mq_bind_scopes.specs.SymbolicSides.{is_symbolic}
+use Rattle.mq_binder.specs.RuleWalk.{left_key, left_order, right_bound, rule_behind, rule_bound, rule_of, rules_bound}
 use Rattle.mq_fit_laws.specs.Catalogs.{columns_within}
 use Rattle.mq_fit_laws.specs.Literals.{left_literals, left_place_literals, list_literals, literals_fit, rule_literals}
 use Rattle.mq_fit_laws.proofs.FitsLemmas.{any_fits, at_fits}

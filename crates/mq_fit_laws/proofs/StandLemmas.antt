@@ -19,28 +19,28 @@ use Rattle.mq_ir.specs.declared.expression.Leaf.{Leaf}
 use Rattle.mq_ir.specs.declared.expression.Test.{Test}
 use Rattle.mq_ir.specs.FitsExpression.{Scope as FitScope}
 use Rattle.mq_ir.specs.Tables.{is_name}
-use Rattle.mq_bind_expr.specs.declared.kinds.ExprKind.{ExprKind}
-use Rattle.mq_bind_expr.specs.declared.kinds.ExprKind.TheVariants as kind
-use Rattle.mq_bind_expr.specs.declared.scopes.Bracket.{Bracket}
-use Rattle.mq_bind_expr.specs.declared.scopes.Found.{Found}
-use Rattle.mq_bind_expr.specs.declared.scopes.ModelNames.{ModelNames}
-use Rattle.mq_bind_expr.specs.declared.scopes.Named.{Named}
-use Rattle.mq_bind_expr.specs.declared.scopes.Owner.{Owner}
-use Rattle.mq_bind_expr.specs.declared.scopes.Owner.TheVariants as owner
-use Rattle.mq_bind_expr.specs.declared.scopes.Part.{Part}
-use Rattle.mq_bind_expr.specs.declared.scopes.Part.TheVariants as part
-use Rattle.mq_bind_expr.specs.declared.scopes.Position.{Position}
-use Rattle.mq_bind_expr.specs.declared.scopes.ReferenceNames.{ReferenceNames}
-use Rattle.mq_bind_expr.specs.declared.scopes.Scope.{Scope}
+use Rattle.mq_bind_scopes.specs.declared.kinds.ExprKind.{ExprKind}
+use Rattle.mq_bind_scopes.specs.declared.kinds.ExprKind.TheVariants as kind
+use Rattle.mq_bind_scopes.specs.declared.scopes.Bracket.{Bracket}
+use Rattle.mq_bind_scopes.specs.declared.scopes.Found.{Found}
+use Rattle.mq_bind_scopes.specs.declared.scopes.ModelNames.{ModelNames}
+use Rattle.mq_bind_scopes.specs.declared.scopes.Named.{Named}
+use Rattle.mq_bind_scopes.specs.declared.scopes.Owner.{Owner}
+use Rattle.mq_bind_scopes.specs.declared.scopes.Owner.TheVariants as owner
+use Rattle.mq_bind_scopes.specs.declared.scopes.Part.{Part}
+use Rattle.mq_bind_scopes.specs.declared.scopes.Part.TheVariants as part
+use Rattle.mq_bind_scopes.specs.declared.scopes.Position.{Position}
+use Rattle.mq_bind_scopes.specs.declared.scopes.ReferenceNames.{ReferenceNames}
+use Rattle.mq_bind_scopes.specs.declared.scopes.Scope.{Scope}
 use Rattle.mq_bind_expr.specs.CellNodes.{unless_rule_form}
 use Rattle.mq_bind_expr.specs.Dimensions.{is_column_leaf}
-use Rattle.mq_bind_expr.specs.Misuses.{cv_out_of_place, in_condition, is_ungrouped, outside_rules, turn_without_iterate}
+use Rattle.mq_bind_scopes.specs.Misuses.{cv_out_of_place, in_condition, is_ungrouped, outside_rules, turn_without_iterate}
 use Rattle.mq_bind_expr.specs.NameNodes.{a_value, column_leaf, dimension_under, kind_under, name_in, name_in_bracket, name_in_row, name_in_rule, name_misuse, name_shown}
-use Rattle.mq_bind_expr.specs.Names.{Column, Name, called, column_named, found_called, is_called}
-use Rattle.mq_bind_expr.specs.Positions.{dimension_at, is_rule, place_kind}
-use Rattle.mq_bind_expr.specs.Refusals.{misuse, refused_where, unknown_name}
+use Rattle.mq_bind_scopes.specs.Names.{Column, Name, called, column_named, found_called, is_called}
+use Rattle.mq_bind_scopes.specs.Positions.{dimension_at, is_rule, place_kind}
+use Rattle.mq_bind_scopes.specs.Refusals.{misuse, refused_where, unknown_name}
 use Rattle.mq_bind_expr.specs.RuleNodes.{cv_called, cv_node, cv_of_place, turn_node}
-use Rattle.mq_bind_expr.specs.declared.misuse_numbers.TheConstants.{MISUSE_OF_RULE_FORM, MISUSE_OF_SHOWN_ITEM, MISUSE_OF_UNGROUPED_COLUMN}
+use Rattle.mq_bind_scopes.specs.declared.misuse_numbers.TheConstants.{MISUSE_OF_RULE_FORM, MISUSE_OF_SHOWN_ITEM, MISUSE_OF_UNGROUPED_COLUMN}
 use Rattle.mq_fit_laws.proofs.FineLemmas.{fine_column, fine_inner}
 use Rattle.mq_fit_laws.proofs.FitsLemmas.{inner_column, inner_cv, inner_turn, leaf_column, leaf_cv, leaf_turn}
 use Rattle.mq_fit_laws.proofs.KindLemmas.{Within}

@@ -23,8 +23,8 @@ use Rattle.mq_ir.specs.FitsStatement.{fits, schema_fits}
 use Rattle.mq_ir.specs.Names.{is_table, is_taken, is_view}
 use Rattle.mq_ir.specs.Results.{◌>>=◌}
 use Rattle.mq_ir.specs.Tables.{is_name}
-use Rattle.mq_bind_expr.specs.Names.{Name}
-use Rattle.mq_bind_expr.specs.Refusals.{duplicate_name, limit, refused_where, unknown_name}
+use Rattle.mq_bind_scopes.specs.Names.{Name}
+use Rattle.mq_bind_scopes.specs.Refusals.{duplicate_name, limit, refused_where, unknown_name}
 use Rattle.mq_binder.specs.QueryWalk.{query_bound}
 use Rattle.mq_binder.specs.StatementWalk.{if_table, if_view, statement_bound, view_bound}
 use Rattle.mq_binder.specs.TableWalk.{column_of, columns_named, columns_of, new_column, schema_with, table_bound, with_key}

@@ -7,7 +7,7 @@ use Rattle.std.proofs.lemmas.Bool.Decides.{nat_tests}
 use Rattle.mq_values.specs.declared.faults.Refused.{Refused}
 use Rattle.mq_ir.specs.Results.{◌>>=◌, each}
 use Rattle.mq_bind_expr.specs.CellNodes.{unless_misuse}
-use Rattle.mq_bind_expr.specs.Refusals.{refused_where}
+use Rattle.mq_bind_scopes.specs.Refusals.{refused_where}
 use Rattle.mq_bind_expr.specs.Steps.{each_behind, each_from}
 
 pub record Went {A B : Type 0} (r : Result A Refused) (f : A → Result B Refused) (y : B) : Type 0 where

@@ -14,13 +14,13 @@ use Rattle.mq_ir.specs.declared.expression.Test.{Test}
 use Rattle.mq_ir.specs.declared.expression.Test.TheVariants as test
 use Rattle.mq_ir.specs.FitsExpression.{Scope as FitScope, all_fit, test_fits}
 use Rattle.mq_ir.specs.Results.{◌>>=◌}
-use Rattle.mq_bind_expr.specs.declared.misuse_numbers.TheConstants.{MISUSE_OF_RULE_FORM}
-use Rattle.mq_bind_expr.specs.declared.scopes.Found.{Found}
-use Rattle.mq_bind_expr.specs.declared.scopes.Owner.{Owner}
-use Rattle.mq_bind_expr.specs.declared.scopes.Owner.TheVariants as owner
-use Rattle.mq_bind_expr.specs.declared.scopes.Placed.{Placed}
-use Rattle.mq_bind_expr.specs.declared.scopes.Position.{Position}
-use Rattle.mq_bind_expr.specs.declared.scopes.Scope.{Scope}
+use Rattle.mq_bind_scopes.specs.declared.misuse_numbers.TheConstants.{MISUSE_OF_RULE_FORM}
+use Rattle.mq_bind_scopes.specs.declared.scopes.Found.{Found}
+use Rattle.mq_bind_scopes.specs.declared.scopes.Owner.{Owner}
+use Rattle.mq_bind_scopes.specs.declared.scopes.Owner.TheVariants as owner
+use Rattle.mq_bind_scopes.specs.declared.scopes.Placed.{Placed}
+use Rattle.mq_bind_scopes.specs.declared.scopes.Position.{Position}
+use Rattle.mq_bind_scopes.specs.declared.scopes.Scope.{Scope}
 use Rattle.mq_bind_expr.specs.CellNodes.{agg_node, cell_node, range_node, unless_rule_form}
 use Rattle.mq_bind_expr.specs.ExpressionLayers.{layer_bound, layer_place}
 use Rattle.mq_bind_expr.specs.ExpressionRolls.{arm_bound, bound_roll, place_bound, prod_bound, sum_bound, with_meaning}
@@ -28,12 +28,12 @@ use Rattle.mq_bind_expr.specs.ExpressionVisits.{ArmMeaning, Meaning, PlaceMeanin
 use Rattle.mq_bind_expr.specs.ExpressionWalk.{bound}
 use Rattle.mq_bind_expr.specs.Forms.{is_condition}
 use Rattle.mq_bind_expr.specs.FunctionNodes.{ArmFound, call_node, case_node}
-use Rattle.mq_bind_expr.specs.Misuses.{any_inside_place, in_condition, outside_rules}
+use Rattle.mq_bind_scopes.specs.Misuses.{any_inside_place, in_condition, outside_rules}
 use Rattle.mq_bind_expr.specs.NameNodes.{a_condition}
 use Rattle.mq_bind_expr.specs.OperatorNodes.{and_node, between_node, cast_node, cmp_node, in_node, neg_node, not_node, null_node, or_node, prod_node, sum_node}
 use Rattle.mq_bind_expr.specs.PlaceTests.{index_of, place_of, placed}
-use Rattle.mq_bind_expr.specs.Positions.{aggregated, bracketed, inner, is_left, is_rule, owner_of, place_kind}
-use Rattle.mq_bind_expr.specs.Refusals.{misuse}
+use Rattle.mq_bind_scopes.specs.Positions.{aggregated, bracketed, inner, is_left, is_rule, owner_of, place_kind}
+use Rattle.mq_bind_scopes.specs.Refusals.{misuse}
 use Rattle.mq_bind_expr.specs.RuleNodes.{presentnnv_node, presentv_node, present_node, previous_node}
 use Rattle.mq_bind_expr.specs.Steps.{each_from}
 use Rattle.mq_fit_laws.specs.Literals.{layer_literals, literals_fit, place_literals}

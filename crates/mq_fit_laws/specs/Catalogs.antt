@@ -4,7 +4,7 @@ use Rattle.std.specs.List.{list_all}
 use Rattle.mq_ir.specs.declared.catalog.Catalog.{Catalog}
 use Rattle.mq_ir.specs.declared.catalog.TableEntry.{TableEntry}
 use Rattle.mq_ir.specs.declared.statement.Column.{Column}
-use Rattle.mq_bind_expr.specs.Kinds.{of_column}
+use Rattle.mq_bind_scopes.specs.Kinds.{of_column}
 use Rattle.mq_fit_laws.specs.Literals.{is_within}
 
 abbrev pub column_is_within : Column → Bool

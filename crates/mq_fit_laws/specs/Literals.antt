@@ -25,9 +25,9 @@ use Rattle.mq_ast.specs.declared.queries.Sel.{Sel}
 use Rattle.mq_ast.specs.declared.statements.Stmt.{Stmt}
 use Rattle.mq_ast.specs.declared.statements.Stmt.TheVariants as stmt
 use Rattle.mq_ir.specs.FitsExpression.{all_fit, fits_if_any}
-use Rattle.mq_bind_expr.specs.declared.kinds.ExprKind.{ExprKind}
-use Rattle.mq_bind_expr.specs.declared.kinds.ExprKind.TheVariants as kind
-use Rattle.mq_bind_expr.specs.Kinds.{value_kind}
+use Rattle.mq_bind_scopes.specs.declared.kinds.ExprKind.{ExprKind}
+use Rattle.mq_bind_scopes.specs.declared.kinds.ExprKind.TheVariants as kind
+use Rattle.mq_bind_scopes.specs.Kinds.{value_kind}
 
 -- a number has at most so many digits behind its point
 abbrev pub is_within : ExprKind → Bool

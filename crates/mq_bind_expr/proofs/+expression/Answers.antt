@@ -4,7 +4,7 @@ use Rattle.mq_ir.specs.Results.{each}
 use Rattle.mq_bind_expr.specs.CaseLaws.{found_if_any}
 use Rattle.mq_bind_expr.specs.ExpressionRolls.{arm_found}
 use Rattle.mq_bind_expr.specs.ExpressionWalk.{bound}
-use Rattle.mq_bind_expr.specs.Positions.{inner}
+use Rattle.mq_bind_scopes.specs.Positions.{inner}
 use Rattle.mq_bind_expr.proofs.AgainLemmas.{asked_exit}
 use Rattle.mq_bind_expr.proofs.CaseWalkLemmas.{also_gives, case_parts, none_found}
 use Rattle.mq_bind_expr.specs.StepLemmas.{fault_is_last}

@@ -1,5 +1,5 @@
 use Rattle.std.proofs.Common.{◌≡◌, drop}
-use Rattle.mq_bind_expr.specs.Kinds.{common_from}
+use Rattle.mq_bind_scopes.specs.Kinds.{common_from}
 use Rattle.mq_bind_expr.specs.OperatorNodes.{kinds_of}
 use Rattle.mq_bind_expr.proofs.founds.common_from.Given as goal
 

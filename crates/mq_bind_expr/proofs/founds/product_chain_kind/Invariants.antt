@@ -1,5 +1,5 @@
 use Rattle.std.proofs.Common.{◌≡◌, drop}
-use Rattle.mq_bind_expr.specs.OperatorKinds.{chain_kind, product_kind}
+use Rattle.mq_bind_scopes.specs.OperatorKinds.{chain_kind, product_kind}
 use Rattle.mq_bind_expr.specs.OperatorNodes.{term_kinds}
 use Rattle.mq_bind_expr.proofs.founds.product_chain_kind.Given as goal
 

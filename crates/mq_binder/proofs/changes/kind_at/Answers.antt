@@ -1,8 +1,8 @@
 use Rattle.std.proofs.Common.{sym, ap, ◌∙◌}
 use Rattle.std.specs.Option.{option_copied}
 use Rattle.mq_ir.specs.declared.statement.Column.{Column}
-use Rattle.mq_bind_expr.specs.Kinds.{of_column}
-use Rattle.mq_bind_expr.specs.declared.kinds.ExprKind.TheVariants as kind
+use Rattle.mq_bind_scopes.specs.Kinds.{of_column}
+use Rattle.mq_bind_scopes.specs.declared.kinds.ExprKind.TheVariants as kind
 use Rattle.mq_binder.proofs.PlacedLemmas.{missing_is}
 use Rattle.mq_binder.proofs.changes.kind_at.Goals as goal
 

@@ -1,7 +1,7 @@
 use Rattle.mq_ast.specs.declared.expressions.E.{E}
-use Rattle.mq_bind_expr.specs.declared.scopes.Part.TheVariants as part
+use Rattle.mq_bind_scopes.specs.declared.scopes.Part.TheVariants as part
 use Rattle.mq_bind_expr.specs.ExpressionWalk.{bound}
-use Rattle.mq_bind_expr.specs.Positions.{standing}
+use Rattle.mq_bind_scopes.specs.Positions.{standing}
 use Rattle.mq_bind_expr.specs.StepLemmas.{Walked}
 use Rattle.mq_binder.proofs.changes.values_bound.Given as goal
 

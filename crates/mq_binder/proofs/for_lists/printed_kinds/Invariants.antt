@@ -1,5 +1,5 @@
 use Rattle.std.proofs.Common.{◌≡◌, map, take}
-use Rattle.mq_bind_expr.specs.declared.scopes.Printed.{Printed}
+use Rattle.mq_bind_scopes.specs.declared.scopes.Printed.{Printed}
 use Rattle.mq_binder.proofs.for_lists.printed_kinds.Given as goal
 
 abbrev pub invariant-printed : goal.invariant-printed

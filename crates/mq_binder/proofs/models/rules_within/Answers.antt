@@ -1,7 +1,7 @@
 use Rattle.std.proofs.Common.{◌≡◌, Bool, is_some, List, subst, ap, ◌∙◌, rules}
 use Rattle.mq_values.specs.Answers.{Gives}
 use Rattle.mq_binder.specs.declared.found.ReferenceFound.{ReferenceFound}
-use Rattle.mq_bind_expr.specs.declared.scopes.Scope.{Scope}
+use Rattle.mq_bind_scopes.specs.declared.scopes.Scope.{Scope}
 use Rattle.mq_binder.specs.ModelWalk as spec
 use Rattle.mq_binder.proofs.models.rules_within.Goals as goal
 

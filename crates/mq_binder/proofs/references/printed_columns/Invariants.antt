@@ -1,5 +1,5 @@
 use Rattle.std.proofs.Common.{ℕ}
-use Rattle.mq_bind_expr.specs.declared.scopes.Printed.{Printed}
+use Rattle.mq_bind_scopes.specs.declared.scopes.Printed.{Printed}
 use Rattle.mq_binder.specs.ReferenceWalk.{printed_column}
 use Rattle.mq_binder.proofs.FlatLemmas.{Flat}
 use Rattle.mq_binder.proofs.references.printed_columns.Given as goal

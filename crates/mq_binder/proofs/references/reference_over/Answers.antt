@@ -1,7 +1,7 @@
 use Rattle.std.proofs.Common.{◌≡◌, List, subst, ap, ◌∙◌, rules}
 use Rattle.mq_values.specs.Answers.{Gives}
-use Rattle.mq_bind_expr.specs.declared.scopes.Printed.{Printed}
-use Rattle.mq_bind_expr.specs.declared.scopes.Scope.{Scope}
+use Rattle.mq_bind_scopes.specs.declared.scopes.Printed.{Printed}
+use Rattle.mq_bind_scopes.specs.declared.scopes.Scope.{Scope}
 use Rattle.mq_binder.specs.ReferenceWalk as spec
 use Rattle.mq_binder.proofs.references.reference_over.Goals as goal
 

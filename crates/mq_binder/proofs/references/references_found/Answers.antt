@@ -1,5 +1,5 @@
 use Rattle.std.proofs.Common.{◌≡◌, List, [], ◌∷◌, ◌++◌, Ok, sym, ap, ◌∙◌, rules}
-use Rattle.mq_bind_expr.specs.Names.{Name}
+use Rattle.mq_bind_scopes.specs.Names.{Name}
 use Rattle.mq_bind_expr.specs.StepLemmas.{behind_next}
 use Rattle.mq_binder.specs.ReferenceWalk as spec
 use Rattle.mq_binder.proofs.references.references_found.Goals as goal

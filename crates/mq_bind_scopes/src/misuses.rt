@@ -2,7 +2,7 @@
 
 ghost use Rattle.std.specs.Prelude.{◌≡◌};
 ghost use Rattle.mq_ir.specs.Items as items;
-ghost use Rattle.mq_bind_expr.specs.Misuses as spec;
+ghost use Rattle.mq_bind_scopes.specs.Misuses as spec;
 
 use crate::positions::{dims_of, is_grouping, is_left, is_rule, is_until};
 use crate::scopes::{Owner, Position, Scope};

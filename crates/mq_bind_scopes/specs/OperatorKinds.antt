@@ -14,10 +14,10 @@ use Rattle.mq_values.specs.declared.value.Kind.TheVariants as column
 use Rattle.mq_ir.specs.declared.limit_numbers.TheConstants.{LIMIT_OF_SCALE}
 use Rattle.mq_ir.specs.FitsExpression.{kind_fits}
 use Rattle.mq_ir.specs.Results.{◌>>=◌}
-use Rattle.mq_bind_expr.specs.declared.kinds.ExprKind.{ExprKind}
-use Rattle.mq_bind_expr.specs.declared.kinds.ExprKind.TheVariants as kind
-use Rattle.mq_bind_expr.specs.Refusals.{refused_where, kind_mismatch, limit}
-use Rattle.mq_bind_expr.specs.Kinds.{Judged, mismatch, of_column, is_condition_kind, is_null_kind, number_scale, operand_scale, common}
+use Rattle.mq_bind_scopes.specs.declared.kinds.ExprKind.{ExprKind}
+use Rattle.mq_bind_scopes.specs.declared.kinds.ExprKind.TheVariants as kind
+use Rattle.mq_bind_scopes.specs.Refusals.{refused_where, kind_mismatch, limit}
+use Rattle.mq_bind_scopes.specs.Kinds.{Judged, mismatch, of_column, is_condition_kind, is_null_kind, number_scale, operand_scale, common}
 
 -- `+` and `-` take numbers, `||` numbers and texts; all take NULL
 abbrev pub sum_kind : SumOp → ExprKind → ExprKind → Judged

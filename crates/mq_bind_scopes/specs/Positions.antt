@@ -3,15 +3,15 @@ use Rattle.std.specs.Prelude.{ℕ, List, [], Bool, true, false, Option, Some, No
 use Rattle.std.specs.Option.{option_map, option_map_or}
 use Rattle.mq_ast.specs.declared.expressions.Path.{Path}
 use Rattle.mq_lexer.specs.Words.{folded}
-use Rattle.mq_bind_expr.specs.declared.kinds.ExprKind.{ExprKind}
-use Rattle.mq_bind_expr.specs.declared.scopes.Named.{Named}
-use Rattle.mq_bind_expr.specs.declared.scopes.Owner.{Owner}
-use Rattle.mq_bind_expr.specs.declared.scopes.Owner.TheVariants as owner
-use Rattle.mq_bind_expr.specs.declared.scopes.Part.{Part}
-use Rattle.mq_bind_expr.specs.declared.scopes.Part.TheVariants as part
-use Rattle.mq_bind_expr.specs.declared.scopes.Position.{Position}
-use Rattle.mq_bind_expr.specs.declared.scopes.Scope.{Scope}
-use Rattle.mq_bind_expr.specs.Names.{reference_called}
+use Rattle.mq_bind_scopes.specs.declared.kinds.ExprKind.{ExprKind}
+use Rattle.mq_bind_scopes.specs.declared.scopes.Named.{Named}
+use Rattle.mq_bind_scopes.specs.declared.scopes.Owner.{Owner}
+use Rattle.mq_bind_scopes.specs.declared.scopes.Owner.TheVariants as owner
+use Rattle.mq_bind_scopes.specs.declared.scopes.Part.{Part}
+use Rattle.mq_bind_scopes.specs.declared.scopes.Part.TheVariants as part
+use Rattle.mq_bind_scopes.specs.declared.scopes.Position.{Position}
+use Rattle.mq_bind_scopes.specs.declared.scopes.Scope.{Scope}
+use Rattle.mq_bind_scopes.specs.Names.{reference_called}
 
 -- an expression by itself, in a part of a statement
 abbrev pub standing : Part → Position

@@ -5,7 +5,7 @@ ghost use Rattle.std.specs.List.{list_any};
 ghost use Rattle.std.specs.Option.{option_copied};
 ghost use Rattle.mq_values.specs.Answers.{Gives};
 ghost use Rattle.mq_ir.specs.Tables.{is_name};
-ghost use Rattle.mq_bind_expr.specs.Names as spec;
+ghost use Rattle.mq_bind_scopes.specs.Names as spec;
 
 use crate::kinds::ExprKind;
 use crate::refusals::{duplicate_name, number, unknown_name};

@@ -3,8 +3,8 @@
 ghost use Rattle.std.specs.Prelude.{◌≡◌};
 ghost use Rattle.mq_values.specs.Answers.{Gives};
 ghost use Rattle.mq_ir.specs.FitsExpression as fits;
-ghost use Rattle.mq_bind_expr.specs.Kinds as spec;
-ghost use Rattle.mq_bind_expr.specs.OperatorKinds as made;
+ghost use Rattle.mq_bind_scopes.specs.Kinds as spec;
+ghost use Rattle.mq_bind_scopes.specs.OperatorKinds as made;
 
 use crate::refusals::{limit, mismatch};
 use mq_ir::LIMIT_OF_SCALE;

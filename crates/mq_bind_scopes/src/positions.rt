@@ -2,7 +2,7 @@
 
 ghost use Rattle.std.specs.Prelude.{◌≡◌, IfOk, slice_get};
 ghost use Rattle.std.specs.Option.{option_copied};
-ghost use Rattle.mq_bind_expr.specs.Positions as spec;
+ghost use Rattle.mq_bind_scopes.specs.Positions as spec;
 
 use crate::kinds::ExprKind;
 use crate::names::reference_called;

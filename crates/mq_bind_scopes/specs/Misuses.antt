@@ -3,10 +3,10 @@ use Rattle.std.specs.Prelude.{ℕ, Bool, false, not, ◌&&◌, ◌||◌, ◌==�
 use Rattle.std.specs.Option.{option_map_or}
 use Rattle.mq_ir.specs.declared.query.ColRef.{ColRef}
 use Rattle.mq_ir.specs.Items.{is_grouped}
-use Rattle.mq_bind_expr.specs.declared.scopes.Owner.{Owner}
-use Rattle.mq_bind_expr.specs.declared.scopes.Position.{Position}
-use Rattle.mq_bind_expr.specs.declared.scopes.Scope.{Scope}
-use Rattle.mq_bind_expr.specs.Positions.{dims_of, is_grouping, is_left, is_rule, is_until}
+use Rattle.mq_bind_scopes.specs.declared.scopes.Owner.{Owner}
+use Rattle.mq_bind_scopes.specs.declared.scopes.Position.{Position}
+use Rattle.mq_bind_scopes.specs.declared.scopes.Scope.{Scope}
+use Rattle.mq_bind_scopes.specs.Positions.{dims_of, is_grouping, is_left, is_rule, is_until}
 
 -- in a grouped query, a column outside an aggregate that GROUP BY does not name
 abbrev pub is_ungrouped : Scope → Position → ColRef → Bool

@@ -1,7 +1,7 @@
 //! Offences as refusals.
 
 ghost use Rattle.std.specs.Prelude.{◌≡◌, IfOk};
-ghost use Rattle.mq_bind_expr.specs.Refusals as spec;
+ghost use Rattle.mq_bind_scopes.specs.Refusals as spec;
 
 use mq_values::{Fail, Memory, Refused, Words};
 

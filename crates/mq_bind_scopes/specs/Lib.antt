@@ -1,0 +1,10 @@
+pub mod ForSteps
+pub mod Heads
+pub mod Kinds
+pub mod Misuses
+pub mod Names
+pub mod OperatorKinds
+pub mod Options
+pub mod Positions
+pub mod Refusals
+pub mod SymbolicSides
