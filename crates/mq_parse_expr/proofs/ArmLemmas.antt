@@ -12,9 +12,9 @@ use Rattle.mq_ast.specs.Chains.{arm}
 use Rattle.mq_ast.specs.GrammarExpression.{Expr, Whens, whens_end, whens_more}
 use Rattle.mq_ast.specs.Laws.{begin, cut}
 use Rattle.mq_ast.specs.Laws.{whens_stop, expr_same}
-use Rattle.mq_parse_expr.specs.Reading.{from, Then, No}
-use Rattle.mq_parse_expr.specs.Fronts.{IsSome, SomeWhens}
-use Rattle.mq_parse_expr.specs.StepLemmas.{here, there, till, as_value, push, none}
+use Rattle.mq_parse_words.specs.Reading.{from, Then, No}
+use Rattle.mq_parse_words.specs.Fronts.{IsSome, SomeWhens}
+use Rattle.mq_parse_words.specs.StepLemmas.{here, there, till, as_value, push, none}
 
 -- the arms of a CASE
 whens_no_test : {ts : List Tok} → No Expr (Stops level.EXPRESSION) ts → No Whens (Ends (terminal.Word word.When)) (Word word.When ∷ ts)

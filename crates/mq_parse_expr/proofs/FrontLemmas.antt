@@ -22,17 +22,17 @@ use Rattle.mq_ast.specs.GrammarNames.{KindE}
 use Rattle.mq_ast.specs.GrammarExpression.{TestTail, tail_none, tail_null, tail_not_null, tail_present, tail_not_present, tail_any, prim_call, prim_cv, prim_cv_name}
 use Rattle.mq_ast.specs.Laws.{cut, none_some}
 use Rattle.mq_ast.specs.Laws.{kind_same}
-use Rattle.mq_parse_expr.specs.declared.forms.Form.{Form}
-use Rattle.mq_parse_expr.specs.declared.forms.Form.TheVariants as form
-use Rattle.mq_parse_expr.specs.declared.forms.Tail.{Tail}
-use Rattle.mq_parse_expr.specs.declared.forms.Tail.TheVariants as tail
-use Rattle.mq_parse_expr.specs.declared.forms.IsTest.{IsTest}
-use Rattle.mq_parse_expr.specs.declared.forms.IsTest.TheVariants as is
-use Rattle.mq_parse_expr.specs.Reading.{from, Then, No, Anywhere}
-use Rattle.mq_parse_expr.specs.Names.{IntE, int}
-use Rattle.mq_parse_expr.specs.Forms.{FormInside, TailInside, form_of_word, form_of, tail_of, IsClosed, IsLeaf}
-use Rattle.mq_parse_expr.specs.Fronts.{Behind, Since, is_front, HeadsAll, NoAll, NoCells, AsKind, as_kind, ToScale, to_scale, NullOrPresent, asks_null, asks_present, IsTestE, asks_any, asks, asks_not, judged}
-use Rattle.mq_parse_expr.specs.TokenLemmas.{next}
+use Rattle.mq_parse_words.specs.declared.forms.Form.{Form}
+use Rattle.mq_parse_words.specs.declared.forms.Form.TheVariants as form
+use Rattle.mq_parse_words.specs.declared.forms.Tail.{Tail}
+use Rattle.mq_parse_words.specs.declared.forms.Tail.TheVariants as tail
+use Rattle.mq_parse_words.specs.declared.forms.IsTest.{IsTest}
+use Rattle.mq_parse_words.specs.declared.forms.IsTest.TheVariants as is
+use Rattle.mq_parse_words.specs.Reading.{from, Then, No, Anywhere}
+use Rattle.mq_parse_words.specs.Names.{IntE, int}
+use Rattle.mq_parse_words.specs.Forms.{FormInside, TailInside, form_of_word, form_of, tail_of, IsClosed, IsLeaf}
+use Rattle.mq_parse_words.specs.Fronts.{Behind, Since, is_front, HeadsAll, NoAll, NoCells, AsKind, as_kind, ToScale, to_scale, NullOrPresent, asks_null, asks_present, IsTestE, asks_any, asks, asks_not, judged}
+use Rattle.mq_parse_words.specs.TokenLemmas.{next}
 
 -- what stands at the front of a form
 abbrev pub FormFront : Form → List Tok → Type 0

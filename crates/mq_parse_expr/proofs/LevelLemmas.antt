@@ -16,8 +16,8 @@ use Rattle.mq_ast.specs.Continuing.{loose, Stops, Not, Ends}
 use Rattle.mq_ast.specs.GrammarExpression.{Expr, MoreOr, AndE, MoreAnd, NotE, TestE, TestTail, Tuple, Exprs, MoreExprs, SumE, MoreSum, ProdE, MoreProd, SignE, PrimE, Brackets, MorePlaces, PlaceE, expr, or_end, or_more, and, and_end, and_more, not_plain, not_not, test, tail_none, tail_cmp, tail_between, tail_not_between, tail_in, tail_not_in, tuple, exprs, exprs_end, exprs_more, sum, sum_end, sum_more, prod, prod_end, prod_more, sign_plain, sign_minus, brackets, places_end, places_more, place_any, place_expr}
 use Rattle.mq_ast.specs.Laws.{begin, cut}
 use Rattle.mq_ast.specs.Laws.{begin_tail, or_stop, and_stop, tail_stop, sum_stop, prod_stop, exprs_stop, places_stop, prim_no_minus, test_no_not, expr_no_any, expr_same, and_same, not_same, sum_same, prod_same, sign_same, tuple_same, exprs_same, place_same, places_same}
-use Rattle.mq_parse_expr.specs.Reading.{No, Anywhere}
-use Rattle.mq_parse_expr.specs.Fronts.{Since, cmp_front, between_front, in_front, not_front}
+use Rattle.mq_parse_words.specs.Reading.{No, Anywhere}
+use Rattle.mq_parse_words.specs.Fronts.{Since, cmp_front, between_front, in_front, not_front}
 
 -- a primary expression alone, as the levels above it
 pub lone_prod : {a : E} {ts us : List Tok} → PrimE a ts us → ProdE a ts us

@@ -2,4 +2,3 @@ pub mod ArmLemmas
 pub mod FrontLemmas
 pub mod LevelLemmas
 pub mod PrimLemmas
-pub mod SpellingLemmas

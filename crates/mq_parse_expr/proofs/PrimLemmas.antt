@@ -29,11 +29,11 @@ use Rattle.mq_ast.specs.GrammarNames.{PathE, KindE, scale_of}
 use Rattle.mq_ast.specs.GrammarExpression.{Expr, Tuple, Brackets, CaseE, Whens, ElseE, tuple, exprs, exprs_end, exprs_more, case_none, case_some, else_none, else_some, PrimE, prim_num, prim_text, prim_null, prim_path, prim_cell, prim_round, prim_agg, prim_count, prim_range, prim_case, prim_cast, prim_call, prim_to, prim_cv, prim_cv_name, prim_turn, prim_previous, prim_presentv, prim_presentnnv}
 use Rattle.mq_ast.specs.Laws.{Same, begin, cut, none_some, one_call}
 use Rattle.mq_ast.specs.Laws.{brackets_front, brackets_stop, whens_front, else_stop, expr_no_star, name_ends, no_square, path_same, kind_same, stops_when, expr_same, tuple_same, brackets_same, case_same, whens_same, else_same, closed_same}
-use Rattle.mq_parse_expr.specs.declared.forms.Form.{Form}
-use Rattle.mq_parse_expr.specs.declared.forms.Form.TheVariants as form
-use Rattle.mq_parse_expr.specs.Reading.{No, Anywhere, Gives}
-use Rattle.mq_parse_expr.specs.Forms.{form_of_word, form_of, asked, called_by, called, IsClosed}
-use Rattle.mq_parse_expr.specs.Fronts.{Behind, RoundE, round, NoAll, NoCells, CellsOf, AsKind, as_kind, ToScale, to_scale, AtWhen, SomeWhens, ElseEnd}
+use Rattle.mq_parse_words.specs.declared.forms.Form.{Form}
+use Rattle.mq_parse_words.specs.declared.forms.Form.TheVariants as form
+use Rattle.mq_parse_words.specs.Reading.{No, Anywhere, Gives}
+use Rattle.mq_parse_words.specs.Forms.{form_of_word, form_of, asked, called_by, called, IsClosed}
+use Rattle.mq_parse_words.specs.Fronts.{Behind, RoundE, round, NoAll, NoCells, CellsOf, AsKind, as_kind, ToScale, to_scale, AtWhen, SomeWhens, ElseEnd}
 
 -- a primary expression begins with a form
 pub prim_form : {a : E} {ts to : List Tok} → PrimE a ts to → form.Other ≡ form_of (terminal_at ts) → ⊥

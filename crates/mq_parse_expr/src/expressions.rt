@@ -5,24 +5,22 @@ ghost use Rattle.mq_ast.specs.Tokens.{Aggregate, Word, terminal_at};
 ghost use Rattle.mq_ast.specs.declared.levels.TheConstants as level;
 ghost use Rattle.mq_ast.specs.Continuing.{Stops, Ends};
 ghost use Rattle.mq_ast.specs.GrammarExpression.{Expr, MoreOr, AndE, MoreAnd, NotE, TestE, TestTail, Tuple, Exprs, MoreExprs, SumE, MoreSum, ProdE, MoreProd, SignE, PrimE, Brackets, MorePlaces, PlaceE, CaseE};
-ghost use Rattle.mq_parse_expr.specs.Reading.{from, Anywhere, Gives};
-ghost use Rattle.mq_parse_expr.specs.Forms.{IsClosed, form_of as spec_form};
-ghost use Rattle.mq_parse_expr.specs.Fronts.{AtWhen, Behind, CellsOf, ElseEnd, RoundE, Since, SomeWhens, between_front, cmp_front, in_front, not_front};
+ghost use Rattle.mq_parse_words.specs.Reading.{from, Anywhere, Gives};
+ghost use Rattle.mq_parse_words.specs.Forms.{IsClosed, form_of as spec_form};
+ghost use Rattle.mq_parse_words.specs.Fronts.{AtWhen, Behind, CellsOf, ElseEnd, RoundE, Since, SomeWhens, between_front, cmp_front, in_front, not_front};
 
-use crate::forms::{AggHead, Form, Tail};
 use crate::fronts::{
     agg_head, form_at, prod_op, read_as_kind, read_is, read_leaf, read_lone, read_to_scale, sum_op,
     tail_at,
 };
-use crate::names::{read_path, scale_of};
-use crate::terminals::{behind_sign, behind_word, pass_sign, pass_word, settled};
-use crate::trees::{
-    Tree, aggregate, all_of, any_of, any_place, between, called, case, cast, cell, comparison,
-    counted, in_list, named, negation, place_of, product, put, put_arm, put_before, put_prod,
-    put_sum, range, rounded, signed, sum,
-};
 use mq_ast::{Arm, E, Keyword, Place, ProdTerm, SumTerm, Symbol, Terminal, levels};
 use mq_lexer::Token;
+use mq_parse_words::{
+    AggHead, Form, Tail, Tree, aggregate, all_of, any_of, any_place, behind_sign, behind_word,
+    between, called, case, cast, cell, comparison, counted, in_list, named, negation, pass_sign,
+    pass_word, place_of, product, put, put_arm, put_before, put_prod, put_sum, range, read_path,
+    rounded, scale_of, settled, signed, sum,
+};
 use mq_values::{Agg, Boxed, CmpOp, Fail, Items, Refused, SumOp, Words};
 use std::alloc::Global;
 

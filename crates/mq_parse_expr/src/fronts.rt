@@ -7,18 +7,17 @@ ghost use Rattle.mq_ast.specs.Tokens.{Tok, Word, Sign, closer, terminal_at};
 ghost use Rattle.mq_ast.specs.declared.levels.TheConstants as level;
 ghost use Rattle.mq_ast.specs.Continuing.{Stops, Not};
 ghost use Rattle.mq_ast.specs.GrammarExpression.{PrimE};
-ghost use Rattle.mq_parse_expr.specs.Reading.{from, Then, Anywhere, Gives};
-ghost use Rattle.mq_parse_expr.specs.Forms.{FormInside, IsLeaf, TailInside, form_of as spec_form, tail_of as spec_tail};
-ghost use Rattle.mq_parse_expr.specs.Fronts.{AsKind, Behind, Heads, HeadsAll, HeadsCells, NoAll, NoCells, IsTestE, NullOrPresent, Since, ToScale, is_front};
+ghost use Rattle.mq_parse_words.specs.Reading.{from, Then, Anywhere, Gives};
+ghost use Rattle.mq_parse_words.specs.Forms.{FormInside, IsLeaf, TailInside, form_of as spec_form, tail_of as spec_tail};
+ghost use Rattle.mq_parse_words.specs.Fronts.{AsKind, Behind, Heads, HeadsAll, HeadsCells, NoAll, NoCells, IsTestE, NullOrPresent, Since, ToScale, is_front};
 
-use crate::forms::{AggHead, Form, IsTest, Tail, form_of, tail_of};
-use crate::names::{name_at, number_at, read_int, read_kind, read_name, text_at};
-use crate::terminals::{
-    behind_sign, behind_word, pass_sign, pass_word, settled, sign_at, stops, terminal,
-};
-use crate::trees::{Tree, column, judged, number};
 use mq_ast::{E, Keyword, Symbol, Terminal, levels};
 use mq_lexer::Token;
+use mq_parse_words::{
+    AggHead, Form, IsTest, Tail, Tree, behind_sign, behind_word, column, form_of, judged, name_at,
+    number, number_at, pass_sign, pass_word, read_int, read_kind, read_name, settled, sign_at,
+    stops, tail_of, terminal, text_at,
+};
 use mq_values::{Agg, Boxed, Fail, Kind, Memory, Num, ProdOp, Refused, SumOp, Value};
 use std::alloc::Global;
 
@@ -39,7 +38,7 @@ pub(crate) fn tail_at(t: &[Token<'_>], at: usize) -> Tail
 }
 
 /// The sign with which a sum goes on at a place.
-#[tactic(auto, using(crate::specs::TokenLemmas::sign_next))]
+#[tactic(auto, using(mq_parse_words::specs::TokenLemmas::sign_next))]
 pub(crate) fn sum_op(t: &[Token<'_>], at: usize) -> Option<SumOp>
     ensures { MatchOption result ((op : SumOp) → Not (Terminal.Sign (Symbol.Sum op)) (from t.now at)) (λ op. Then (Sign (Symbol.Sum op)) t.now at (at + 1)) }
 {
@@ -50,7 +49,7 @@ pub(crate) fn sum_op(t: &[Token<'_>], at: usize) -> Option<SumOp>
 }
 
 /// The sign with which a product goes on at a place.
-#[tactic(auto, using(crate::specs::TokenLemmas::sign_next))]
+#[tactic(auto, using(mq_parse_words::specs::TokenLemmas::sign_next))]
 pub(crate) fn prod_op(t: &[Token<'_>], at: usize) -> Option<ProdOp>
     ensures { MatchOption result ((op : ProdOp) → Not (Terminal.Sign (Symbol.Prod op)) (from t.now at)) (λ op. Then (Sign (Symbol.Prod op)) t.now at (at + 1)) }
 {

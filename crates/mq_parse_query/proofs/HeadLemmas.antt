@@ -14,9 +14,9 @@ use Rattle.mq_ast.specs.Prelude.{terminal_at, until_none, until_some}
 use Rattle.mq_ast.specs.Laws.{auto_past, auto_same, begin, cut, expr_same, int_same, iterate_past, iterate_same, maybe_mode_same}
 use Rattle.mq_ast.specs.Laws.{opens_past}
 use Rattle.mq_parse_query.specs.Pieces.{AutoEnd, Iterates, Ruling, auto_end}
-use Rattle.mq_parse_expr.specs.Reading.{No, Anywhere}
-use Rattle.mq_parse_expr.specs.Names.{IntE, int}
-use Rattle.mq_parse_expr.specs.Fronts.{RoundE, round}
+use Rattle.mq_parse_words.specs.Reading.{No, Anywhere}
+use Rattle.mq_parse_words.specs.Names.{IntE, int}
+use Rattle.mq_parse_words.specs.Fronts.{RoundE, round}
 
 -- the order of the rules
 pub auto_no_order : {b : Bool} {ts : List Tok} → Not (terminal.Word word.Order) ts → No (AutoEnd b) (Past clause.ORDER) ts

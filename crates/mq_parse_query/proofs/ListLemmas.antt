@@ -8,8 +8,8 @@ use Rattle.mq_ast.specs.Prelude.{EndsList, ManyOf, MoreOf, OneTree, SomeOf, Tok,
 use Rattle.mq_ast.specs.Prelude.{some_of}
 use Rattle.mq_ast.specs.Laws.{begin}
 use Rattle.mq_parse_query.specs.Lists.{Turns}
-use Rattle.mq_parse_expr.specs.Reading.{from, No, Fails}
-use Rattle.mq_parse_expr.specs.StepLemmas.{SoFar, as_value, exit, push}
+use Rattle.mq_parse_words.specs.Reading.{from, No, Fails}
+use Rattle.mq_parse_words.specs.StepLemmas.{SoFar, as_value, exit, push}
 
 module _ {A : Type 0} (R : A → List Tok → List Tok → Type 0) (Stop : List Tok → Type 0) (one : OneTree R Stop) (before_comma : (ts : List Tok) → Stop (comma ∷ ts)) where
   more_stop : {xs : List A} {from to : List Tok} → MoreOf R xs from to → EndsList Stop to → Stop from

@@ -17,10 +17,10 @@ use Rattle.mq_ast.specs.Prelude.{Tok, WhichE, Word, axes, dims, main_none, main_
 use Rattle.mq_ast.specs.Prelude.{opt_keep, opt_unique, part, parts_none, parts_some, ref_source, reference, return_none}
 use Rattle.mq_ast.specs.Prelude.{return_rows, terminal_at, which_all, which_updated}
 use Rattle.mq_ast.specs.Laws.{axes_same, begin, cols_same, cut, dims_same, ref_source_same, refs_past, which_same}
-use Rattle.mq_parse_expr.specs.StepLemmas.{till}
+use Rattle.mq_parse_words.specs.StepLemmas.{till}
 use Rattle.mq_parse_query.specs.Pieces.{PlainEnd, Refers, Returns, first_word, option_of, second_word}
-use Rattle.mq_parse_expr.specs.Reading.{from, Then, No, Anywhere}
-use Rattle.mq_parse_expr.specs.TokenLemmas.{word_next}
+use Rattle.mq_parse_words.specs.Reading.{from, Then, No, Anywhere}
+use Rattle.mq_parse_words.specs.TokenLemmas.{word_next}
 
 -- options
 option_past : (x : Terminal) → option_of x ≡ None → clause.OPTION < part x

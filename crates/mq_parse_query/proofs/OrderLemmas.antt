@@ -6,7 +6,7 @@ use Rattle.mq_lexer.specs.declared.keywords.Keyword.TheVariants as word
 use Rattle.mq_ast.specs.Prelude.{DirectionE, EndsKey, EndsList, EndsOrder, KeyE, NameE, Not, OrderE, SomeOf, Tok, Word, direction_asc}
 use Rattle.mq_ast.specs.Prelude.{direction_none, key, key_of, name, order_none, order_some}
 use Rattle.mq_ast.specs.Laws.{keys_same}
-use Rattle.mq_parse_expr.specs.Reading.{No, Anywhere}
+use Rattle.mq_parse_words.specs.Reading.{No, Anywhere}
 
 -- [ASC | DESC]
 pub direction_no_asc : {ts : List Tok} → (EndsKey ts → ⊥) → No DirectionE EndsKey (Word word.Asc ∷ ts)

@@ -16,7 +16,7 @@ use Rattle.mq_ast.specs.Prelude.{front_comma, front_cross, front_inner, front_jo
 use Rattle.mq_ast.specs.Prelude.{many_end, many_more, name, on_item, opener, sel, terminal_at}
 use Rattle.mq_ast.specs.Laws.{alias_stop, begin, cut, expr_same, item_same, joins_stop, sels_same}
 use Rattle.mq_parse_query.specs.Pieces.{JoinFront, Leads, SomeName, TableE, front_word, some_name}
-use Rattle.mq_parse_expr.specs.Reading.{Then, No, Anywhere}
+use Rattle.mq_parse_words.specs.Reading.{Then, No, Anywhere}
 
 -- [AS] name
 pub some_no_name : {ts : List Tok} → No NameE Anywhere ts → No SomeName (Stops level.ITEM) ts

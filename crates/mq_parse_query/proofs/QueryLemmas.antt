@@ -20,7 +20,7 @@ use Rattle.mq_ast.specs.Laws.{axes_past, begin, end_stop, ends_keys, head_past, 
 use Rattle.mq_ast.specs.Laws.{model_front_same, model_same, no_order, opts_same, order_no_model, order_same, parts_past, parts_same}
 use Rattle.mq_ast.specs.Laws.{plain_same, refs_past, return_past, return_same, rules_open}
 use Rattle.mq_parse_query.specs.Pieces.{Modelling}
-use Rattle.mq_parse_expr.specs.Reading.{No, Anywhere}
+use Rattle.mq_parse_words.specs.Reading.{No, Anywhere}
 
 -- {opt} [RETURN ..] {ref}
 pub front_no_opts : {ts : List Tok} → No (ManyOf OptE) (Past clause.OPTION) ts → No FrontE (Past clause.REFERENCE) ts

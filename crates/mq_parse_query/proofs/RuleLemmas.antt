@@ -25,8 +25,8 @@ use Rattle.mq_ast.specs.Laws.{Same, begin, cut, down_stop, expr_no_any, expr_no_
 use Rattle.mq_ast.specs.Laws.{maybe_mode_same, names_same, order_same, plain_front, plain_same, range_no_in, rows_same, rule_front_same}
 use Rattle.mq_ast.specs.Laws.{some_same, start_same, values_same}
 use Rattle.mq_parse_query.specs.Pieces.{Closed, ForOpen, ForPlace, LeftEnd, LeftTuples, NoForOpen, PlainEnd, Upserts}
-use Rattle.mq_parse_expr.specs.Reading.{from, Then, No, Anywhere}
-use Rattle.mq_parse_expr.specs.StepLemmas.{till}
+use Rattle.mq_parse_words.specs.Reading.{from, Then, No, Anywhere}
+use Rattle.mq_parse_words.specs.StepLemmas.{till}
 
 -- lists with a closing sign
 module _ {A : Type 0} (R : A → List Tok → List Tok → Type 0) (Stop : List Tok → Type 0) (k : Symbol) (closes : (ts : List Tok) → EndsList Stop (Sign k ∷ ts)) where

@@ -14,7 +14,7 @@ use Rattle.mq_ast.specs.Prelude.{Word, group_none, group_some, loose, plain, sho
 use Rattle.mq_ast.specs.Prelude.{where_none, where_some}
 use Rattle.mq_ast.specs.Laws.{begin, ends_paths, expr_same, from_same, group_stop, paths_same, sels_no_star, sels_same, shown_same}
 use Rattle.mq_ast.specs.Laws.{where_same, where_stop}
-use Rattle.mq_parse_expr.specs.Reading.{No, Anywhere}
+use Rattle.mq_parse_words.specs.Reading.{No, Anywhere}
 
 -- [WHERE e]
 pub where_no_where : {ts : List Tok} → Not (terminal.Word word.Where) ts → loose (terminal_at ts) ≤ level.FILTERED → No WhereE (Stops level.FILTERED) ts

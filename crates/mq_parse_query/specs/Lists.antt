@@ -4,7 +4,7 @@ use Rattle.mq_values.specs.declared.memory.Fail.{Fail}
 use Rattle.mq_values.specs.declared.faults.Refused.{Refused}
 use Rattle.mq_lexer.specs.declared.sorts.Token.{Token}
 use Rattle.mq_ast.specs.Prelude.{ManyOf, Tok}
-use Rattle.mq_parse_expr.specs.Reading.{from, No, Fails}
+use Rattle.mq_parse_words.specs.Reading.{from, No, Fails}
 
 -- The next of parts that stand one behind the other: none where the last has ended; SYNTAX where the tokens from here on are none
 -- of them up to such an end.

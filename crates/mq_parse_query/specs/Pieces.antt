@@ -20,7 +20,7 @@ use Rattle.mq_ast.specs.declared.terminals.Terminal.TheVariants as terminal
 use Rattle.mq_lexer.specs.declared.keywords.Keyword.TheVariants as word
 use Rattle.mq_ast.specs.Prelude.{HeadE, ItemE, IterateE, LeftE, LitE, MaybeMode, ModelE, Name, PlainE, RefE, ReturnE, SomeOf, Tok, Word}
 use Rattle.mq_ast.specs.Prelude.{close_square, closer, item_of, opener, terminal_at}
-use Rattle.mq_parse_expr.specs.Reading.{from}
+use Rattle.mq_parse_words.specs.Reading.{from}
 
 -- a {',' a} and this token
 abbrev pub Closed : {A : Type 0} → Tok → (A → List Tok → List Tok → Type 0) → List A → List Tok → List Tok → Type 0

@@ -4,12 +4,13 @@ ghost use Rattle.std.specs.Prelude.{◌≡◌, ◌≤◌, length};
 ghost use Rattle.mq_ast.specs.declared.levels.TheConstants as level;
 ghost use Rattle.mq_ast.specs.Prelude.{AliasE, Cols, EndsList, SelE, SomeOf, Stops, sel_of};
 ghost use Rattle.mq_parse_query.specs.Pieces.{SomeName};
-ghost use Rattle.mq_parse_expr.specs.Reading.{Anywhere, Gives};
+ghost use Rattle.mq_parse_words.specs.Reading.{Anywhere, Gives};
 
 use crate::lists::{Listed, read_list};
 use mq_ast::{Keyword, Sel, Symbol, levels};
 use mq_lexer::Token;
-use mq_parse_expr::{Tree, behind_word, name_at, pass_sign, read_name, read_tree, settled};
+use mq_parse_expr::read_tree;
+use mq_parse_words::{Tree, behind_word, name_at, pass_sign, read_name, settled};
 use mq_values::{Fail, Items, Refused, Words};
 use std::alloc::Global;
 

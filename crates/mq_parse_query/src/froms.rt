@@ -4,15 +4,14 @@ ghost use Rattle.std.specs.Prelude.{◌≡◌, ◌≤◌, List, Some, None, leng
 ghost use Rattle.mq_ast.specs.declared.levels.TheConstants as level;
 ghost use Rattle.mq_ast.specs.Prelude.{BareFront, ConditionE, FromE, ItemE, OnE, OnFront, Stops, Tok, item_of};
 ghost use Rattle.mq_parse_query.specs.Pieces.{JoinFront, Leads, TableE};
-ghost use Rattle.mq_parse_expr.specs.Reading.{Gives, from};
+ghost use Rattle.mq_parse_words.specs.Reading.{Gives, from};
 
 use crate::columns::read_alias;
 use crate::lists::{Repeated, read_many};
 use mq_ast::{FromItem, Keyword, Symbol, levels};
 use mq_lexer::Token;
-use mq_parse_expr::{
-    Tree, behind_sign, behind_word, pass_word, put_before, read_name, read_tree, settled,
-};
+use mq_parse_expr::read_tree;
+use mq_parse_words::{Tree, behind_sign, behind_word, pass_word, put_before, read_name, settled};
 use mq_values::{Boxed, Fail, Items, Memory, Refused, Words};
 use std::alloc::Global;
 

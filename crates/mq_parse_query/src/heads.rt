@@ -8,7 +8,7 @@ ghost use Rattle.mq_ast.specs.Prelude.{ReturnE, RoundInt, UntilE, WhichE, Word, 
 ghost use Rattle.mq_ast.specs.Laws.{opt_not_past, opt_same, ref_not_past, ref_past, ref_same};
 ghost use Rattle.mq_parse_query.specs.Pieces.{AutoEnd, Iterates, Refers, Returns, Ruling, first_word, option_of as spec_option};
 ghost use Rattle.mq_parse_query.specs.Pieces.{second_word as spec_second};
-ghost use Rattle.mq_parse_expr.specs.Reading.{Anywhere, Gives, Then, from};
+ghost use Rattle.mq_parse_words.specs.Reading.{Anywhere, Gives, Then, from};
 ghost use Rattle.mq_parse_query.specs.Lists as lists;
 
 use crate::columns::read_cols;
@@ -19,9 +19,8 @@ use crate::rules::{past, read_mode};
 use mq_ast::parts::Head;
 use mq_ast::{Keyword, Opt, Plain, RefTree, Sel, Symbol, Terminal, clauses};
 use mq_lexer::Token;
-use mq_parse_expr::{
-    Tree, behind_word, pass_sign, pass_word, read_int, read_name, read_round_tree, terminal,
-};
+use mq_parse_expr::read_round_tree;
+use mq_parse_words::{Tree, behind_word, pass_sign, pass_word, read_int, read_name, terminal};
 use mq_values::{Boxed, Fail, Items, Memory, Mode, Num, Refused, Words};
 use std::alloc::Global;
 

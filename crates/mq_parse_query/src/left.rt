@@ -1,7 +1,7 @@
 //! The left sides of rules (docs/LANGUAGE.md, "The MODEL clause").
 
 ghost use Rattle.std.specs.Prelude.{◌≡◌, ◌≤◌, ◌∷◌, [], List, length, IfOk, MatchOption};
-ghost use Rattle.mq_parse_expr.specs.Reading.{Anywhere, Gives, from};
+ghost use Rattle.mq_parse_words.specs.Reading.{Anywhere, Gives, from};
 ghost use Rattle.std.proofs.Common.{arith};
 ghost use Rattle.mq_ast.specs.declared.levels.TheConstants as level;
 ghost use Rattle.mq_ast.specs.Prelude.{AloneE, DownE, EndsList, FinishE, ForListE, LitE, NameE, RangeE, Sign, StartE, Stops, Tok, Tuple};
@@ -15,9 +15,9 @@ use crate::plain::read_plain;
 use mq_ast::parts::Range;
 use mq_ast::{E, ForList, Keyword, LeftPlace, LeftTree, Plain, Symbol, levels};
 use mq_lexer::Token;
-use mq_parse_expr::{
-    Tree, behind_sign, behind_word, pass_sign, pass_word, put, read_name, read_tree, read_tuple,
-    settled,
+use mq_parse_expr::{read_tree, read_tuple};
+use mq_parse_words::{
+    Tree, behind_sign, behind_word, pass_sign, pass_word, put, read_name, settled,
 };
 use mq_values::{Boxed, Fail, Items, Memory, Refused, Words};
 use std::alloc::Global;

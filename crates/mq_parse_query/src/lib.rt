@@ -1,6 +1,6 @@
 //! From the tokens of a query to its tree.
 //! Tokens and a place go in. Out come the tree that reads the tokens from there and the place behind it, or SYNTAX.
-//! Each reader gives what the grammar of mq_ast's `specs/` says, in the words of mq_parse_expr's `specs/Reading.antt`.
+//! Each reader gives what the grammar of mq_ast's `specs/` says, in the words of mq_parse_words's `specs/Reading.antt`.
 #![tactic(auto)]
 
 mod columns;

@@ -3,11 +3,11 @@
 ghost use Rattle.std.specs.Prelude.{◌≡◌, ◌<◌, ◌≤◌, ℕ, List, ◌∷◌, length};
 ghost use Rattle.mq_ast.specs.Prelude.{EndsList, ManyOf, MoreOf, OneTree, SomeOf, Tok, comma};
 ghost use Rattle.mq_parse_query.specs.Lists.{Turns};
-ghost use Rattle.mq_parse_expr.specs.Reading.{Gives, from};
+ghost use Rattle.mq_parse_words.specs.Reading.{Gives, from};
 
 use mq_ast::Symbol;
 use mq_lexer::Token;
-use mq_parse_expr::{behind_sign, put};
+use mq_parse_words::{behind_sign, put};
 use mq_values::{Boxed, Fail, Items, Refused};
 use std::alloc::Global;
 

@@ -4,7 +4,7 @@ ghost use Rattle.std.specs.Prelude.{◌≡◌, ◌≤◌, length, IfOk};
 ghost use Rattle.mq_ast.specs.declared.clauses.TheConstants as clause;
 ghost use Rattle.mq_ast.specs.Prelude.{BodyE, FrontE, ModelE, Past, TailE, model_of};
 ghost use Rattle.mq_parse_query.specs.Pieces.{Modelling, tail_of};
-ghost use Rattle.mq_parse_expr.specs.Reading.{Anywhere, Gives};
+ghost use Rattle.mq_parse_words.specs.Reading.{Anywhere, Gives};
 
 use crate::heads::{read_axes, read_head, read_main, read_parts, read_return};
 use crate::lists::read_many;
@@ -12,7 +12,7 @@ use crate::rules::read_rules;
 use mq_ast::parts::{Body, Front, Head, Tail};
 use mq_ast::{Keyword, ModelTree, Opt, RefTree, RuleTree, Sel};
 use mq_lexer::Token;
-use mq_parse_expr::behind_word;
+use mq_parse_words::behind_word;
 use mq_values::{Boxed, Fail, Items, Memory, Refused};
 use std::alloc::Global;
 

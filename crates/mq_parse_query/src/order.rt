@@ -2,12 +2,12 @@
 
 ghost use Rattle.std.specs.Prelude.{◌≡◌, ◌≢◌, ◌≤◌, length, MatchResult};
 ghost use Rattle.mq_ast.specs.Prelude.{DirectionE, EndsKey, EndsOrder, OrderE, key_of};
-ghost use Rattle.mq_parse_expr.specs.Reading.{Fails, Gives, from};
+ghost use Rattle.mq_parse_words.specs.Reading.{Fails, Gives, from};
 
 use crate::lists::{Listed, read_list};
 use mq_ast::{Keyword, OrderKey, Symbol};
 use mq_lexer::Token;
-use mq_parse_expr::{behind_sign, behind_word, pass_word, read_name};
+use mq_parse_words::{behind_sign, behind_word, pass_word, read_name};
 use mq_values::{Fail, Items, Refused, Words};
 use std::alloc::Global;
 

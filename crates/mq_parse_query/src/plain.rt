@@ -3,7 +3,7 @@
 ghost use Rattle.std.specs.Prelude.{◌≡◌, ◌≤◌, true, false, [], length, IfOk};
 ghost use Rattle.mq_ast.specs.declared.levels.TheConstants as level;
 ghost use Rattle.mq_ast.specs.Prelude.{GroupE, PlainE, ShownE, SourceE, Stops, WhereE, plain_of, shown_of, source_of};
-ghost use Rattle.mq_parse_expr.specs.Reading.{Anywhere, Gives};
+ghost use Rattle.mq_parse_words.specs.Reading.{Anywhere, Gives};
 
 use crate::columns::read_sels;
 use crate::froms::read_from;
@@ -12,7 +12,8 @@ use crate::lists::{Listed, read_list};
 use mq_ast::parts::{Shown, Source};
 use mq_ast::{E, FromItem, Keyword, Path, Plain, Sel, Symbol, levels};
 use mq_lexer::Token;
-use mq_parse_expr::{Tree, behind_sign, behind_word, pass_word, read_path, read_tree, settled};
+use mq_parse_expr::read_tree;
+use mq_parse_words::{Tree, behind_sign, behind_word, pass_word, read_path, settled};
 use mq_values::{Boxed, Fail, Items, Memory, ProdOp, Refused};
 use std::alloc::Global;
 

@@ -3,7 +3,7 @@
 ghost use Rattle.std.specs.Prelude.{◌≡◌, ◌≤◌, length};
 ghost use Rattle.mq_ast.specs.declared.levels.TheConstants as level;
 ghost use Rattle.mq_ast.specs.Prelude.{EndE, OrderE, QueryE, Stops, query_of};
-ghost use Rattle.mq_parse_expr.specs.Reading.{Gives};
+ghost use Rattle.mq_parse_words.specs.Reading.{Gives};
 
 use crate::heap::inner;
 use crate::model::read_model;
@@ -11,7 +11,7 @@ use crate::order::read_order;
 use crate::plain::read_plain;
 use mq_ast::{Keyword, ModelTree, OrderKey, Plain, Query, levels};
 use mq_lexer::Token;
-use mq_parse_expr::{behind_word, settled};
+use mq_parse_words::{behind_word, settled};
 use mq_values::{Boxed, Fail, Items, Refused};
 use std::alloc::Global;
 

@@ -1,7 +1,7 @@
 //! The rules of a MODEL clause (docs/LANGUAGE.md, "The MODEL clause").
 
 ghost use Rattle.std.specs.Prelude.{◌≡◌, ◌≤◌, ◌<◌, length, MatchResult};
-ghost use Rattle.mq_parse_expr.specs.Reading.{Anywhere, Fails, Gives, from};
+ghost use Rattle.mq_parse_words.specs.Reading.{Anywhere, Fails, Gives, from};
 ghost use Rattle.std.proofs.Common.{arith};
 ghost use Rattle.mq_ast.specs.declared.clauses.TheConstants as clause;
 ghost use Rattle.mq_ast.specs.declared.levels.TheConstants as level;
@@ -14,9 +14,8 @@ use crate::lists::Listed;
 use crate::order::read_order;
 use mq_ast::{Keyword, LeftTree, OrderKey, RuleTree, Symbol, Terminal, clauses};
 use mq_lexer::Token;
-use mq_parse_expr::{
-    Tree, behind_sign, behind_word, pass_sign, read_name, read_tree, terminal, token_at,
-};
+use mq_parse_expr::read_tree;
+use mq_parse_words::{Tree, behind_sign, behind_word, pass_sign, read_name, terminal, token_at};
 use mq_values::{Boxed, CmpOp, Fail, Items, Mode, Refused, Words};
 use std::alloc::Global;
 

@@ -7,9 +7,9 @@ use Rattle.mq_lexer.specs.declared.keywords.Keyword.{Keyword}
 use Rattle.mq_ast.specs.declared.levels.TheConstants as level
 use Rattle.mq_ast.specs.Prelude.{EndsList, NameE, QueryE, SomeOf, Stops, Tok, Tuple, WhereE}
 use Rattle.mq_ast.specs.Laws.{Whatever, name_same, query_same, tuples_same, where_same}
-use Rattle.mq_parse_expr.specs.Names.{TextE, txt}
-use Rattle.mq_parse_expr.specs.Reading.{from, Anywhere, Fails, Gives}
-use Rattle.mq_parse_expr.specs.StepLemmas.{exit, till, as_value}
+use Rattle.mq_parse_words.specs.Names.{TextE, txt}
+use Rattle.mq_parse_words.specs.Reading.{from, Anywhere, Fails, Gives}
+use Rattle.mq_parse_words.specs.StepLemmas.{exit, till, as_value}
 use Rattle.mq_parse_stmt.specs.Pieces.{Body, Changes, WordName}
 use Rattle.mq_parse_stmt.specs.Results.{Ended}
 use Rattle.mq_parse_stmt.proofs.PieceLemmas.{body_same, changes_same, word_named}

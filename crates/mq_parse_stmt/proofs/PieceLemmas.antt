@@ -19,9 +19,9 @@ use Rattle.mq_ast.specs.Prelude.{names, names_none, names_some, null_may, null_n
 use Rattle.mq_ast.specs.Prelude.{terminal_at}
 use Rattle.mq_ast.specs.Laws.{begin, col_same, cols_of_same, kind_same, names_of_same, names_same, primary_ends, primary_same}
 use Rattle.mq_ast.specs.Laws.{sets_same, stops_not, where_same, where_stop}
-use Rattle.mq_parse_expr.specs.Names.{TextE, txt}
-use Rattle.mq_parse_expr.specs.Reading.{from, No, Anywhere, Gives}
-use Rattle.mq_parse_expr.specs.StepLemmas.{exit}
+use Rattle.mq_parse_words.specs.Names.{TextE, txt}
+use Rattle.mq_parse_words.specs.Reading.{from, No, Anywhere, Gives}
+use Rattle.mq_parse_words.specs.StepLemmas.{exit}
 use Rattle.mq_parse_stmt.specs.Results.{beside}
 use Rattle.mq_parse_stmt.specs.Pieces.{WordName, word_name, KeyEnd, KeyBehind, Body, body, NamesValues, Changes, changes}
 

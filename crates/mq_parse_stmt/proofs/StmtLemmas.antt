@@ -16,9 +16,9 @@ use Rattle.mq_ast.specs.Prelude.{Name, NameE, Not, QueryE, SomeOf, StmtE, Tok, T
 use Rattle.mq_ast.specs.Prelude.{stmt_create_table, stmt_create_view, stmt_delete, stmt_drop_table, stmt_drop_view, stmt_insert}
 use Rattle.mq_ast.specs.Prelude.{stmt_load, stmt_query, stmt_show, stmt_update}
 use Rattle.mq_ast.specs.Laws.{begin, maybe_names_same}
-use Rattle.mq_parse_expr.specs.Names.{TextE, txt}
-use Rattle.mq_parse_expr.specs.Reading.{No, Anywhere, Fails}
-use Rattle.mq_parse_expr.specs.StepLemmas.{exit}
+use Rattle.mq_parse_words.specs.Names.{TextE, txt}
+use Rattle.mq_parse_words.specs.Reading.{No, Anywhere, Fails}
+use Rattle.mq_parse_words.specs.StepLemmas.{exit}
 use Rattle.mq_parse_stmt.specs.Depth.{TooDeep}
 use Rattle.mq_parse_stmt.specs.Parsing.{NoStmt, Whole, Parses}
 use Rattle.mq_parse_stmt.specs.Pieces.{WordName, word_name, Body, body, NamesValues, Changes, changes}

@@ -6,7 +6,7 @@ use Rattle.mq_values.specs.declared.faults.Refused.{Refused}
 use Rattle.mq_values.specs.declared.faults.Refused.TheVariants as refused
 use Rattle.mq_ast.specs.declared.statements.Stmt.{Stmt}
 use Rattle.mq_ast.specs.Prelude.{StmtE, Tok}
-use Rattle.mq_parse_expr.specs.Reading.{Fails}
+use Rattle.mq_parse_words.specs.Reading.{Fails}
 use Rattle.mq_parse_stmt.specs.Depth.{TooDeep}
 
 -- no statement reads these tokens

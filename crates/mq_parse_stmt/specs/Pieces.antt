@@ -9,7 +9,7 @@ use Rattle.mq_ast.specs.declared.terminals.Terminal.TheVariants as terminal
 use Rattle.mq_lexer.specs.declared.sorts.Token.{Token}
 use Rattle.mq_ast.specs.Prelude.{ColE, MaybeNames, Name, Not, PrimaryE, SetE, SomeOf, Tok, WhereE, Word, closer, comma, opener}
 use Rattle.mq_ast.specs.Prelude.{rest_of, terminal_at}
-use Rattle.mq_parse_expr.specs.Reading.{from, Then}
+use Rattle.mq_parse_words.specs.Reading.{from, Then}
 
 -- this word and the name behind it
 pub data WordName : Keyword → List ℕ → List Tok → List Tok → Type 0 where

@@ -3,7 +3,7 @@ use Rattle.std.specs.Prelude.{◌≡◌, ◌≢◌, ℕ, List, [], Result, Ok, E
 use Rattle.mq_values.specs.declared.memory.Fail.{Fail}
 use Rattle.mq_values.specs.declared.faults.Refused.{Refused}
 use Rattle.mq_lexer.specs.declared.sorts.Token.{Token}
-use Rattle.mq_parse_expr.specs.Reading.{from, Fails}
+use Rattle.mq_parse_words.specs.Reading.{from, Fails}
 
 -- What was read, and it ends behind the last token. SYNTAX: it ends before. What was refused stays refused.
 abbrev pub Ended : {A : Type 0} → List Token → Result (A × ℕ) (Fail Refused) → Result A (Fail Refused) → Type 0

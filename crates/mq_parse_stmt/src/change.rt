@@ -4,15 +4,16 @@ ghost use Rattle.std.specs.Prelude.{◌≡◌, ◌≢◌, ◌≤◌, ◌<◌, Li
 ghost use Rattle.mq_ast.specs.declared.levels.TheConstants as level;
 ghost use Rattle.mq_ast.specs.Prelude.{SetE, Stops, Word};
 ghost use Rattle.mq_ast.specs.Laws.{set_same};
-ghost use Rattle.mq_parse_expr.specs.Reading.{from, Anywhere, Gives};
+ghost use Rattle.mq_parse_words.specs.Reading.{from, Anywhere, Gives};
 ghost use Rattle.mq_parse_stmt.specs.Pieces.{NamesValues, Changes};
 ghost use Rattle.mq_parse_stmt.specs.Parsing.{Whole};
 
 use crate::pieces::{beside, last, read_names, read_word_name};
 use mq_ast::{E, Keyword, Stmt, Symbol};
 use mq_lexer::Token;
-use mq_parse_expr::{behind_word, pass_sign, pass_word, read_expr, read_name, read_text};
+use mq_parse_expr::read_expr;
 use mq_parse_query::{Listed, Row, read_list, read_where};
+use mq_parse_words::{behind_word, pass_sign, pass_word, read_name, read_text};
 use mq_values::{CmpOp, Fail, Items, Refused, Words};
 use std::alloc::Global;
 

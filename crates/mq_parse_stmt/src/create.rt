@@ -3,17 +3,17 @@
 ghost use Rattle.std.specs.Prelude.{◌≡◌, ◌≢◌, ◌≤◌, List, ◌∷◌, length};
 ghost use Rattle.mq_ast.specs.declared.levels.TheConstants as level;
 ghost use Rattle.mq_ast.specs.Prelude.{ColE, EndsCols, MoreOf, Not, NotNullE, SomeOf, Stops, Word, col_of};
-ghost use Rattle.mq_parse_expr.specs.Reading.{from, Anywhere, Gives};
+ghost use Rattle.mq_parse_words.specs.Reading.{from, Anywhere, Gives};
 ghost use Rattle.mq_parse_stmt.specs.Pieces.{Body, KeyEnd, KeyBehind, NextCol};
 ghost use Rattle.mq_parse_stmt.specs.Parsing.{Whole};
 
 use crate::pieces::{beside, last, read_names, read_word_name};
 use mq_ast::{ColDef, Keyword, Stmt, Symbol, Terminal, levels};
 use mq_lexer::Token;
-use mq_parse_expr::{
+use mq_parse_query::read_query;
+use mq_parse_words::{
     behind_sign, behind_word, pass_sign, pass_word, read_kind, read_name, settled,
 };
-use mq_parse_query::read_query;
 use mq_values::{Fail, Items, Kind, Refused, Words};
 use std::alloc::Global;
 

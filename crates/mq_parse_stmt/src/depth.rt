@@ -1,12 +1,12 @@
 //! How deep a statement is (docs/LANGUAGE.md, "The whole language").
 
 ghost use Rattle.std.specs.Prelude.{◌≡◌, ◌↔◌, IsTrue};
-ghost use Rattle.mq_parse_expr.specs.Reading.{from};
+ghost use Rattle.mq_parse_words.specs.Reading.{from};
 ghost use Rattle.mq_parse_stmt.specs.Depth.{TooDeep, opens as spec_opens, closes as spec_closes};
 
 use mq_ast::{Keyword, Symbol, Terminal};
 use mq_lexer::Token;
-use mq_parse_expr::{terminal_of, token_at};
+use mq_parse_words::{terminal_of, token_at};
 use mq_values::MAX_DEPTH;
 
 /// Whether among some first tokens more levels than may be are opened and not closed.

@@ -2,14 +2,14 @@
 
 ghost use Rattle.std.specs.Prelude.{◌≡◌};
 ghost use Rattle.mq_ast.specs.Prelude.{NamesE};
-ghost use Rattle.mq_parse_expr.specs.Reading.{Anywhere, Gives};
+ghost use Rattle.mq_parse_words.specs.Reading.{Anywhere, Gives};
 ghost use Rattle.mq_parse_stmt.specs.Pieces.{WordName};
 ghost use Rattle.mq_parse_stmt.specs.Results.{Ended, beside as spec_beside};
 
 use mq_ast::{Keyword, Symbol};
 use mq_lexer::Token;
-use mq_parse_expr::{pass_sign, pass_word, read_name, token_at};
 use mq_parse_query::{Naming, read_list};
+use mq_parse_words::{pass_sign, pass_word, read_name, token_at};
 use mq_values::{Fail, Items, Refused, Words};
 use std::alloc::Global;
 

@@ -2,7 +2,7 @@
 
 ghost use Rattle.std.specs.Prelude.{◌≡◌, ◌≢◌, ◌≤◌, List, ◌∷◌, length};
 ghost use Rattle.mq_ast.specs.Prelude.{Not, Word};
-ghost use Rattle.mq_parse_expr.specs.Reading.{from};
+ghost use Rattle.mq_parse_words.specs.Reading.{from};
 ghost use Rattle.mq_parse_stmt.specs.Parsing.{Parses, Whole};
 
 use crate::change::{read_delete, read_insert, read_load, read_update};
@@ -11,8 +11,8 @@ use crate::depth::is_too_deep;
 use crate::pieces::last;
 use mq_ast::{Keyword, Stmt, Terminal};
 use mq_lexer::Token;
-use mq_parse_expr::{behind_word, read_name};
 use mq_parse_query::read_query;
+use mq_parse_words::{behind_word, read_name};
 use mq_values::{Fail, Refused};
 use std::alloc::Global;
 

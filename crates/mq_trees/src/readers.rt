@@ -3,12 +3,10 @@
 use crate::notation::{Notation, Written};
 use mq_ast::{E, Path, Query, Stmt};
 use mq_lexer::{Token, tokens};
-use mq_parse_expr::{
-    read_expr, read_exprs, read_int, read_kind, read_name, read_path, read_round, read_text,
-    read_tuple,
-};
+use mq_parse_expr::{read_expr, read_exprs, read_round, read_tuple};
 use mq_parse_query::{Naming, Row, read_list, read_query, read_where};
 use mq_parse_stmt::parse;
+use mq_parse_words::{read_int, read_kind, read_name, read_path, read_text};
 use mq_values::{Fail, Items, Kind, Memory, Num, Refused, Words};
 use std::alloc::Global;
 

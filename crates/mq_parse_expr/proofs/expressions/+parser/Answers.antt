@@ -10,12 +10,12 @@ use Rattle.mq_ast.specs.Continuing.{Stops, Ends}
 use Rattle.mq_ast.specs.Chains.{sum_term, prod_term}
 use Rattle.mq_ast.specs.GrammarNames.{PathE}
 use Rattle.mq_ast.specs.GrammarExpression.{Expr, MoreOr, AndE, MoreAnd, NotE, TestE, TestTail, Tuple, Exprs, MoreExprs, SumE, MoreSum, ProdE, MoreProd, SignE, PrimE, Brackets, MorePlaces, PlaceE, CaseE, expr, or_end, or_more, and, and_end, and_more, not_plain, not_not, test, tail_none, tail_cmp, tuple, exprs, exprs_end, exprs_more, sum, sum_end, sum_more, prod, prod_end, prod_more, sign_plain, sign_minus, prim_path, prim_cell, prim_range, brackets, places_end, places_more, place_any, place_expr, case_none, case_some, else_none, else_some}
-use Rattle.mq_parse_expr.specs.declared.forms.Form.TheVariants as form
-use Rattle.mq_parse_expr.specs.declared.forms.Tail.TheVariants as tail
-use Rattle.mq_parse_expr.specs.Reading.{from, Anywhere}
-use Rattle.mq_parse_expr.specs.Forms.{form_of, tail_of}
-use Rattle.mq_parse_expr.specs.Fronts.{RoundE, round, Behind, Since, cmp_front, not_front, is_front, between_front, in_front, CellsOf, ElseEnd, SomeWhens}
-use Rattle.mq_parse_expr.specs.StepLemmas.{quit, here, there, till, as_value, gives_as, fronted, one_more, cut_short, all_found}
+use Rattle.mq_parse_words.specs.declared.forms.Form.TheVariants as form
+use Rattle.mq_parse_words.specs.declared.forms.Tail.TheVariants as tail
+use Rattle.mq_parse_words.specs.Reading.{from, Anywhere}
+use Rattle.mq_parse_words.specs.Forms.{form_of, tail_of}
+use Rattle.mq_parse_words.specs.Fronts.{RoundE, round, Behind, Since, cmp_front, not_front, is_front, between_front, in_front, CellsOf, ElseEnd, SomeWhens}
+use Rattle.mq_parse_words.specs.StepLemmas.{quit, here, there, till, as_value, gives_as, fronted, one_more, cut_short, all_found}
 use Rattle.mq_parse_expr.proofs.FrontLemmas.{call_form, form_front, tail_front, at_front, leaf_left}
 use Rattle.mq_parse_expr.proofs.LevelLemmas.{lone_expr, lone_prod, or_no_first, or_no_others, or_no_next, or_no_more, and_no_first, and_no_others, and_no_next, and_no_more, sum_no_first, sum_no_others, sum_no_next, sum_no_more, prod_no_first, prod_no_others, prod_no_next, prod_no_more, exprs_no_first, exprs_no_others, exprs_no_next, exprs_no_more, places_no_next, places_no_more, not_no_not, not_no_plain, sign_no_minus, sign_no_plain, test_no_first, test_no_tail, cmp_no_sum, cmp_no_end, between_no_low, between_no_and, between_no_high, between_no_end, between_tail, in_no_tuple, in_no_end, in_tail, not_no_other, tuple_no_open, tuple_no_list, tuple_no_close, brackets_no_open, brackets_no_first, brackets_no_others, brackets_no_close, place_no_end, place_no_expr, stops_or, stops_and, stops_sum, stops_prod}
 use Rattle.mq_parse_expr.proofs.PrimLemmas.{prim_form, prim_rounded, prim_no_round, prim_no_closed, prim_no_end, closed_form, split_name, prim_no_path, path_no_end, cell_no_places, cell_no_end, round_no_open, round_no_inner, round_no_close, all_no_end, all_prim, agg_no_value, agg_no_end, agg_prim, measured, range_no_places, range_no_end, cast_no_open, cast_no_expr, cast_no_kind, cast_prim, rounded_no_open, rounded_no_expr, rounded_no_scale, rounded_prim, call_no_tuple, call_no_count, call_prim, case_no_subject, case_no_whens, case_no_else, case_prim, subject_no_expr, subject_no_when, else_no_expr, else_no_end, else_no_word}

@@ -4,7 +4,7 @@ use Rattle.mq_ast.specs.declared.terminals.Terminal.TheVariants as terminal
 use Rattle.mq_ast.specs.declared.levels.TheConstants as level
 use Rattle.mq_ast.specs.Continuing.{Stops, Ends}
 use Rattle.mq_ast.specs.GrammarExpression.{MoreOr, MoreAnd, MoreExprs, MoreSum, MoreProd, MorePlaces}
-use Rattle.mq_parse_expr.specs.StepLemmas.{SoFar}
+use Rattle.mq_parse_words.specs.StepLemmas.{SoFar}
 use Rattle.mq_parse_expr.proofs.ArmLemmas.{WhensSoFar}
 use Rattle.mq_parse_expr.proofs.expressions.+parser.Given as goal
 

@@ -1,5 +1,5 @@
 use Rattle.mq_ast.specs.GrammarExpression.{Expr}
-use Rattle.mq_parse_expr.specs.StepLemmas.{quit, as_value}
+use Rattle.mq_parse_words.specs.StepLemmas.{quit, as_value}
 use Rattle.mq_parse_expr.proofs.expressions.read_expr.Goals as goal
 
 pub returns-in_err-e : goal.returns-in_err-e

@@ -1,5 +1,5 @@
 use Rattle.std.proofs.Common.{ap, ◌∙◌}
-use Rattle.mq_parse_expr.specs.Forms.{form_of}
+use Rattle.mq_parse_words.specs.Forms.{form_of}
 use Rattle.mq_parse_expr.proofs.FrontLemmas.{form_inside}
 use Rattle.mq_parse_expr.proofs.fronts.form_at.Goals as goal
 

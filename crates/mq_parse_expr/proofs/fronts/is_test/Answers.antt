@@ -1,9 +1,9 @@
 use Rattle.std.proofs.Common.{arith}
-use Rattle.mq_parse_expr.specs.StepLemmas.{here, there, gives_as}
-use Rattle.mq_parse_expr.specs.Reading.{Anywhere}
+use Rattle.mq_parse_words.specs.StepLemmas.{here, there, gives_as}
+use Rattle.mq_parse_words.specs.Reading.{Anywhere}
 use Rattle.mq_parse_expr.proofs.FrontLemmas.{is_no_not, is_no_plain}
 use Rattle.std.proofs.Common.{true, false}
-use Rattle.mq_parse_expr.specs.Fronts.{NullOrPresent, IsTestE, asks_any, asks, asks_not}
+use Rattle.mq_parse_words.specs.Fronts.{NullOrPresent, IsTestE, asks_any, asks, asks_not}
 use Rattle.mq_parse_expr.proofs.fronts.is_test.Goals as goal
 
 pub returns-in-Some : goal.returns-in-Some

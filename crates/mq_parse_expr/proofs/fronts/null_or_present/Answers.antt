@@ -1,7 +1,7 @@
 use Rattle.std.proofs.Common.{arith}
-use Rattle.mq_parse_expr.specs.StepLemmas.{quit, there}
+use Rattle.mq_parse_words.specs.StepLemmas.{quit, there}
 use Rattle.mq_parse_expr.proofs.FrontLemmas.{asks_no_word}
-use Rattle.mq_parse_expr.specs.Fronts.{NullOrPresent, asks_null, asks_present}
+use Rattle.mq_parse_words.specs.Fronts.{NullOrPresent, asks_null, asks_present}
 use Rattle.mq_parse_expr.proofs.fronts.null_or_present.Goals as goal
 
 pub returns-in-Some : goal.returns-in-Some

@@ -1,6 +1,6 @@
 use Rattle.mq_ast.specs.GrammarNames.{path_one}
 use Rattle.mq_ast.specs.GrammarExpression.{PrimE, prim_num, prim_path}
-use Rattle.mq_parse_expr.specs.StepLemmas.{there, as_value}
+use Rattle.mq_parse_words.specs.StepLemmas.{there, as_value}
 use Rattle.mq_parse_expr.proofs.fronts.operand.Goals as goal
 
 pub returns-in-Some : goal.returns-in-Some

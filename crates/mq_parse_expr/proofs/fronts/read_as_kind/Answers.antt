@@ -1,10 +1,10 @@
 use Rattle.std.proofs.Common.{arith}
-use Rattle.mq_parse_expr.specs.StepLemmas.{quit, here, there}
-use Rattle.mq_parse_expr.specs.Reading.{Anywhere}
+use Rattle.mq_parse_words.specs.StepLemmas.{quit, here, there}
+use Rattle.mq_parse_words.specs.Reading.{Anywhere}
 use Rattle.mq_parse_expr.proofs.FrontLemmas.{as_no_as, as_no_kind, as_no_close}
 use Rattle.mq_ast.specs.GrammarNames.{KindE}
-use Rattle.mq_parse_expr.specs.StepLemmas.{till}
-use Rattle.mq_parse_expr.specs.Fronts.{AsKind, as_kind}
+use Rattle.mq_parse_words.specs.StepLemmas.{till}
+use Rattle.mq_parse_words.specs.Fronts.{AsKind, as_kind}
 use Rattle.mq_parse_expr.proofs.fronts.read_as_kind.Goals as goal
 
 pub returns-in_err-mid : goal.returns-in_err-mid

@@ -1,12 +1,12 @@
 use Rattle.std.proofs.Common.{◌∷◌, ap, ◌∙◌, arith}
-use Rattle.mq_parse_expr.specs.StepLemmas.{quit, here, there}
-use Rattle.mq_parse_expr.specs.Reading.{Anywhere}
+use Rattle.mq_parse_words.specs.StepLemmas.{quit, here, there}
+use Rattle.mq_parse_words.specs.Reading.{Anywhere}
 use Rattle.mq_parse_expr.proofs.FrontLemmas.{cv_no_open, cv_no_name, cv_no_close}
 use Rattle.mq_lexer.specs.declared.keywords.Keyword.TheVariants as word
 use Rattle.mq_ast.specs.Tokens.{Word, Name, opener}
 use Rattle.mq_ast.specs.GrammarExpression.{prim_cv, prim_cv_name}
-use Rattle.mq_parse_expr.specs.NameLemmas.{named}
-use Rattle.mq_parse_expr.specs.Fronts.{Behind}
+use Rattle.mq_parse_words.specs.NameLemmas.{named}
+use Rattle.mq_parse_words.specs.Fronts.{Behind}
 use Rattle.mq_parse_expr.proofs.fronts.read_cv.Goals as goal
 
 pub returns-in_err-open : goal.returns-in_err-open

@@ -1,7 +1,7 @@
-use Rattle.mq_parse_expr.specs.StepLemmas.{quit, as_value}
-use Rattle.mq_parse_expr.specs.Reading.{from}
+use Rattle.mq_parse_words.specs.StepLemmas.{quit, as_value}
+use Rattle.mq_parse_words.specs.Reading.{from}
 use Rattle.mq_parse_expr.proofs.FrontLemmas.{is_no_test, is_no_end, asks_tail}
-use Rattle.mq_parse_expr.specs.Fronts.{Since, is_front}
+use Rattle.mq_parse_words.specs.Fronts.{Since, is_front}
 use Rattle.mq_parse_expr.proofs.fronts.read_is.Goals as goal
 
 pub returns-in_err-test : goal.returns-in_err-test

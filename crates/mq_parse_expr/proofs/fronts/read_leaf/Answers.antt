@@ -1,5 +1,5 @@
 use Rattle.mq_ast.specs.GrammarExpression.{PrimE}
-use Rattle.mq_parse_expr.specs.StepLemmas.{quit, as_value}
+use Rattle.mq_parse_words.specs.StepLemmas.{quit, as_value}
 use Rattle.mq_parse_expr.proofs.fronts.read_leaf.Goals as goal
 
 pub returns-in_err-e : goal.returns-in_err-e

@@ -1,11 +1,11 @@
 use Rattle.std.proofs.Common.{◌+◌, ◌∷◌, sym, ◌∙◌, arith}
-use Rattle.mq_parse_expr.specs.StepLemmas.{there, fronted}
-use Rattle.mq_parse_expr.specs.Reading.{from, Anywhere}
+use Rattle.mq_parse_words.specs.StepLemmas.{there, fronted}
+use Rattle.mq_parse_words.specs.Reading.{from, Anywhere}
 use Rattle.mq_parse_expr.proofs.FrontLemmas.{form_front, at_front}
 use Rattle.mq_lexer.specs.declared.keywords.Keyword.TheVariants as word
 use Rattle.mq_ast.specs.Tokens.{Word}
 use Rattle.mq_ast.specs.GrammarExpression.{PrimE, prim_num, prim_text, prim_null, prim_turn}
-use Rattle.mq_parse_expr.specs.declared.forms.Form.TheVariants as form
+use Rattle.mq_parse_words.specs.declared.forms.Form.TheVariants as form
 use Rattle.mq_parse_expr.proofs.fronts.read_small.Goals as goal
 
 pub returns-in-Some : goal.returns-in-Some

@@ -1,10 +1,10 @@
 use Rattle.std.proofs.Common.{◌∷◌, ap, ◌∙◌, arith}
-use Rattle.mq_parse_expr.specs.StepLemmas.{quit, here, there}
-use Rattle.mq_parse_expr.specs.Reading.{Anywhere}
+use Rattle.mq_parse_words.specs.StepLemmas.{quit, here, there}
+use Rattle.mq_parse_words.specs.Reading.{Anywhere}
 use Rattle.mq_parse_expr.proofs.FrontLemmas.{scale_no_comma, scale_no_int, scale_no_close}
 use Rattle.mq_ast.specs.Tokens.{Num, comma}
-use Rattle.mq_parse_expr.specs.NameLemmas.{numbered}
-use Rattle.mq_parse_expr.specs.Fronts.{ToScale, to_scale}
+use Rattle.mq_parse_words.specs.NameLemmas.{numbered}
+use Rattle.mq_parse_words.specs.Fronts.{ToScale, to_scale}
 use Rattle.mq_parse_expr.proofs.fronts.read_to_scale.Goals as goal
 
 pub returns-in_err-mid : goal.returns-in_err-mid

@@ -1,5 +1,5 @@
 use Rattle.std.proofs.Common.{ap, ◌∙◌}
-use Rattle.mq_parse_expr.specs.Forms.{tail_of}
+use Rattle.mq_parse_words.specs.Forms.{tail_of}
 use Rattle.mq_parse_expr.proofs.FrontLemmas.{tail_inside}
 use Rattle.mq_parse_expr.proofs.fronts.tail_at.Goals as goal
 

@@ -2,7 +2,7 @@ use Rattle.std.proofs.Common.{arith}
 use Rattle.mq_ast.specs.declared.levels.TheConstants as level
 use Rattle.mq_ast.specs.Prelude.{AliasE, Stops, alias_none}
 use Rattle.mq_parse_query.specs.Pieces.{SomeName}
-use Rattle.mq_parse_expr.specs.StepLemmas.{quit, here, there, gives_as}
+use Rattle.mq_parse_words.specs.StepLemmas.{quit, here, there, gives_as}
 use Rattle.mq_parse_query.proofs.PlainLemmas.{alias_behind, alias_bare, alias_no_behind, alias_no_bare, alias_no_end}
 use Rattle.mq_parse_query.proofs.columns.read_alias.Goals as goal
 

@@ -1,4 +1,4 @@
-use Rattle.mq_parse_expr.specs.StepLemmas.{quit}
+use Rattle.mq_parse_words.specs.StepLemmas.{quit}
 use Rattle.mq_parse_query.specs.Pieces.{SomeName}
 use Rattle.mq_parse_query.proofs.PlainLemmas.{some_no_name, some_no_end, some_named}
 use Rattle.mq_parse_query.proofs.columns.read_alias_name.Goals as goal

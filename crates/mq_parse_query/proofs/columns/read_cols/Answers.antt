@@ -1,7 +1,7 @@
 use Rattle.std.proofs.Common.{arith}
 use Rattle.mq_ast.specs.Prelude.{Cols, SelE, SomeOf, cols}
-use Rattle.mq_parse_expr.specs.StepLemmas.{quit, here, there, till}
-use Rattle.mq_parse_expr.specs.Reading.{Anywhere}
+use Rattle.mq_parse_words.specs.StepLemmas.{quit, here, there, till}
+use Rattle.mq_parse_words.specs.Reading.{Anywhere}
 use Rattle.mq_parse_query.proofs.PlainLemmas.{cols_no_open, cols_no_list, cols_no_close}
 use Rattle.mq_parse_query.proofs.columns.read_cols.Goals as goal
 

@@ -1,8 +1,8 @@
 use Rattle.std.proofs.Common.{arith}
 use Rattle.mq_ast.specs.declared.levels.TheConstants as level
 use Rattle.mq_ast.specs.Prelude.{ConditionE, Stops, condition}
-use Rattle.mq_parse_expr.specs.Reading.{from}
-use Rattle.mq_parse_expr.specs.StepLemmas.{quit, here, there}
+use Rattle.mq_parse_words.specs.Reading.{from}
+use Rattle.mq_parse_words.specs.StepLemmas.{quit, here, there}
 use Rattle.mq_parse_query.proofs.PlainLemmas.{condition_no_on, condition_no_expr, condition_no_end}
 use Rattle.mq_parse_query.proofs.froms.read_condition.Goals as goal
 

@@ -1,6 +1,6 @@
 use Rattle.std.specs.Prelude.{None}
 use Rattle.mq_ast.specs.Prelude.{ItemE}
-use Rattle.mq_parse_expr.specs.StepLemmas.{quit, as_value}
+use Rattle.mq_parse_words.specs.StepLemmas.{quit, as_value}
 use Rattle.mq_parse_query.proofs.PlainLemmas.{item_no_table}
 use Rattle.mq_parse_query.proofs.froms.read_item.Goals as goal
 

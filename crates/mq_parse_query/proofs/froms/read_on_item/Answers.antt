@@ -1,6 +1,6 @@
 use Rattle.std.proofs.Common.{arith}
 use Rattle.mq_ast.specs.Prelude.{OnE}
-use Rattle.mq_parse_expr.specs.StepLemmas.{quit, as_value}
+use Rattle.mq_parse_words.specs.StepLemmas.{quit, as_value}
 use Rattle.mq_parse_query.proofs.PlainLemmas.{item_no_table, on_no_item, on_no_condition, on_whole}
 use Rattle.mq_parse_query.proofs.froms.read_on_item.Goals as goal
 

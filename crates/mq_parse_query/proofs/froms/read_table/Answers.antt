@@ -1,6 +1,6 @@
 use Rattle.std.proofs.Common.{arith}
 use Rattle.mq_parse_query.specs.Pieces.{TableE}
-use Rattle.mq_parse_expr.specs.StepLemmas.{quit}
+use Rattle.mq_parse_words.specs.StepLemmas.{quit}
 use Rattle.mq_parse_query.proofs.PlainLemmas.{item_no_name, item_no_alias, item_named, table_no_item}
 use Rattle.mq_parse_query.proofs.froms.read_table.Goals as goal
 

@@ -2,8 +2,8 @@ use Rattle.std.proofs.Common.{◌∷◌, ap, ◌∙◌, arith}
 use Rattle.mq_ast.specs.declared.clauses.TheConstants as clause
 use Rattle.mq_ast.specs.Prelude.{ManyOf, OptE, Past, Word}
 use Rattle.mq_parse_query.specs.Pieces.{first_word}
-use Rattle.mq_parse_expr.specs.Reading.{from, Anywhere}
-use Rattle.mq_parse_expr.specs.StepLemmas.{as_value, here, there}
+use Rattle.mq_parse_words.specs.Reading.{from, Anywhere}
+use Rattle.mq_parse_words.specs.StepLemmas.{as_value, here, there}
 use Rattle.mq_parse_query.proofs.ModelLemmas.{option_no_second, option_whole}
 use Rattle.mq_parse_query.proofs.ListLemmas.{quit_turn}
 use Rattle.mq_parse_query.proofs.heads.next_option.Goals as goal

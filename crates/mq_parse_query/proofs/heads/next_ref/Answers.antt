@@ -1,7 +1,7 @@
 use Rattle.std.proofs.Common.{arith}
 use Rattle.mq_ast.specs.declared.clauses.TheConstants as clause
 use Rattle.mq_ast.specs.Prelude.{ManyOf, Past, RefE}
-use Rattle.mq_parse_expr.specs.StepLemmas.{here, there}
+use Rattle.mq_parse_words.specs.StepLemmas.{here, there}
 use Rattle.mq_parse_query.proofs.ModelLemmas.{refs_no_ref, refs_no_end}
 use Rattle.mq_parse_query.proofs.ListLemmas.{quit_turn}
 use Rattle.mq_parse_query.proofs.heads.next_ref.Goals as goal

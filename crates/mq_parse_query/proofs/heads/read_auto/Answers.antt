@@ -2,7 +2,7 @@ use Rattle.std.proofs.Common.{true, false, arith}
 use Rattle.mq_ast.specs.declared.clauses.TheConstants as clause
 use Rattle.mq_ast.specs.Prelude.{AutoE, Past, auto_none}
 use Rattle.mq_parse_query.specs.Pieces.{AutoEnd}
-use Rattle.mq_parse_expr.specs.StepLemmas.{quit, here, there, gives_as}
+use Rattle.mq_parse_words.specs.StepLemmas.{quit, here, there, gives_as}
 use Rattle.mq_parse_query.proofs.HeadLemmas.{auto_no_yes, auto_no_no, yes_auto, no_auto, auto_no_word}
 use Rattle.mq_parse_query.proofs.heads.read_auto.Goals as goal
 

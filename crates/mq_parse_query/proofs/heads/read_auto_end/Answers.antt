@@ -2,7 +2,7 @@ use Rattle.std.proofs.Common.{arith}
 use Rattle.mq_ast.specs.declared.clauses.TheConstants as clause
 use Rattle.mq_ast.specs.Prelude.{Past}
 use Rattle.mq_parse_query.specs.Pieces.{AutoEnd, auto_end}
-use Rattle.mq_parse_expr.specs.StepLemmas.{quit, here, there}
+use Rattle.mq_parse_words.specs.StepLemmas.{quit, here, there}
 use Rattle.mq_parse_query.proofs.HeadLemmas.{auto_no_order, auto_no_end}
 use Rattle.mq_parse_query.proofs.heads.read_auto_end.Goals as goal
 

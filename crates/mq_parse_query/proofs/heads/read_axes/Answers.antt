@@ -1,6 +1,6 @@
 use Rattle.std.proofs.Common.{arith}
 use Rattle.mq_ast.specs.Prelude.{AxesE, axes}
-use Rattle.mq_parse_expr.specs.StepLemmas.{quit}
+use Rattle.mq_parse_words.specs.StepLemmas.{quit}
 use Rattle.mq_parse_query.proofs.ModelLemmas.{axes_no_dims, axes_no_cols}
 use Rattle.mq_parse_query.proofs.heads.read_axes.Goals as goal
 

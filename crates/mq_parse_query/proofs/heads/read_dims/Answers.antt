@@ -1,8 +1,8 @@
 use Rattle.std.proofs.Common.{◌∷◌, ap, ◌∙◌, arith}
 use Rattle.mq_lexer.specs.declared.keywords.Keyword.TheVariants as word
 use Rattle.mq_ast.specs.Prelude.{Cols, DimsE, Word, dims}
-use Rattle.mq_parse_expr.specs.Reading.{Anywhere}
-use Rattle.mq_parse_expr.specs.StepLemmas.{quit, here, there, till}
+use Rattle.mq_parse_words.specs.Reading.{Anywhere}
+use Rattle.mq_parse_words.specs.StepLemmas.{quit, here, there, till}
 use Rattle.mq_parse_query.proofs.ModelLemmas.{dims_no_dimension, dims_no_by, dims_no_cols, dims_no_measures}
 use Rattle.mq_parse_query.proofs.heads.read_dims.Goals as goal
 

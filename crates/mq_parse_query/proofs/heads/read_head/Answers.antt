@@ -1,7 +1,7 @@
 use Rattle.std.proofs.Common.{◌∷◌, ap, arith}
 use Rattle.mq_lexer.specs.declared.keywords.Keyword.TheVariants as word
 use Rattle.mq_ast.specs.Prelude.{HeadE, Opens, Word, head_none, terminal_at}
-use Rattle.mq_parse_expr.specs.StepLemmas.{quit, as_value, fronted}
+use Rattle.mq_parse_words.specs.StepLemmas.{quit, as_value, fronted}
 use Rattle.mq_parse_query.proofs.HeadLemmas.{heading_no_open}
 use Rattle.mq_parse_query.proofs.heads.read_head.Goals as goal
 

@@ -2,7 +2,7 @@ use Rattle.std.proofs.Common.{◌∷◌, arith}
 use Rattle.mq_ast.specs.declared.clauses.TheConstants as clause
 use Rattle.mq_lexer.specs.declared.keywords.Keyword.TheVariants as word
 use Rattle.mq_ast.specs.Prelude.{IterateE, Past, Word, iterate_none}
-use Rattle.mq_parse_expr.specs.StepLemmas.{quit, fronted}
+use Rattle.mq_parse_words.specs.StepLemmas.{quit, fronted}
 use Rattle.mq_parse_query.proofs.HeadLemmas.{turning_no_word}
 use Rattle.mq_parse_query.proofs.heads.read_iterate.Goals as goal
 

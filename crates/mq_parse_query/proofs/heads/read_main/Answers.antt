@@ -2,8 +2,8 @@ use Rattle.std.proofs.Common.{◌∷◌, ap, ◌∙◌, arith}
 use Rattle.mq_ast.specs.declared.clauses.TheConstants as clause
 use Rattle.mq_lexer.specs.declared.keywords.Keyword.TheVariants as word
 use Rattle.mq_ast.specs.Prelude.{MainE, Past, Word, main_none, main_some}
-use Rattle.mq_parse_expr.specs.StepLemmas.{quit, here, there}
-use Rattle.mq_parse_expr.specs.NameLemmas.{named}
+use Rattle.mq_parse_words.specs.StepLemmas.{quit, here, there}
+use Rattle.mq_parse_words.specs.NameLemmas.{named}
 use Rattle.mq_parse_query.proofs.ModelLemmas.{main_no_name, main_no_end, main_no_word}
 use Rattle.mq_parse_query.proofs.heads.read_main.Goals as goal
 

@@ -2,8 +2,8 @@ use Rattle.std.proofs.Common.{◌∷◌, ap, ◌∙◌, arith}
 use Rattle.mq_ast.specs.declared.clauses.TheConstants as clause
 use Rattle.mq_lexer.specs.declared.keywords.Keyword.TheVariants as word
 use Rattle.mq_ast.specs.Prelude.{PartsE, Past, Word, parts_none, parts_some}
-use Rattle.mq_parse_expr.specs.Reading.{from}
-use Rattle.mq_parse_expr.specs.StepLemmas.{quit, here, there, as_value}
+use Rattle.mq_parse_words.specs.Reading.{from}
+use Rattle.mq_parse_words.specs.StepLemmas.{quit, here, there, as_value}
 use Rattle.mq_parse_query.proofs.ModelLemmas.{parts_no_by, parts_no_cols, parts_no_end, parts_no_word}
 use Rattle.mq_parse_query.proofs.heads.read_parts.Goals as goal
 

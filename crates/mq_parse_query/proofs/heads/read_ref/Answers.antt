@@ -1,7 +1,7 @@
 use Rattle.std.proofs.Common.{arith}
 use Rattle.mq_ast.specs.Prelude.{reference}
 use Rattle.mq_parse_query.specs.Pieces.{Refers}
-use Rattle.mq_parse_expr.specs.StepLemmas.{quit, as_value}
+use Rattle.mq_parse_words.specs.StepLemmas.{quit, as_value}
 use Rattle.mq_parse_query.proofs.ModelLemmas.{ref_no_source, ref_no_axes, ref_no_opts}
 use Rattle.mq_parse_query.proofs.heads.read_ref.Goals as goal
 

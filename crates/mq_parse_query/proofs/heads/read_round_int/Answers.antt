@@ -1,8 +1,8 @@
 use Rattle.std.proofs.Common.{◌∷◌, ap, ◌∙◌, arith}
 use Rattle.mq_ast.specs.Prelude.{Num, RoundInt, opener, round_int}
-use Rattle.mq_parse_expr.specs.Reading.{Anywhere}
-use Rattle.mq_parse_expr.specs.StepLemmas.{quit, here, there}
-use Rattle.mq_parse_expr.specs.NameLemmas.{numbered}
+use Rattle.mq_parse_words.specs.Reading.{Anywhere}
+use Rattle.mq_parse_words.specs.StepLemmas.{quit, here, there}
+use Rattle.mq_parse_words.specs.NameLemmas.{numbered}
 use Rattle.mq_parse_query.proofs.HeadLemmas.{int_no_open, int_no_int, int_no_close}
 use Rattle.mq_parse_query.proofs.heads.read_round_int.Goals as goal
 

@@ -1,6 +1,6 @@
 use Rattle.std.proofs.Common.{arith}
-use Rattle.mq_parse_expr.specs.Reading.{from}
-use Rattle.mq_parse_expr.specs.StepLemmas.{quit}
+use Rattle.mq_parse_words.specs.Reading.{from}
+use Rattle.mq_parse_words.specs.StepLemmas.{quit}
 use Rattle.mq_parse_query.specs.Pieces.{Returns}
 use Rattle.mq_parse_query.proofs.ModelLemmas.{rows_no_which, rows_no_rows, rows_no_end, rows_whole}
 use Rattle.mq_parse_query.proofs.heads.read_rows.Goals as goal

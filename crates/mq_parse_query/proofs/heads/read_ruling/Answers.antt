@@ -1,7 +1,7 @@
 use Rattle.std.proofs.Common.{ap, arith}
 use Rattle.mq_ast.specs.Prelude.{head_some, terminal_at}
 use Rattle.mq_parse_query.specs.Pieces.{Ruling}
-use Rattle.mq_parse_expr.specs.StepLemmas.{quit, as_value}
+use Rattle.mq_parse_words.specs.StepLemmas.{quit, as_value}
 use Rattle.mq_parse_query.proofs.HeadLemmas.{ruling_no_mode, ruling_no_auto, ruling_no_iterate, ruling_no_open}
 use Rattle.mq_parse_query.proofs.heads.read_ruling.Goals as goal
 

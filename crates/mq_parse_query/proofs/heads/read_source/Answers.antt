@@ -1,9 +1,9 @@
 use Rattle.std.proofs.Common.{◌∷◌, ap, ◌∙◌, arith}
 use Rattle.mq_lexer.specs.declared.keywords.Keyword.TheVariants as word
 use Rattle.mq_ast.specs.Prelude.{Name, RefSourceE, Word, ref_source}
-use Rattle.mq_parse_expr.specs.Reading.{Anywhere}
-use Rattle.mq_parse_expr.specs.StepLemmas.{quit, here, there}
-use Rattle.mq_parse_expr.specs.NameLemmas.{named}
+use Rattle.mq_parse_words.specs.Reading.{Anywhere}
+use Rattle.mq_parse_words.specs.StepLemmas.{quit, here, there}
+use Rattle.mq_parse_words.specs.NameLemmas.{named}
 use Rattle.mq_parse_query.proofs.ModelLemmas.{source_no_name, source_no_on, source_no_open, source_no_plain}
 use Rattle.mq_parse_query.proofs.heads.read_source.Goals as goal
 

@@ -1,6 +1,6 @@
 use Rattle.std.proofs.Common.{arith}
 use Rattle.mq_ast.specs.Prelude.{iterate_some}
-use Rattle.mq_parse_expr.specs.StepLemmas.{quit}
+use Rattle.mq_parse_words.specs.StepLemmas.{quit}
 use Rattle.mq_parse_query.specs.Pieces.{Iterates}
 use Rattle.mq_parse_query.proofs.HeadLemmas.{turns_no_int, turns_no_until}
 use Rattle.mq_parse_query.proofs.heads.read_turns.Goals as goal

@@ -1,8 +1,8 @@
 use Rattle.std.proofs.Common.{arith}
 use Rattle.mq_ast.specs.declared.clauses.TheConstants as clause
 use Rattle.mq_ast.specs.Prelude.{Past, UntilE, until_none}
-use Rattle.mq_parse_expr.specs.Reading.{from}
-use Rattle.mq_parse_expr.specs.StepLemmas.{quit, here, there}
+use Rattle.mq_parse_words.specs.Reading.{from}
+use Rattle.mq_parse_words.specs.StepLemmas.{quit, here, there}
 use Rattle.mq_parse_query.proofs.HeadLemmas.{until_no_round, until_no_end, until_no_word, until_whole}
 use Rattle.mq_parse_query.proofs.heads.read_until.Goals as goal
 

@@ -1,6 +1,6 @@
 use Rattle.std.proofs.Common.{arith}
 use Rattle.mq_ast.specs.Prelude.{WhichE, which_all, which_updated}
-use Rattle.mq_parse_expr.specs.StepLemmas.{quit, there}
+use Rattle.mq_parse_words.specs.StepLemmas.{quit, there}
 use Rattle.mq_parse_query.proofs.ModelLemmas.{which_no_word}
 use Rattle.mq_parse_query.proofs.heads.read_which.Goals as goal
 

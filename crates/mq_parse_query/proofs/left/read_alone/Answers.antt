@@ -1,5 +1,5 @@
 use Rattle.mq_ast.specs.Prelude.{AloneE, alone}
-use Rattle.mq_parse_expr.specs.StepLemmas.{quit, as_value}
+use Rattle.mq_parse_words.specs.StepLemmas.{quit, as_value}
 use Rattle.mq_parse_query.proofs.RuleLemmas.{alone_no_expr}
 use Rattle.mq_parse_query.proofs.left.read_alone.Goals as goal
 

@@ -1,6 +1,6 @@
 use Rattle.std.proofs.Common.{arith}
 use Rattle.mq_ast.specs.Prelude.{Sign, SomeOf}
-use Rattle.mq_parse_expr.specs.StepLemmas.{quit, till}
+use Rattle.mq_parse_words.specs.StepLemmas.{quit, till}
 use Rattle.mq_parse_query.specs.Pieces.{Closed}
 use Rattle.mq_parse_query.proofs.RuleLemmas.{closed_no_list, closed_no_close}
 use Rattle.mq_parse_query.proofs.left.read_closed.Goals as goal

@@ -1,6 +1,6 @@
 use Rattle.std.proofs.Common.{arith}
 use Rattle.mq_ast.specs.Prelude.{DownE, down_no, down_yes}
-use Rattle.mq_parse_expr.specs.StepLemmas.{quit, there}
+use Rattle.mq_parse_words.specs.StepLemmas.{quit, there}
 use Rattle.mq_parse_query.proofs.RuleLemmas.{down_no_word}
 use Rattle.mq_parse_query.proofs.left.read_down.Goals as goal
 

@@ -1,6 +1,6 @@
 use Rattle.std.proofs.Common.{arith}
 use Rattle.mq_ast.specs.Prelude.{FinishE, finish}
-use Rattle.mq_parse_expr.specs.StepLemmas.{quit}
+use Rattle.mq_parse_words.specs.StepLemmas.{quit}
 use Rattle.mq_parse_query.proofs.RuleLemmas.{finish_no_expr, finish_no_down}
 use Rattle.mq_parse_query.proofs.left.read_finish.Goals as goal
 

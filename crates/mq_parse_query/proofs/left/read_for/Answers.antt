@@ -2,9 +2,9 @@ use Rattle.std.proofs.Common.{◌∷◌, ap, ◌∙◌, arith}
 use Rattle.mq_ast.specs.declared.levels.TheConstants as level
 use Rattle.mq_ast.specs.Prelude.{Name, Stops, lit_in, lit_range}
 use Rattle.mq_parse_query.specs.Pieces.{ForPlace}
-use Rattle.mq_parse_expr.specs.Reading.{from}
-use Rattle.mq_parse_expr.specs.StepLemmas.{quit, here, there, as_value}
-use Rattle.mq_parse_expr.specs.NameLemmas.{named}
+use Rattle.mq_parse_words.specs.Reading.{from}
+use Rattle.mq_parse_words.specs.StepLemmas.{quit, here, there, as_value}
+use Rattle.mq_parse_words.specs.NameLemmas.{named}
 use Rattle.mq_ast.specs.Laws.{alones_no_plain}
 use Rattle.mq_parse_query.proofs.RuleLemmas.{ends_closed, for_no_name, for_no_values, for_no_end, for_no_range}
 use Rattle.mq_parse_query.proofs.left.read_for.Goals as goal

@@ -1,7 +1,7 @@
 use Rattle.std.proofs.Common.{arith}
 use Rattle.mq_ast.specs.Prelude.{ForListE, for_rows, for_values}
-use Rattle.mq_parse_expr.specs.Reading.{Anywhere}
-use Rattle.mq_parse_expr.specs.StepLemmas.{quit, as_value, here, there}
+use Rattle.mq_parse_words.specs.Reading.{Anywhere}
+use Rattle.mq_parse_words.specs.StepLemmas.{quit, as_value, here, there}
 use Rattle.mq_parse_query.proofs.RuleLemmas.{for_no_open, for_no_rows, for_no_list}
 use Rattle.mq_parse_query.proofs.left.read_for_list.Goals as goal
 

@@ -2,8 +2,8 @@ use Rattle.std.proofs.Common.{◌∷◌}
 use Rattle.mq_lexer.specs.declared.keywords.Keyword.TheVariants as word
 use Rattle.mq_ast.specs.Prelude.{Word, left_places, opener}
 use Rattle.mq_parse_query.specs.Pieces.{LeftEnd}
-use Rattle.mq_parse_expr.specs.Reading.{Anywhere}
-use Rattle.mq_parse_expr.specs.StepLemmas.{quit, as_value, fronted}
+use Rattle.mq_parse_words.specs.Reading.{Anywhere}
+use Rattle.mq_parse_words.specs.StepLemmas.{quit, as_value, fronted}
 use Rattle.mq_parse_query.proofs.RuleLemmas.{left_no_places, ends_square}
 use Rattle.mq_parse_query.proofs.left.read_left.Goals as goal
 

@@ -1,5 +1,5 @@
 use Rattle.std.proofs.Common.{arith}
-use Rattle.mq_parse_expr.specs.StepLemmas.{quit, as_value}
+use Rattle.mq_parse_words.specs.StepLemmas.{quit, as_value}
 use Rattle.mq_ast.specs.Laws.{tuples_no_plain}
 use Rattle.mq_parse_query.specs.Pieces.{LeftTuples}
 use Rattle.mq_parse_query.proofs.RuleLemmas.{left_no_names, left_no_in, left_no_list, left_no_close, tuples_left, any_closed}

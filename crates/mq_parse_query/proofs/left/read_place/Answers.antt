@@ -2,7 +2,7 @@ use Rattle.std.proofs.Common.{◌∷◌, arith}
 use Rattle.mq_ast.specs.declared.levels.TheConstants as level
 use Rattle.mq_lexer.specs.declared.keywords.Keyword.TheVariants as word
 use Rattle.mq_ast.specs.Prelude.{LitE, Stops, Word, lit_any, lit_expr}
-use Rattle.mq_parse_expr.specs.StepLemmas.{quit, as_value, here, there, fronted}
+use Rattle.mq_parse_words.specs.StepLemmas.{quit, as_value, here, there, fronted}
 use Rattle.mq_parse_query.proofs.RuleLemmas.{place_no_any, place_no_expr}
 use Rattle.mq_parse_query.proofs.left.read_place.Goals as goal
 

@@ -1,6 +1,6 @@
 use Rattle.std.proofs.Common.{arith}
 use Rattle.mq_ast.specs.Prelude.{PlainE}
-use Rattle.mq_parse_expr.specs.StepLemmas.{quit, till}
+use Rattle.mq_parse_words.specs.StepLemmas.{quit, till}
 use Rattle.mq_parse_query.specs.Pieces.{PlainEnd}
 use Rattle.mq_parse_query.proofs.RuleLemmas.{plain_no_plain, plain_no_close}
 use Rattle.mq_parse_query.proofs.left.read_plain_end.Goals as goal

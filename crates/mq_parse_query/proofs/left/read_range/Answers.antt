@@ -1,6 +1,6 @@
 use Rattle.std.proofs.Common.{arith}
 use Rattle.mq_ast.specs.Prelude.{RangeE, range}
-use Rattle.mq_parse_expr.specs.StepLemmas.{quit, as_value}
+use Rattle.mq_parse_words.specs.StepLemmas.{quit, as_value}
 use Rattle.mq_parse_query.proofs.RuleLemmas.{range_no_start, range_no_finish, range_no_step}
 use Rattle.mq_parse_query.proofs.left.read_range.Goals as goal
 

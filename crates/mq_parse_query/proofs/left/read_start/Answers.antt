@@ -1,7 +1,7 @@
 use Rattle.std.proofs.Common.{arith}
 use Rattle.mq_ast.specs.Prelude.{Expr, StartE, start}
-use Rattle.mq_parse_expr.specs.Reading.{Anywhere}
-use Rattle.mq_parse_expr.specs.StepLemmas.{quit, here, there, till}
+use Rattle.mq_parse_words.specs.Reading.{Anywhere}
+use Rattle.mq_parse_words.specs.StepLemmas.{quit, here, there, till}
 use Rattle.mq_parse_query.proofs.RuleLemmas.{start_no_from, start_no_expr, start_no_to}
 use Rattle.mq_parse_query.proofs.left.read_start.Goals as goal
 

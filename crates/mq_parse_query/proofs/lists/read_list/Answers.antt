@@ -1,6 +1,6 @@
 use Rattle.std.proofs.Common.{arith}
 use Rattle.mq_ast.specs.Prelude.{SomeOf, some_of}
-use Rattle.mq_parse_expr.specs.StepLemmas.{quit, as_value}
+use Rattle.mq_parse_words.specs.StepLemmas.{quit, as_value}
 use Rattle.mq_parse_query.proofs.ListLemmas.{list_no_first, list_no_others}
 use Rattle.mq_parse_query.proofs.lists.read_list.Goals as goal
 

@@ -1,5 +1,5 @@
 use Rattle.mq_ast.specs.Prelude.{ManyOf, many_end}
-use Rattle.mq_parse_expr.specs.StepLemmas.{all_found}
+use Rattle.mq_parse_words.specs.StepLemmas.{all_found}
 use Rattle.mq_parse_query.proofs.ListLemmas.{Any, many_kept, turns_some, turns_none}
 use Rattle.mq_parse_query.proofs.lists.read_many.Goals as goal
 

@@ -1,5 +1,5 @@
 use Rattle.mq_ast.specs.Prelude.{EndsList, MoreOf, comma, more_comma, more_end}
-use Rattle.mq_parse_expr.specs.StepLemmas.{quit, one_more, cut_short, all_found}
+use Rattle.mq_parse_words.specs.StepLemmas.{quit, one_more, cut_short, all_found}
 use Rattle.mq_parse_query.proofs.ListLemmas.{list_no_next, list_no_more}
 use Rattle.mq_parse_query.proofs.lists.read_more.Goals as goal
 

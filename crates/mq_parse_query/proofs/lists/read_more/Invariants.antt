@@ -1,6 +1,6 @@
 use Rattle.std.proofs.Common.{◌-◌, length}
 use Rattle.mq_ast.specs.Prelude.{EndsList, MoreOf}
-use Rattle.mq_parse_expr.specs.StepLemmas.{SoFar}
+use Rattle.mq_parse_words.specs.StepLemmas.{SoFar}
 use Rattle.mq_parse_query.proofs.lists.read_more.Given as goal
 
 abbrev pub invariant-loop-behind : goal.invariant-loop-behind

@@ -1,6 +1,6 @@
 use Rattle.std.proofs.Common.{arith}
 use Rattle.mq_ast.specs.Prelude.{BodyE, body}
-use Rattle.mq_parse_expr.specs.StepLemmas.{quit}
+use Rattle.mq_parse_words.specs.StepLemmas.{quit}
 use Rattle.mq_parse_query.proofs.QueryLemmas.{body_no_main, body_no_parts, body_no_axes}
 use Rattle.mq_parse_query.proofs.model.read_body.Goals as goal
 

@@ -1,6 +1,6 @@
 use Rattle.std.proofs.Common.{arith}
 use Rattle.mq_ast.specs.Prelude.{FrontE, front}
-use Rattle.mq_parse_expr.specs.StepLemmas.{quit}
+use Rattle.mq_parse_words.specs.StepLemmas.{quit}
 use Rattle.mq_parse_query.proofs.QueryLemmas.{front_no_opts, front_no_return, front_no_refs}
 use Rattle.mq_parse_query.proofs.model.read_front.Goals as goal
 

@@ -1,8 +1,8 @@
 use Rattle.std.proofs.Common.{◌∷◌, arith}
 use Rattle.mq_lexer.specs.declared.keywords.Keyword.TheVariants as word
 use Rattle.mq_ast.specs.Prelude.{ModelE, Word}
-use Rattle.mq_parse_expr.specs.Reading.{Anywhere}
-use Rattle.mq_parse_expr.specs.StepLemmas.{fronted}
+use Rattle.mq_parse_words.specs.Reading.{Anywhere}
+use Rattle.mq_parse_words.specs.StepLemmas.{fronted}
 use Rattle.mq_parse_query.proofs.QueryLemmas.{model_no_word}
 use Rattle.mq_parse_query.proofs.model.read_model.Goals as goal
 

@@ -1,7 +1,7 @@
 use Rattle.std.proofs.Common.{arith}
 use Rattle.mq_ast.specs.Prelude.{model}
 use Rattle.mq_parse_query.specs.Pieces.{Modelling}
-use Rattle.mq_parse_expr.specs.StepLemmas.{quit, as_value}
+use Rattle.mq_parse_words.specs.StepLemmas.{quit, as_value}
 use Rattle.mq_parse_query.proofs.QueryLemmas.{model_no_front, model_no_body, model_no_tail}
 use Rattle.mq_parse_query.proofs.model.read_modelling.Goals as goal
 

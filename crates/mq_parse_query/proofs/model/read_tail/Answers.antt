@@ -1,6 +1,6 @@
 use Rattle.std.proofs.Common.{arith}
 use Rattle.mq_ast.specs.Prelude.{TailE, tail}
-use Rattle.mq_parse_expr.specs.StepLemmas.{quit, as_value}
+use Rattle.mq_parse_words.specs.StepLemmas.{quit, as_value}
 use Rattle.mq_parse_query.proofs.QueryLemmas.{tail_no_opts, tail_no_head, tail_no_rules}
 use Rattle.mq_parse_query.proofs.model.read_tail.Goals as goal
 

@@ -1,6 +1,6 @@
 use Rattle.std.proofs.Common.{arith}
 use Rattle.mq_ast.specs.Prelude.{DirectionE, EndsKey, direction_asc, direction_desc, direction_none}
-use Rattle.mq_parse_expr.specs.StepLemmas.{quit, here, there}
+use Rattle.mq_parse_words.specs.StepLemmas.{quit, here, there}
 use Rattle.mq_parse_query.proofs.OrderLemmas.{direction_no_asc}
 use Rattle.mq_parse_query.proofs.order.read_direction.Goals as goal
 

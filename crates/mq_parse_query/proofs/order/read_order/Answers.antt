@@ -1,8 +1,8 @@
 use Rattle.std.proofs.Common.{◌∷◌, ap, ◌∙◌, arith}
 use Rattle.mq_lexer.specs.declared.keywords.Keyword.TheVariants as word
 use Rattle.mq_ast.specs.Prelude.{EndsOrder, OrderE, Word, order_none, order_some}
-use Rattle.mq_parse_expr.specs.Reading.{from}
-use Rattle.mq_parse_expr.specs.StepLemmas.{quit, here, there, as_value}
+use Rattle.mq_parse_words.specs.Reading.{from}
+use Rattle.mq_parse_words.specs.StepLemmas.{quit, here, there, as_value}
 use Rattle.mq_parse_query.proofs.OrderLemmas.{order_no_order, order_no_by, order_no_keys, order_no_end}
 use Rattle.mq_parse_query.proofs.order.read_order.Goals as goal
 

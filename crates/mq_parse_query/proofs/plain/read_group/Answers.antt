@@ -2,8 +2,8 @@ use Rattle.std.proofs.Common.{◌∷◌, ap, ◌∙◌, arith}
 use Rattle.mq_ast.specs.declared.levels.TheConstants as level
 use Rattle.mq_lexer.specs.declared.keywords.Keyword.TheVariants as word
 use Rattle.mq_ast.specs.Prelude.{GroupE, Stops, Word, group_none, group_some}
-use Rattle.mq_parse_expr.specs.Reading.{from}
-use Rattle.mq_parse_expr.specs.StepLemmas.{quit, here, there, as_value}
+use Rattle.mq_parse_words.specs.Reading.{from}
+use Rattle.mq_parse_words.specs.StepLemmas.{quit, here, there, as_value}
 use Rattle.mq_parse_query.proofs.SourceLemmas.{group_no_group, group_no_by, group_no_paths, group_no_end}
 use Rattle.mq_parse_query.proofs.plain.read_group.Goals as goal
 

@@ -1,7 +1,7 @@
 use Rattle.std.proofs.Common.{arith}
 use Rattle.mq_ast.specs.declared.levels.TheConstants as level
 use Rattle.mq_ast.specs.Prelude.{PlainE, Stops, plain}
-use Rattle.mq_parse_expr.specs.StepLemmas.{quit, here, there, as_value}
+use Rattle.mq_parse_words.specs.StepLemmas.{quit, here, there, as_value}
 use Rattle.mq_parse_query.proofs.SourceLemmas.{plain_no_select, plain_no_shown, plain_no_source}
 use Rattle.mq_parse_query.proofs.plain.read_plain.Goals as goal
 

@@ -1,7 +1,7 @@
 use Rattle.std.proofs.Common.{◌∷◌, ap, ◌∙◌, arith}
 use Rattle.mq_ast.specs.Prelude.{SelE, ShownE, SomeOf, shown_list, shown_star, star}
-use Rattle.mq_parse_expr.specs.Reading.{Anywhere}
-use Rattle.mq_parse_expr.specs.StepLemmas.{quit, here, there, till, as_value}
+use Rattle.mq_parse_words.specs.Reading.{Anywhere}
+use Rattle.mq_parse_words.specs.StepLemmas.{quit, here, there, till, as_value}
 use Rattle.mq_parse_query.proofs.SourceLemmas.{shown_no_star, shown_no_from}
 use Rattle.mq_parse_query.proofs.plain.read_shown.Goals as goal
 

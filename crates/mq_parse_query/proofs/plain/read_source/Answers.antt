@@ -1,6 +1,6 @@
 use Rattle.std.proofs.Common.{arith}
 use Rattle.mq_ast.specs.Prelude.{SourceE, source}
-use Rattle.mq_parse_expr.specs.StepLemmas.{quit, as_value}
+use Rattle.mq_parse_words.specs.StepLemmas.{quit, as_value}
 use Rattle.mq_parse_query.proofs.SourceLemmas.{source_no_from, source_no_where, source_no_group}
 use Rattle.mq_parse_query.proofs.plain.read_source.Goals as goal
 

@@ -1,6 +1,6 @@
 use Rattle.std.proofs.Common.{arith}
 use Rattle.mq_ast.specs.Prelude.{EndE, ending, model_none, model_some}
-use Rattle.mq_parse_expr.specs.StepLemmas.{quit}
+use Rattle.mq_parse_words.specs.StepLemmas.{quit}
 use Rattle.mq_parse_query.proofs.QueryLemmas.{end_no_model, end_no_last, end_no_order}
 use Rattle.mq_parse_query.proofs.query.read_end.Goals as goal
 

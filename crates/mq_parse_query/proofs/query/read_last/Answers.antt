@@ -1,6 +1,6 @@
 use Rattle.mq_ast.specs.Prelude.{OrderE}
-use Rattle.mq_parse_expr.specs.Reading.{from}
-use Rattle.mq_parse_expr.specs.StepLemmas.{quit}
+use Rattle.mq_parse_words.specs.Reading.{from}
+use Rattle.mq_parse_words.specs.StepLemmas.{quit}
 use Rattle.mq_parse_query.proofs.QueryLemmas.{last_no_order, last_no_end}
 use Rattle.mq_parse_query.proofs.query.read_last.Goals as goal
 

@@ -1,6 +1,6 @@
 use Rattle.std.proofs.Common.{arith}
 use Rattle.mq_ast.specs.Prelude.{QueryE, query}
-use Rattle.mq_parse_expr.specs.StepLemmas.{quit, as_value}
+use Rattle.mq_parse_words.specs.StepLemmas.{quit, as_value}
 use Rattle.mq_parse_query.proofs.QueryLemmas.{query_no_plain, query_no_end}
 use Rattle.mq_parse_query.proofs.query.read_query.Goals as goal
 

@@ -1,7 +1,7 @@
 use Rattle.std.proofs.Common.{◌∷◌, ap, ◌∙◌, arith}
 use Rattle.mq_ast.specs.Prelude.{RuleFront, MaybeMode, Name, rule_front}
-use Rattle.mq_parse_expr.specs.StepLemmas.{quit, till}
-use Rattle.mq_parse_expr.specs.NameLemmas.{named}
+use Rattle.mq_parse_words.specs.StepLemmas.{quit, till}
+use Rattle.mq_parse_words.specs.NameLemmas.{named}
 use Rattle.mq_parse_query.proofs.RuleLemmas.{front_no_mode, front_no_name, front_no_open}
 use Rattle.mq_parse_query.proofs.rules.read_front.Goals as goal
 

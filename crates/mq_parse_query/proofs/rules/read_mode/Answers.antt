@@ -2,7 +2,7 @@ use Rattle.std.proofs.Common.{◌∷◌, arith}
 use Rattle.mq_ast.specs.declared.clauses.TheConstants as clause
 use Rattle.mq_lexer.specs.declared.keywords.Keyword.TheVariants as word
 use Rattle.mq_ast.specs.Prelude.{MaybeMode, Past, Word, mode_none, mode_some, mode_update}
-use Rattle.mq_parse_expr.specs.StepLemmas.{quit, here, there, fronted}
+use Rattle.mq_parse_words.specs.StepLemmas.{quit, here, there, fronted}
 use Rattle.mq_parse_query.proofs.RuleLemmas.{mode_no_update, mode_no_word}
 use Rattle.mq_parse_query.proofs.rules.read_mode.Goals as goal
 

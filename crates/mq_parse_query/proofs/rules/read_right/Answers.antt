@@ -1,6 +1,6 @@
 use Rattle.std.proofs.Common.{arith}
 use Rattle.mq_ast.specs.Prelude.{RuleRight, OrderE, rule_right}
-use Rattle.mq_parse_expr.specs.StepLemmas.{quit, till}
+use Rattle.mq_parse_words.specs.StepLemmas.{quit, till}
 use Rattle.mq_parse_query.proofs.RuleLemmas.{right_no_order, right_no_equal, right_no_expr}
 use Rattle.mq_parse_query.proofs.rules.read_right.Goals as goal
 

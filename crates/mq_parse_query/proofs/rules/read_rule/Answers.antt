@@ -1,6 +1,6 @@
 use Rattle.std.proofs.Common.{arith}
 use Rattle.mq_ast.specs.Prelude.{RuleE, rule}
-use Rattle.mq_parse_expr.specs.StepLemmas.{quit, as_value}
+use Rattle.mq_parse_words.specs.StepLemmas.{quit, as_value}
 use Rattle.mq_parse_query.proofs.RuleLemmas.{rule_no_front, rule_no_left, rule_no_right}
 use Rattle.mq_parse_query.proofs.rules.read_rule.Goals as goal
 

@@ -1,8 +1,8 @@
 use Rattle.std.proofs.Common.{◌∷◌, ap, ◌∙◌, arith}
 use Rattle.mq_ast.specs.Prelude.{RuleE, RuleList, closer, opener, rules_none, rules_some}
 use Rattle.mq_parse_query.specs.Pieces.{Closed}
-use Rattle.mq_parse_expr.specs.Reading.{Anywhere}
-use Rattle.mq_parse_expr.specs.StepLemmas.{quit, here, there, as_value, gives_as}
+use Rattle.mq_parse_words.specs.Reading.{Anywhere}
+use Rattle.mq_parse_words.specs.StepLemmas.{quit, here, there, as_value, gives_as}
 use Rattle.mq_parse_query.proofs.RuleLemmas.{rules_no_open, rules_no_list, ends_closed}
 use Rattle.mq_parse_query.proofs.rules.read_rules.Goals as goal
 

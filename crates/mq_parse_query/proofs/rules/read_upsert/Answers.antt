@@ -2,7 +2,7 @@ use Rattle.std.proofs.Common.{arith}
 use Rattle.mq_ast.specs.declared.clauses.TheConstants as clause
 use Rattle.mq_ast.specs.Prelude.{Past, mode_some, mode_upsert, mode_upsert_all}
 use Rattle.mq_parse_query.specs.Pieces.{Upserts}
-use Rattle.mq_parse_expr.specs.StepLemmas.{quit, here, there}
+use Rattle.mq_parse_words.specs.StepLemmas.{quit, here, there}
 use Rattle.mq_parse_query.proofs.RuleLemmas.{upsert_no_all, upsert_no_end}
 use Rattle.mq_parse_query.proofs.rules.read_upsert.Goals as goal
 

@@ -1,6 +1,6 @@
 use Rattle.mq_ast.specs.declared.levels.TheConstants as level
 use Rattle.mq_ast.specs.Prelude.{Stops, WhereE}
-use Rattle.mq_parse_expr.specs.StepLemmas.{quit}
+use Rattle.mq_parse_words.specs.StepLemmas.{quit}
 use Rattle.mq_parse_stmt.specs.Pieces.{Changes, changes}
 use Rattle.mq_parse_stmt.proofs.PieceLemmas.{beside_gives, changes_no_sets, changes_no_where}
 use Rattle.mq_parse_stmt.proofs.change.read_changes.Goals as goal

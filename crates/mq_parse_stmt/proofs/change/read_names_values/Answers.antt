@@ -1,6 +1,6 @@
 use Rattle.std.proofs.Common.{arith}
 use Rattle.mq_ast.specs.Prelude.{NamesE, names_none, names_some}
-use Rattle.mq_parse_expr.specs.StepLemmas.{quit, there, till}
+use Rattle.mq_parse_words.specs.StepLemmas.{quit, there, till}
 use Rattle.mq_parse_stmt.specs.Pieces.{NamesValues}
 use Rattle.mq_parse_stmt.proofs.PieceLemmas.{values_no_names, values_no_values}
 use Rattle.mq_parse_stmt.proofs.change.read_names_values.Goals as goal

@@ -1,8 +1,8 @@
 use Rattle.std.proofs.Common.{◌∷◌, ap, ◌∙◌, arith}
 use Rattle.mq_ast.specs.declared.levels.TheConstants as level
 use Rattle.mq_ast.specs.Prelude.{Expr, Name, SetE, Stops, set}
-use Rattle.mq_parse_expr.specs.StepLemmas.{quit, here, there}
-use Rattle.mq_parse_expr.specs.NameLemmas.{named}
+use Rattle.mq_parse_words.specs.StepLemmas.{quit, here, there}
+use Rattle.mq_parse_words.specs.NameLemmas.{named}
 use Rattle.mq_parse_stmt.proofs.PieceLemmas.{beside_gives, set_no_name, set_no_equal, set_no_value}
 use Rattle.mq_parse_stmt.proofs.change.read_set.Goals as goal
 

@@ -1,7 +1,7 @@
 use Rattle.std.proofs.Common.{◌∷◌, Ok, Err, refl, ap, ◌∙◌}
 use Rattle.mq_lexer.specs.declared.keywords.Keyword.TheVariants as word
 use Rattle.mq_ast.specs.Prelude.{Name, Word}
-use Rattle.mq_parse_expr.specs.NameLemmas.{named}
+use Rattle.mq_parse_words.specs.NameLemmas.{named}
 use Rattle.mq_parse_stmt.proofs.LastLemmas.{read_all, last_changes}
 use Rattle.mq_parse_stmt.proofs.StmtLemmas.{leave, stmt_at, update_no_name, update_no_set, update_no_changes, update_read}
 use Rattle.mq_parse_stmt.proofs.change.read_update.Goals as goal

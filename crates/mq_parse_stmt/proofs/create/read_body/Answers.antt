@@ -1,6 +1,6 @@
 use Rattle.std.proofs.Common.{arith}
-use Rattle.mq_parse_expr.specs.Reading.{Anywhere}
-use Rattle.mq_parse_expr.specs.StepLemmas.{quit, here, there}
+use Rattle.mq_parse_words.specs.Reading.{Anywhere}
+use Rattle.mq_parse_words.specs.StepLemmas.{quit, here, there}
 use Rattle.mq_parse_stmt.specs.Pieces.{Body, KeyEnd, body}
 use Rattle.mq_parse_stmt.proofs.PieceLemmas.{beside_gives, body_no_open, body_no_cols, body_no_key}
 use Rattle.mq_parse_stmt.proofs.create.read_body.Goals as goal

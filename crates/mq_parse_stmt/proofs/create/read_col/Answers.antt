@@ -1,8 +1,8 @@
 use Rattle.std.proofs.Common.{arith}
 use Rattle.mq_ast.specs.declared.levels.TheConstants as level
 use Rattle.mq_ast.specs.Prelude.{ColE, Stops, col}
-use Rattle.mq_parse_expr.specs.StepLemmas.{quit, here, there, as_value}
-use Rattle.mq_parse_expr.specs.NameLemmas.{named}
+use Rattle.mq_parse_words.specs.StepLemmas.{quit, here, there, as_value}
+use Rattle.mq_parse_words.specs.NameLemmas.{named}
 use Rattle.mq_parse_stmt.proofs.PieceLemmas.{col_no_name, col_no_kind, col_no_null}
 use Rattle.mq_parse_stmt.proofs.create.read_col.Goals as goal
 

@@ -1,6 +1,6 @@
 use Rattle.std.proofs.Common.{arith}
 use Rattle.mq_ast.specs.Prelude.{ColE, SomeOf, some_of}
-use Rattle.mq_parse_expr.specs.StepLemmas.{quit, as_value}
+use Rattle.mq_parse_words.specs.StepLemmas.{quit, as_value}
 use Rattle.mq_parse_stmt.proofs.PieceLemmas.{cols_no_first, cols_no_others}
 use Rattle.mq_parse_stmt.proofs.create.read_cols.Goals as goal
 

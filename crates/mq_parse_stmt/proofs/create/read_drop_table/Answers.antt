@@ -1,7 +1,7 @@
 use Rattle.std.proofs.Common.{◌∷◌, Ok, Err, refl, ap}
 use Rattle.mq_lexer.specs.declared.keywords.Keyword.TheVariants as word
 use Rattle.mq_ast.specs.Prelude.{Word, stmt_drop_table}
-use Rattle.mq_parse_expr.specs.NameLemmas.{named}
+use Rattle.mq_parse_words.specs.NameLemmas.{named}
 use Rattle.mq_parse_stmt.proofs.LastLemmas.{read_all, last_name}
 use Rattle.mq_parse_stmt.proofs.StmtLemmas.{leave, stmt_at, drop_table_no_name}
 use Rattle.mq_parse_stmt.proofs.create.read_drop_table.Goals as goal

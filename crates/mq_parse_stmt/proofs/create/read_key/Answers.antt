@@ -1,8 +1,8 @@
 use Rattle.std.proofs.Common.{◌∷◌, ap, ◌∙◌, arith}
 use Rattle.mq_lexer.specs.declared.keywords.Keyword.TheVariants as word
 use Rattle.mq_ast.specs.Prelude.{NamesE, Word, primary_some}
-use Rattle.mq_parse_expr.specs.Reading.{Anywhere}
-use Rattle.mq_parse_expr.specs.StepLemmas.{quit, here, there, till}
+use Rattle.mq_parse_words.specs.Reading.{Anywhere}
+use Rattle.mq_parse_words.specs.StepLemmas.{quit, here, there, till}
 use Rattle.mq_parse_stmt.specs.Pieces.{KeyBehind}
 use Rattle.mq_parse_stmt.proofs.PieceLemmas.{key_no_primary, key_no_key, key_no_names, key_no_end}
 use Rattle.mq_parse_stmt.proofs.create.read_key.Goals as goal

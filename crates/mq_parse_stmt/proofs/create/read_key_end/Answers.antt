@@ -1,7 +1,7 @@
 use Rattle.std.proofs.Common.{◌∷◌, arith}
 use Rattle.mq_ast.specs.Prelude.{comma, primary_none}
-use Rattle.mq_parse_expr.specs.Reading.{Anywhere}
-use Rattle.mq_parse_expr.specs.StepLemmas.{quit, there, as_value, fronted}
+use Rattle.mq_parse_words.specs.Reading.{Anywhere}
+use Rattle.mq_parse_words.specs.StepLemmas.{quit, there, as_value, fronted}
 use Rattle.mq_parse_stmt.specs.Pieces.{KeyEnd}
 use Rattle.mq_parse_stmt.proofs.PieceLemmas.{key_no_close}
 use Rattle.mq_parse_stmt.proofs.create.read_key_end.Goals as goal

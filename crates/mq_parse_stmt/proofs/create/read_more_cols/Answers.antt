@@ -1,6 +1,6 @@
 use Rattle.mq_ast.specs.declared.levels.TheConstants as level
 use Rattle.mq_ast.specs.Prelude.{ColE, EndsCols, MoreOf, Stops, comma, more_comma, more_end}
-use Rattle.mq_parse_expr.specs.StepLemmas.{quit, one_more, cut_short, all_found}
+use Rattle.mq_parse_words.specs.StepLemmas.{quit, one_more, cut_short, all_found}
 use Rattle.mq_parse_stmt.proofs.PieceLemmas.{cols_no_next, cols_no_more}
 use Rattle.mq_parse_stmt.proofs.create.read_more_cols.Goals as goal
 

@@ -1,7 +1,7 @@
 use Rattle.std.proofs.Common.{◌-◌, length}
 use Rattle.mq_ast.specs.declared.levels.TheConstants as level
 use Rattle.mq_ast.specs.Prelude.{ColE, EndsCols, MoreOf, Stops}
-use Rattle.mq_parse_expr.specs.StepLemmas.{SoFar}
+use Rattle.mq_parse_words.specs.StepLemmas.{SoFar}
 use Rattle.mq_parse_stmt.proofs.create.read_more_cols.Given as goal
 
 abbrev pub invariant-loop-behind : goal.invariant-loop-behind

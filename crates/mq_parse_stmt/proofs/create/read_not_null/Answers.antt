@@ -2,7 +2,7 @@ use Rattle.std.proofs.Common.{◌∷◌, ap, ◌∙◌, arith}
 use Rattle.mq_ast.specs.declared.levels.TheConstants as level
 use Rattle.mq_lexer.specs.declared.keywords.Keyword.TheVariants as word
 use Rattle.mq_ast.specs.Prelude.{NotNullE, Stops, Word, null_may, null_not}
-use Rattle.mq_parse_expr.specs.StepLemmas.{quit, here, there}
+use Rattle.mq_parse_words.specs.StepLemmas.{quit, here, there}
 use Rattle.mq_parse_stmt.proofs.PieceLemmas.{null_no_null, null_no_end, null_no_plain}
 use Rattle.mq_parse_stmt.proofs.create.read_not_null.Goals as goal
 

@@ -1,7 +1,7 @@
 use Rattle.std.proofs.Common.{◌∷◌, Ok, Err, refl, ap}
 use Rattle.mq_lexer.specs.declared.keywords.Keyword.TheVariants as word
 use Rattle.mq_ast.specs.Prelude.{Word}
-use Rattle.mq_parse_expr.specs.NameLemmas.{named}
+use Rattle.mq_parse_words.specs.NameLemmas.{named}
 use Rattle.mq_parse_stmt.proofs.LastLemmas.{read_all, last_body}
 use Rattle.mq_parse_stmt.proofs.StmtLemmas.{leave, stmt_at, table_no_name, table_no_body, table_read}
 use Rattle.mq_parse_stmt.proofs.create.read_table.Goals as goal

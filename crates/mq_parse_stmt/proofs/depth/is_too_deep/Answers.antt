@@ -1,6 +1,6 @@
 use Rattle.std.proofs.Common.{◌+◌, refl, arith}
 use Rattle.mq_ast.specs.Prelude.{tok_of}
-use Rattle.mq_parse_expr.specs.Reading.{from}
+use Rattle.mq_parse_words.specs.Reading.{from}
 use Rattle.mq_parse_stmt.proofs.DepthLemmas.{levels_next, levels_over, levels_all}
 use Rattle.mq_parse_stmt.proofs.depth.is_too_deep.Goals.{else-opened-gt-MAX_DEPTH-via-then-opened-gt-MAX_DEPTH+else-opened-closed, else-opened-gt-MAX_DEPTH-via-else-opened-gt-MAX_DEPTH}
 use Rattle.mq_parse_stmt.proofs.depth.is_too_deep.Goals as goal

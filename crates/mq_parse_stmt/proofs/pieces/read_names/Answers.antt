@@ -1,7 +1,7 @@
 use Rattle.std.proofs.Common.{arith}
 use Rattle.mq_ast.specs.Prelude.{NameE, NamesE, SomeOf, names}
-use Rattle.mq_parse_expr.specs.Reading.{Anywhere}
-use Rattle.mq_parse_expr.specs.StepLemmas.{quit, here, there, till}
+use Rattle.mq_parse_words.specs.Reading.{Anywhere}
+use Rattle.mq_parse_words.specs.StepLemmas.{quit, here, there, till}
 use Rattle.mq_parse_stmt.proofs.PieceLemmas.{names_no_open, names_no_list, names_no_close}
 use Rattle.mq_parse_stmt.proofs.pieces.read_names.Goals as goal
 

@@ -1,8 +1,8 @@
 use Rattle.std.proofs.Common.{◌∷◌, ap, ◌∙◌, arith}
 use Rattle.mq_ast.specs.Prelude.{Word}
-use Rattle.mq_parse_expr.specs.Reading.{Anywhere}
-use Rattle.mq_parse_expr.specs.StepLemmas.{quit, here, there}
-use Rattle.mq_parse_expr.specs.NameLemmas.{named}
+use Rattle.mq_parse_words.specs.Reading.{Anywhere}
+use Rattle.mq_parse_words.specs.StepLemmas.{quit, here, there}
+use Rattle.mq_parse_words.specs.NameLemmas.{named}
 use Rattle.mq_parse_stmt.specs.Pieces.{WordName, word_name}
 use Rattle.mq_parse_stmt.proofs.PieceLemmas.{word_name_no_word, word_name_no_name}
 use Rattle.mq_parse_stmt.proofs.pieces.read_word_name.Goals as goal

@@ -1,6 +1,6 @@
 use Rattle.std.proofs.Common.{Ok, Err, refl, sym}
 use Rattle.mq_ast.specs.Prelude.{QueryE, stmt_query}
-use Rattle.mq_parse_expr.specs.StepLemmas.{there}
+use Rattle.mq_parse_words.specs.StepLemmas.{there}
 use Rattle.mq_parse_stmt.proofs.LastLemmas.{read_all, last_query}
 use Rattle.mq_parse_stmt.proofs.StmtLemmas.{leave, stmt_at, query_no_query}
 use Rattle.mq_parse_stmt.proofs.statement.read_rows.Goals as goal

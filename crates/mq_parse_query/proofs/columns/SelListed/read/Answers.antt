@@ -1,6 +1,6 @@
 use Rattle.std.proofs.Common.{arith}
 use Rattle.mq_ast.specs.Prelude.{SelE, sel}
-use Rattle.mq_parse_expr.specs.StepLemmas.{quit, as_value}
+use Rattle.mq_parse_words.specs.StepLemmas.{quit, as_value}
 use Rattle.mq_parse_query.proofs.PlainLemmas.{sel_no_expr, sel_no_alias}
 use Rattle.mq_parse_query.proofs.columns.SelListed.read.Goals as goal
 

@@ -1,6 +1,6 @@
 use Rattle.std.proofs.Common.{arith}
 use Rattle.mq_ast.specs.Prelude.{KeyE}
-use Rattle.mq_parse_expr.specs.StepLemmas.{quit, as_value}
+use Rattle.mq_parse_words.specs.StepLemmas.{quit, as_value}
 use Rattle.mq_parse_query.proofs.OrderLemmas.{key_no_name, key_no_direction, key_whole}
 use Rattle.mq_parse_query.proofs.order.OrderKeyListed.read.Goals as goal
 

@@ -1,5 +1,0 @@
-use Rattle.mq_parse_expr.specs.NameLemmas.{token_no_number}
-use Rattle.mq_parse_expr.proofs.names.number_at.Goals as goal
-
-pub returns-in_default : goal.returns-in_default
-returns-in_default c = token_no_number c.in-Some.token c.in-Some.ensures.1 c.in_default.not-Number
