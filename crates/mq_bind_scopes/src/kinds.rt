@@ -60,6 +60,7 @@ pub fn column_kind(kind: ExprKind) -> Option<Kind>
     }
 }
 
+/// Whether it is that of a condition.
 pub fn is_condition_kind(kind: ExprKind) -> bool
     ensures { result ≡ spec.is_condition_kind kind }
 {
@@ -185,6 +186,7 @@ pub fn kind_fits(kind: Kind) -> bool
     }
 }
 
+/// The kind of CAST, where it can be cast.
 pub fn cast_kind(to: Kind, kind: ExprKind) -> Result<ExprKind, Fail<Refused>>
     ensures { Gives result (made.cast_kind to kind) }
 {
@@ -197,6 +199,7 @@ pub fn cast_kind(to: Kind, kind: ExprKind) -> Result<ExprKind, Fail<Refused>>
     Ok(of_column(to))
 }
 
+/// The kind of an aggregate of such values.
 pub fn aggregate_kind(agg: Agg, kind: ExprKind) -> Result<ExprKind, Fail<Refused>>
     ensures { Gives result (made.aggregate_kind agg kind) }
 {

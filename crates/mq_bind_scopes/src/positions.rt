@@ -85,12 +85,14 @@ pub fn is_rule(part: Part) -> bool
     }
 }
 
+/// Whether it is the left side of a rule.
 pub fn is_left(part: Part) -> bool
     ensures { result ≡ spec.is_left part }
 {
     matches!(part, Part::Left)
 }
 
+/// Whether it is UNTIL.
 pub fn is_until(part: Part) -> bool
     ensures { result ≡ spec.is_until part }
 {
