@@ -3,11 +3,7 @@
 use mq_values::{Memory, Num};
 
 /// The lines behind the first so many. Where the last one has no end, a backslash stands in its place.
-pub(crate) fn add_lines(
-    taken: &[u8],
-    hidden: usize,
-    answer: &mut Vec<u8>,
-) -> Result<(), Memory> {
+pub(crate) fn add_lines(taken: &[u8], hidden: usize, answer: &mut Vec<u8>) -> Result<(), Memory> {
     let mut line = 0;
     let mut open = false;
     for byte in taken {
