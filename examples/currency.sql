@@ -1,0 +1,26 @@
+-- A budget in three currencies, and what it comes to in euros by the rates of each month.
+CREATE TABLE BUDGET (DEPT TEXT, CUR TEXT, MON INT, AMT DECIMAL(2), PRIMARY KEY (DEPT, CUR, MON));
+INSERT INTO BUDGET VALUES
+  ('lab', 'EUR', 1, 1000.00), ('lab', 'USD', 1, 500.00), ('lab', 'USD', 2, 500.00),
+  ('shop', 'GBP', 1, 200.00), ('shop', 'GBP', 2, 210.50);
+CREATE TABLE RATES (CUR TEXT, MON INT, RATE DECIMAL(4), PRIMARY KEY (CUR, MON));
+INSERT INTO RATES VALUES
+  ('EUR', 1, 1), ('EUR', 2, 1), ('USD', 1, 0.9215), ('USD', 2, 0.9333), ('GBP', 1, 1.1702);
+
+CREATE VIEW IN_EUROS AS
+SELECT DEPT, CUR, MON, A, E
+FROM BUDGET
+MODEL
+  REFERENCE FX ON (SELECT CUR, MON, RATE FROM RATES) DIMENSION BY (CUR, MON) MEASURES (RATE)
+  MAIN PLAN
+  PARTITION BY (DEPT) DIMENSION BY (CUR, MON) MEASURES (AMT A, CAST(0 AS DECIMAL(2)) E)
+RULES (
+  E[ANY, ANY] = A[CV(), CV()] * FX.RATE[CV(CUR), CV(MON)],
+  E['sum', 0] = SUM(E)[ANY, MON > 0]
+)
+ORDER BY DEPT, MON, CUR;
+SHOW IN_EUROS;
+
+-- The rate of the pound was missing for the second month.
+INSERT INTO RATES VALUES ('GBP', 2, 1.1685);
+SHOW IN_EUROS;
