@@ -1,0 +1,27 @@
+ghost use Rattle.mq_ast.specs.declared.statements.Stmt.{Stmt};
+ghost use Rattle.mq_ir.specs.declared.catalog.Catalog.{Catalog};
+ghost use Rattle.mq_ir.specs.declared.query.BoundQuery.{BoundQuery};
+ghost use Rattle.mq_ir.specs.declared.statement.TableDef.{TableDef};
+ghost use Rattle.mq_bind_expr.specs.Names.{Name};
+ghost use Rattle.mq_ready_laws.specs.ReadyLaws.{BoundQueryIsReady, BoundViewIsReady, CreatedTableIsNew, LoadIsNotBuilt};
+
+/// A table that may be created has a name that no table and no view has.
+pub fn created_tables_are_new()
+    ensures { (catalog : Catalog) (s : Stmt) (def : TableDef) → CreatedTableIsNew catalog s def }
+{}
+
+/// The model of a query that is run has a place for each dimension on each left side, its rules are not in automatic
+/// order, and the query's items are the columns of its partitions, its dimensions and its measures.
+pub fn queries_are_ready()
+    ensures { (catalog : Catalog) (s : Stmt) (q : BoundQuery) → BoundQueryIsReady catalog s q }
+{}
+
+/// So has the model of a query that a view stands for.
+pub fn views_are_ready()
+    ensures { (catalog : Catalog) (s : Stmt) (name : Name) (q : BoundQuery) → BoundViewIsReady catalog s name q }
+{}
+
+/// A statement that is run is bound to no LOAD.
+pub fn loads_are_not_built()
+    ensures { (catalog : Catalog) (s : Stmt) (table file : Name) → LoadIsNotBuilt catalog s table file }
+{}
