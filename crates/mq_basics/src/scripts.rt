@@ -85,9 +85,10 @@ pub(crate) fn add_statements(alloc: Global, field: &str, answer: &mut Vec<u8>) -
     for statement in &found {
         add_statement(*statement, answer)?;
     }
-    Ok(if found.is_empty() {
-        add("\tnone", answer)?
-    })
+    if found.is_empty() {
+        add("\tnone", answer)?;
+    }
+    Ok(())
 }
 
 /// Statement by statement, each with the place behind it, until there is none.
