@@ -79,7 +79,7 @@ fn chain(alloc: Global, count: u32, closed: bool) -> Result<Vec<Vec<u32>>, Memor
         if node > 0 {
             list.push(node - 1)?;
         } else if closed {
-            list.push(count - 1)?;
+            list.push(count.saturating_sub(1))?;
         }
         all.push(list)?;
     }
