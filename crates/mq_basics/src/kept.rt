@@ -1,0 +1,156 @@
+//! What values, texts, names, lists, boxes and keys hold, and that their copies are the same.
+
+use crate::texts::{add_bytes, add_either, key, keys, text, value, values};
+use mq_notation::answers::{add, add_number};
+use mq_notation::lists::add_values;
+use mq_notation::notation::{Read, no_tree};
+use mq_values::{Boxed, Items, Key, Memory, Shared, Text, Value, Words, print};
+use std::alloc::Global;
+use std::collections::{BTreeMap, HashMap};
+
+fn add_whether_same(is: bool, answer: &mut Vec<u8>) -> Result<(), Memory> {
+    add_either(is, " same", " other", answer)
+}
+
+/// A copy and a clone of the value, and whether they are the same as the value.
+pub(crate) fn add_copied(alloc: Global, text: &str, answer: &mut Vec<u8>) -> Read<()> {
+    let v = value(alloc, text)?;
+    let copy = v.copy()?;
+    let clone = v.clone()?;
+    add("\t", answer)?;
+    print(&copy, answer)?;
+    add_whether_same(copy == v, answer)?;
+    add(" ", answer)?;
+    print(&clone, answer)?;
+    add_whether_same(clone == v, answer)?;
+    Ok(add_either(v.is_null(), " null", " not null", answer)?)
+}
+
+/// How many bytes a text has, its copies, and whether it stands behind the empty text; or that it is none.
+pub(crate) fn add_fitted(alloc: Global, field: &str, answer: &mut Vec<u8>) -> Read<()> {
+    let text = text(alloc, field)?;
+    add("\t", answer)?;
+    let Some(text) = Text::new(alloc, text.as_str())? else {
+        return Ok(add("none", answer)?);
+    };
+    add_number(text.as_str().len() as u64, answer)?;
+    add_whether_same(text.copy()? == text, answer)?;
+    add_whether_same(text.clone()? == text, answer)?;
+    Ok(add_either(Text::empty() < text, " above", " least", answer)?)
+}
+
+/// The copy of a name, whether both copies are the same, and whether it stands behind the empty one.
+pub(crate) fn add_words(alloc: Global, field: &str, answer: &mut Vec<u8>) -> Read<()> {
+    let words = Words::new(alloc, text(alloc, field)?.as_str())?;
+    let copy = words.copy()?;
+    add("\t", answer)?;
+    add_bytes(copy.as_str().as_bytes(), answer)?;
+    add_whether_same(copy == words, answer)?;
+    add_whether_same(words.clone()? == words, answer)?;
+    add_either(Words::empty() < words, " above", " least", answer)?;
+    Ok(add_either(words == Words::empty(), " empty", "", answer)?)
+}
+
+/// Values, one that is put before them and one behind them, with tabs between; a dash where there is none.
+pub(crate) fn add_items(alloc: Global, text: &str, answer: &mut Vec<u8>) -> Read<()> {
+    let Some((first, rest)) = text.split_once('\t') else {
+        return no_tree();
+    };
+    let Some((all, last)) = rest.split_once('\t') else {
+        return no_tree();
+    };
+    let mut items = Items::from_vec(values(alloc, all)?);
+    add_either(items.is_empty(), "\tempty", "\tfilled", answer)?;
+    if first != "-" {
+        items.put_first(value(alloc, first)?)?;
+    }
+    if last != "-" {
+        items.push(value(alloc, last)?)?;
+    }
+    Ok(add_held(items, answer)?)
+}
+
+// How many there are, each by its place and what stands behind the last, whether a copy is the same, and all at once.
+fn add_held(items: Items<Value>, answer: &mut Vec<u8>) -> Result<(), Memory> {
+    add("\t", answer)?;
+    add_number(items.len() as u64, answer)?;
+    for at in 0..items.len() {
+        add_place(&items, at, answer)?;
+    }
+    add_place(&items, items.len(), answer)?;
+    let copy = items.clone()?;
+    add_either(copy == items, "\tsame\t", "\tother\t", answer)?;
+    add_values(items.into_vec().as_slice(), answer)
+}
+
+fn add_place(items: &Items<Value>, at: usize, answer: &mut Vec<u8>) -> Result<(), Memory> {
+    add(" ", answer)?;
+    match items.get(at) {
+        Some(v) => print(v, answer),
+        None => add("none", answer),
+    }
+}
+
+/// What a box holds, lent and taken out, and whether its copy holds the same.
+pub(crate) fn add_boxed(alloc: Global, text: &str, answer: &mut Vec<u8>) -> Read<()> {
+    let boxed = Boxed::new(alloc, value(alloc, text)?)?;
+    let copy = boxed.clone()?;
+    add("\t", answer)?;
+    print(boxed.get(), answer)?;
+    add_whether_same(copy == boxed, answer)?;
+    add(" ", answer)?;
+    Ok(print(&copy.into_inner(), answer)?)
+}
+
+/// How many values a key has, its copy, whether both copies are the same, and whether it stands behind the empty key.
+pub(crate) fn add_key(alloc: Global, text: &str, answer: &mut Vec<u8>) -> Read<()> {
+    let key = key(alloc, text)?;
+    let copy = key.copy()?;
+    add("\t", answer)?;
+    add_number(key.as_slice().len() as u64, answer)?;
+    add(" (", answer)?;
+    add_values(copy.as_slice(), answer)?;
+    add(")", answer)?;
+    add_whether_same(copy == key, answer)?;
+    add_whether_same(key.clone()? == key, answer)?;
+    Ok(add_either(Shared::<Value>::empty() < key, " above", " least", answer)?)
+}
+
+/// Keys and a key, with a tab between: the place of the last that is the same, as an ordered map and a hash map have it.
+pub(crate) fn add_found(alloc: Global, text: &str, answer: &mut Vec<u8>) -> Read<()> {
+    let Some((all, one)) = text.split_once('\t') else {
+        return no_tree();
+    };
+    let all = keys(alloc, all)?;
+    let one = key(alloc, one)?;
+    add_number_or_none("\t", ordered(alloc, &all, &one)?, answer)?;
+    Ok(add_number_or_none(" ", hashed(alloc, &all, &one)?, answer)?)
+}
+
+fn ordered(alloc: Global, all: &[Key], one: &Key) -> Result<Option<u64>, Memory> {
+    let mut map: BTreeMap<Key, u64> = BTreeMap::new(alloc);
+    for (at, key) in all.iter().enumerate() {
+        map.insert(key.copy()?, at as u64)?;
+    }
+    Ok(map.get(one).copied())
+}
+
+fn hashed(alloc: Global, all: &[Key], one: &Key) -> Result<Option<u64>, Memory> {
+    let mut map: HashMap<Key, u64> = HashMap::new(alloc);
+    for (at, key) in all.iter().enumerate() {
+        map.insert(key.copy()?, at as u64)?;
+    }
+    Ok(map.get(one).copied())
+}
+
+fn add_number_or_none(
+    front: &str,
+    number: Option<u64>,
+    answer: &mut Vec<u8>,
+) -> Result<(), Memory> {
+    add(front, answer)?;
+    match number {
+        Some(number) => add_number(number, answer),
+        None => add("none", answer),
+    }
+}
