@@ -11,11 +11,11 @@ use Rattle.mq_ir.specs.declared.query.LeftItem.{LeftItem}
 use Rattle.mq_ir.specs.declared.query.PlainPart.{PlainPart}
 use Rattle.mq_ir.specs.Results.{◌>>=◌}
 use Rattle.mq_seq.specs.Conditions.{LeftHasPlaces}
-use Rattle.mq_bind_expr.specs.declared.misuse_numbers.TheConstants.{MISUSE_OF_FOR, MISUSE_OF_PLACE_COUNT}
-use Rattle.mq_bind_expr.specs.declared.scopes.Owner.TheVariants as owner
-use Rattle.mq_bind_expr.specs.declared.scopes.Scope.{Scope}
-use Rattle.mq_bind_expr.specs.Misuses.{other_place_count}
-use Rattle.mq_bind_expr.specs.Refusals.{misuse, refused_where}
+use Rattle.mq_bind_scopes.specs.declared.misuse_numbers.TheConstants.{MISUSE_OF_FOR, MISUSE_OF_PLACE_COUNT}
+use Rattle.mq_bind_scopes.specs.declared.scopes.Owner.TheVariants as owner
+use Rattle.mq_bind_scopes.specs.declared.scopes.Scope.{Scope}
+use Rattle.mq_bind_scopes.specs.Misuses.{other_place_count}
+use Rattle.mq_bind_scopes.specs.Refusals.{misuse, refused_where}
 use Rattle.mq_binder.specs.declared.found.LeftFound.{LeftFound}
 use Rattle.mq_binder.specs.ForWalk.{for_checked, list_bound}
 use Rattle.mq_binder.specs.LeftWalk.{kind_called, left_bound, left_places, names_each, numbers_called, tuples_found}

@@ -14,12 +14,12 @@ use Rattle.mq_ir.specs.declared.query.PlainPart.{PlainPart}
 use Rattle.mq_ir.specs.declared.query.Rule.{Rule}
 use Rattle.mq_ir.specs.Results.{◌>>=◌}
 use Rattle.mq_seq.specs.Conditions.{LeftHasPlaces}
-use Rattle.mq_bind_expr.specs.declared.misuse_numbers.TheConstants.{MISUSE_OF_OPTIONS}
-use Rattle.mq_bind_expr.specs.declared.scopes.Part.TheVariants as part
-use Rattle.mq_bind_expr.specs.declared.scopes.Scope.{Scope}
+use Rattle.mq_bind_scopes.specs.declared.misuse_numbers.TheConstants.{MISUSE_OF_OPTIONS}
+use Rattle.mq_bind_scopes.specs.declared.scopes.Part.TheVariants as part
+use Rattle.mq_bind_scopes.specs.declared.scopes.Scope.{Scope}
 use Rattle.mq_bind_expr.specs.ExpressionWalk.{bound_filter}
-use Rattle.mq_bind_expr.specs.Positions.{standing}
-use Rattle.mq_bind_expr.specs.Refusals.{misuse}
+use Rattle.mq_bind_scopes.specs.Positions.{standing}
+use Rattle.mq_bind_scopes.specs.Refusals.{misuse}
 use Rattle.mq_binder.specs.declared.found.ListItem.{ListItem}
 use Rattle.mq_binder.specs.declared.found.Lists.{Lists}
 use Rattle.mq_binder.specs.declared.found.ModelFound.{ModelFound}

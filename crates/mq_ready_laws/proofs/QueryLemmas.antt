@@ -8,7 +8,7 @@ use Rattle.mq_ir.specs.declared.catalog.Catalog.{Catalog}
 use Rattle.mq_ir.specs.declared.query.BoundQuery.{BoundQuery}
 use Rattle.mq_ir.specs.declared.query.FromPart.{FromPart}
 use Rattle.mq_ir.specs.Results.{◌>>=◌, each}
-use Rattle.mq_bind_expr.specs.declared.scopes.Scope.{Scope}
+use Rattle.mq_bind_scopes.specs.declared.scopes.Scope.{Scope}
 use Rattle.mq_binder.specs.declared.found.ModelFound.{ModelFound}
 use Rattle.mq_binder.specs.declared.found.PlainFound.{PlainFound}
 use Rattle.mq_binder.specs.FromWalk.{base_of, grouped_by}

@@ -9,9 +9,9 @@ use Rattle.mq_ir.specs.declared.query.PlainPart.{PlainPart}
 use Rattle.mq_ir.specs.declared.query.Rule.{Rule}
 use Rattle.mq_ir.specs.Results.{◌>>=◌}
 use Rattle.mq_seq.specs.Conditions.{LeftHasPlaces}
-use Rattle.mq_bind_expr.specs.declared.scopes.Found.{Found}
-use Rattle.mq_bind_expr.specs.declared.scopes.Scope.{Scope}
-use Rattle.mq_bind_expr.specs.Names.{called}
+use Rattle.mq_bind_scopes.specs.declared.scopes.Found.{Found}
+use Rattle.mq_bind_scopes.specs.declared.scopes.Scope.{Scope}
+use Rattle.mq_bind_scopes.specs.Names.{called}
 use Rattle.mq_binder.specs.LeftWalk.{left_bound}
 use Rattle.mq_binder.specs.RuleWalk.{left_order, right_bound, rule_behind, rule_bound, rule_of, rules_bound}
 use Rattle.mq_ready_laws.proofs.LeftLemmas.{left_has_places}

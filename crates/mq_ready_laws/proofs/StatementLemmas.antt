@@ -20,11 +20,11 @@ use Rattle.mq_ir.specs.declared.statement.Column.{Column}
 use Rattle.mq_ir.specs.declared.statement.TableDef.{TableDef}
 use Rattle.mq_ir.specs.Names.{is_table, is_taken, is_view}
 use Rattle.mq_ir.specs.Results.{◌>>=◌}
-use Rattle.mq_bind_expr.specs.declared.scopes.Part.TheVariants as part
+use Rattle.mq_bind_scopes.specs.declared.scopes.Part.TheVariants as part
 use Rattle.mq_bind_expr.specs.ExpressionWalk.{bound_filter}
-use Rattle.mq_bind_expr.specs.Names.{Name}
-use Rattle.mq_bind_expr.specs.Positions.{standing}
-use Rattle.mq_bind_expr.specs.Refusals.{duplicate_name, limit, refused_where, unknown_name}
+use Rattle.mq_bind_scopes.specs.Names.{Name}
+use Rattle.mq_bind_scopes.specs.Positions.{standing}
+use Rattle.mq_bind_scopes.specs.Refusals.{duplicate_name, limit, refused_where, unknown_name}
 use Rattle.mq_binder.specs.BuiltForms.{built}
 use Rattle.mq_binder.specs.ChangeWalk.{change_scope, rows_bound, sets_bound}
 use Rattle.mq_binder.specs.FromWalk.{table_called}

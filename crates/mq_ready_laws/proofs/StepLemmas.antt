@@ -5,7 +5,7 @@ use Rattle.std.proofs.lemmas.Bool.Decides.{nat_tests}
 use Rattle.std.proofs.lemmas.List.Elements.{All-cons, All-nil}
 use Rattle.mq_values.specs.declared.faults.Refused.{Refused}
 use Rattle.mq_ir.specs.Results.{◌>>=◌}
-use Rattle.mq_bind_expr.specs.Refusals.{refused_where}
+use Rattle.mq_bind_scopes.specs.Refusals.{refused_where}
 use Rattle.mq_bind_expr.specs.Steps.{each_with}
 
 pub record Went {A B : Type 0} (r : Result A Refused) (f : A → Result B Refused) (y : B) : Type 0 where

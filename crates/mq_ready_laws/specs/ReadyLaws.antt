@@ -9,7 +9,7 @@ use Rattle.mq_ir.specs.declared.statement.Bound.TheVariants as bound
 use Rattle.mq_ir.specs.declared.statement.TableDef.{TableDef}
 use Rattle.mq_ir.specs.Names.{is_taken}
 use Rattle.mq_seq.specs.Conditions.{LeftsHavePlaces}
-use Rattle.mq_bind_expr.specs.Names.{Name}
+use Rattle.mq_bind_scopes.specs.Names.{Name}
 use Rattle.mq_binder.specs.BuiltForms.{built}
 use Rattle.mq_binder.specs.StatementWalk.{statement_bound}
 

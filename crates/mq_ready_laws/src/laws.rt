@@ -2,7 +2,7 @@ ghost use Rattle.mq_ast.specs.declared.statements.Stmt.{Stmt};
 ghost use Rattle.mq_ir.specs.declared.catalog.Catalog.{Catalog};
 ghost use Rattle.mq_ir.specs.declared.query.BoundQuery.{BoundQuery};
 ghost use Rattle.mq_ir.specs.declared.statement.TableDef.{TableDef};
-ghost use Rattle.mq_bind_expr.specs.Names.{Name};
+ghost use Rattle.mq_bind_scopes.specs.Names.{Name};
 ghost use Rattle.mq_ready_laws.specs.ReadyLaws.{BoundQueryIsReady, BoundViewIsReady, CreatedTableIsNew, LoadIsNotBuilt};
 
 /// A table that may be created has a name that no table and no view has.
