@@ -1,5 +1,7 @@
 //! The head of a row: a name, and behind it what the row asks for, each with a bar before it.
 
+ghost use Rattle.std.specs.Prelude.{◌<◌};
+
 /// The name of a row.
 pub(crate) fn name_of(head: &str) -> &str {
     match head.split_once('|') {
