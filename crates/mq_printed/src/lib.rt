@@ -7,4 +7,4 @@ mod columns;
 mod printing;
 
 pub use columns::Columns;
-pub use printing::printed_rows;
+pub use printing::{printed_rows, sorted};

@@ -26,8 +26,8 @@ pub fn printed_rows<R: Columns + Drop>(
     shown(alloc, q.print.as_slice(), &rows)
 }
 
-// The rows in the order in which they are printed; rows that this order does not tell apart stay in their order.
-fn sorted<R: Columns + Drop>(q: &BoundQuery, rows: Vec<R>) -> Result<Vec<R>, Memory>
+/// The rows in the order in which they are printed; rows that this order does not tell apart stay in their order.
+pub fn sorted<R: Columns + Drop>(q: &BoundQuery, rows: Vec<R>) -> Result<Vec<R>, Memory>
     ensures { IfOk result (λ rows'. rows'.items ≡ ascending (cmp_rows R.columns q.now) rows.items) }
 {
     let mut rows = rows;

@@ -1,0 +1,12 @@
+pub mod AnswerLemmas
+pub mod CatalogLemmas
+pub mod ChangeLemmas
+pub mod DropLemmas
+pub mod ListLemmas
+pub mod MarkLemmas
+pub mod NumberLemmas
+pub mod PlaceLemmas
+pub mod ReadyLemmas
+pub mod RowLemmas
+pub mod StateLemmas
+pub mod TurnLemmas

@@ -1,0 +1,79 @@
+-- The catalog of a session after each change of its tables and views, and what is asked of the views.
+use Rattle.std.proofs.Common.{◌≡◌, ℕ, List, [], ◌∷◌, ◌++◌, Bool, not, map, None, sym, ap, subst, ◌∙◌}
+use Rattle.std.specs.List.{All, filter}
+use Rattle.std.proofs.lemmas.List.Elements.{All-filter, All-push}
+use Rattle.mq_ir.specs.declared.catalog.Catalog.{Catalog}
+use Rattle.mq_ir.specs.declared.catalog.TableEntry.{TableEntry}
+use Rattle.mq_ir.specs.declared.catalog.ViewEntry.{ViewEntry}
+use Rattle.mq_ir.specs.declared.query.BoundQuery.{BoundQuery}
+use Rattle.mq_ir.specs.declared.statement.Schema.{Schema}
+use Rattle.mq_ir.specs.Partitions.{Tuple}
+use Rattle.mq_ir.specs.Statement.{View, tables_read, with_rows}
+use Rattle.mq_ir.specs.Tables.{Table, Tables, is_name, table_at}
+use Rattle.mq_engine.specs.Catalogs.{catalog_from, entry_of_table, entry_of_view}
+use Rattle.mq_engine.specs.Queries.{IsReady}
+use Rattle.mq_engine.proofs.CatalogLemmas.{entries_changed, named, removed_again, same_names}
+use Rattle.mq_engine.proofs.ListLemmas.{mapped_kept, mapped_push}
+
+module _ (k : Catalog) (tables : Tables) (views : List View) (same : k ≡ catalog_from tables views) where
+  of_tables : k.tables ≡ map entry_of_table tables
+  of_tables = ap (λ (c : Catalog). c.tables) same
+
+  of_views : k.views ≡ map entry_of_view views
+  of_views = ap (λ (c : Catalog). c.views) same
+
+  -- a table or a view is put behind the others
+  pub table_put : (after : Tables) (t : Table) (entries : List TableEntry) (entry : TableEntry) → after ≡ tables ++ t ∷ [] → entry ≡ entry_of_table t → entries ≡ k.tables ++ entry ∷ [] → named entries k.views ≡ catalog_from after views
+  table_put after t entries entry a e h =
+      same_names after views entries k.views (mapped_push entry_of_table tables t k.tables entries entry of_tables e h ∙ ap (map entry_of_table) (sym a)) of_views
+
+  pub view_put : (after : List View) (v : View) (entries : List ViewEntry) (entry : ViewEntry) → after ≡ views ++ v ∷ [] → entry ≡ entry_of_view v → entries ≡ k.views ++ entry ∷ [] → named k.tables entries ≡ catalog_from tables after
+  view_put after v entries entry a e h =
+      same_names tables after k.tables entries of_tables (mapped_push entry_of_view views v k.views entries entry of_views e h ∙ ap (map entry_of_view) (sym a))
+
+  -- those of a name are taken away
+  pub tables_kept : (name : List ℕ) (after : Tables) (entries : List TableEntry)
+      → after ≡ filter (λ (t : Table). not (is_name name t.name)) tables → entries ≡ filter (λ (entry : TableEntry). not (is_name name entry.name)) k.tables → named entries k.views ≡ catalog_from after views
+  tables_kept name after entries a h =
+      let is_other : TableEntry → Bool = λ entry. not (is_name name entry.name) in
+      same_names after views entries k.views (h ∙ ap (filter is_other) of_tables ∙ sym (mapped_kept entry_of_table is_other tables) ∙ ap (map entry_of_table) (sym a)) of_views
+
+  pub views_kept : (name : List ℕ) (after : List View) (entries : List ViewEntry)
+      → after ≡ filter (λ (v : View). not (is_name name v.name)) views → entries ≡ filter (λ (entry : ViewEntry). not (is_name name entry.name)) k.views → named k.tables entries ≡ catalog_from tables after
+  views_kept name after entries a h =
+      let is_other : ViewEntry → Bool = λ entry. not (is_name name entry.name) in
+      same_names tables after k.tables entries of_tables (h ∙ ap (filter is_other) of_views ∙ sym (mapped_kept entry_of_view is_other views) ∙ ap (map entry_of_view) (sym a))
+
+  -- a table that was put there is taken away again
+  pub tables_back : (t : Table) (name : List ℕ) (put after : Tables) → put ≡ tables ++ t ∷ [] → name ≡ t.name → table_at tables t.name ≡ None
+      → after ≡ filter (λ (u : Table). not (is_name name u.name)) put → after ≡ tables
+  tables_back t name put after p n h a = a ∙ ap (filter (λ (u : Table). not (is_name name u.name))) p ∙ removed_again tables t name n h
+
+  pub names_back : (after : Tables) (entries : List TableEntry) → after ≡ tables → entries ≡ k.tables → named entries k.views ≡ catalog_from after views
+  names_back after entries a e = ap (λ (es : List TableEntry). named es k.views) e ∙ same ∙ ap (λ (ts : Tables). catalog_from ts views) (sym a)
+
+  -- a view that was put there is taken away again
+  pub views_back : (after : List View) (entries : List ViewEntry) → after ≡ views → entries ≡ k.views → named k.tables entries ≡ catalog_from tables after
+  views_back after entries a e = ap (λ (es : List ViewEntry). named k.tables es) e ∙ same ∙ ap (λ (vs : List View). catalog_from tables vs) (sym a)
+
+  -- rows are changed
+  pub rows_put : (name : List ℕ) (rows : List Tuple) (after : Tables) → after ≡ with_rows tables name rows → k ≡ catalog_from after views
+  rows_put name rows after a =
+      same ∙ ap (λ (es : List TableEntry). named es (map entry_of_view views)) (sym (ap (map entry_of_table) a ∙ entries_changed tables name rows))
+
+-- the entries that are put there
+pub table_entry_is : (name other : List ℕ) (schema : Schema) (entry : TableEntry) → entry ≡ record { name = other; schema = schema } → other ≡ name → entry ≡ entry_of_table (record { name = name; schema = schema; rows = [] })
+table_entry_is name other schema entry e h = e ∙ ap (λ (n : List ℕ). entry_of_table (record { name = n; schema = schema; rows = [] })) h
+
+pub view_entry_is : (name other : List ℕ) (q : BoundQuery) (entry : ViewEntry) → entry ≡ record { name = other; reads = tables_read q } → other ≡ name → entry ≡ entry_of_view (record { name = name; query = q })
+view_entry_is name other q entry e h = e ∙ ap (λ (n : List ℕ). entry_of_view (record { name = n; query = q })) h
+
+-- views that may run, with one more, and without some
+abbrev pub AreReady : List View → Type 0
+AreReady views = All (λ (v : View). IsReady v.query) views
+
+pub ready_put : (views after : List View) (v : View) → after ≡ views ++ v ∷ [] → AreReady views → IsReady v.query → AreReady after
+ready_put views after v a h r = subst AreReady (sym a) (All-push (λ (v : View). IsReady v.query) views v h r)
+
+pub ready_kept : (p : View → Bool) (views after : List View) → after ≡ filter p views → AreReady views → AreReady after
+ready_kept p views after a h = subst AreReady (sym a) (All-filter p (λ (v : View). IsReady v.query) views h)

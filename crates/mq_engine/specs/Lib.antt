@@ -1,0 +1,4 @@
+pub mod Catalogs
+pub mod Models
+pub mod Queries
+pub mod Sessions

@@ -1,0 +1,188 @@
+//! The calls of a session.
+ghost use Rattle.std.specs.Prelude.{◌≡◌, ◌≤◌, ◌∷◌, [], None, Ok, IfOk, OnOk, OnErr};
+ghost use Rattle.mq_values.specs.Answers.{Gives, result_map};
+ghost use Rattle.mq_ir.specs.declared.statement.Bound.TheVariants as bound;
+ghost use Rattle.mq_ir.specs.Answer.{answer_of};
+ghost use Rattle.mq_ir.specs.Lines.{Counted, Done};
+ghost use Rattle.mq_ir.specs.Statement as spec;
+ghost use Rattle.mq_ir.specs.Tables.{table_at};
+ghost use Rattle.mq_engine.specs.Catalogs.{catalog_of};
+ghost use Rattle.mq_engine.specs.Queries.{IsReady};
+ghost use Rattle.mq_engine.specs.Sessions.{nothing, view_answer};
+
+use crate::catalogs::{first_reader, other_tables, other_views, table_entry, view_entry};
+use crate::queries::answer_over;
+use crate::views::{NoView, View, remove_last, remove_view, view_named};
+use mq_io::Gate;
+use mq_ir::{Answer, BoundQuery, Catalog, Change, TableDef};
+use mq_tables::Tables;
+use mq_values::{Fail, Items, Memory, Refused, Words};
+use std::alloc::Global;
+use std::marker::Model;
+use std::mem;
+
+/// How many workers there may be.
+pub const MAX_WORKERS: u32 = 64;
+
+/// The tables and views of a session. Contracts see it as the `State` of mq_ir's `specs/Statement`: the tables with their
+/// rows and the views with their queries, each in order of creation.
+#[derive(Drop)]
+pub struct Engine {
+    tables: Tables,
+    views: Vec<View>,
+    catalog: Catalog,
+}
+
+impl Model for Engine {
+    ghost use Rattle.std.specs.Prelude.{◌≡◌};
+    ghost use Rattle.std.specs.Coded.{codes};
+    ghost use Rattle.std.specs.List.{All};
+    ghost use Rattle.mq_ir.specs.contracts.expression.Expr as expr;
+    ghost use Rattle.mq_ir.specs.contracts.expression.Test as test;
+    ghost use Rattle.mq_ir.specs.Statement.{State};
+    ghost use Rattle.mq_engine.specs.Catalogs.{catalog_from};
+    ghost use Rattle.mq_engine.specs.Queries.{IsReady};
+
+    ghost Value = { State };
+
+    ghost coded = { Prim.hlevel (codes, expr.the_row.coded, test.the_row.coded) };
+
+    ghost view = { λ e. record { tables = e.tables; views = e.views.items } };
+
+    ghost invariant = { λ e. (e.catalog ≡ catalog_from e.tables e.views.items) × All (λ v. IsReady v.query) e.views.items };
+}
+
+impl Engine {
+    /// No table and no view. It takes no memory. Answers are worked out on one thread so far, whatever the number of
+    /// workers.
+    pub fn new(alloc: Global, _workers: u32) -> Engine
+        requires { (1 ≤ _workers) × (_workers ≤ MAX_WORKERS) }
+        ensures { result ≡ nothing }
+    {
+        Engine {
+            tables: Tables::new(alloc),
+            views: Vec::new(alloc),
+            catalog: Catalog {
+                tables: Items::new(alloc),
+                views: Items::new(alloc),
+            },
+        }
+    }
+
+    /// The names of the tables and views, under which statements are bound.
+    pub fn catalog(&self) -> &Catalog
+        ensures { result.now ≡ catalog_of self.now }
+    {
+        &self.catalog
+    }
+
+    /// Adds a table whose name no other has: it is the last, and has no rows. After `Memory` nothing is changed.
+    pub fn create_table(&mut self, alloc: Global, t: TableDef) -> Result<(), Memory>
+        requires { table_at self.old.tables t.name ≡ None }
+        ensures ok { OnOk result ((files : spec.Files) → spec.taken files self.old (bound.CreateTable t) ≡ Ok (self.new, Done ∷ [])) }
+        ensures err { OnErr result (self.new ≡ self.old) }
+    {
+        let name = t.name.copy()?;
+        let entry = table_entry(alloc, t.name.copy()?, &t.schema)?;
+        self.tables.add(t)?;
+        match self.catalog.tables.push(entry) {
+            Ok(()) => Ok(()),
+            Err(wanted) => {
+                self.tables.remove(name.as_str());
+                Err(wanted)
+            }
+        }
+    }
+
+    /// Adds a view whose query is ready (`specs/Queries`): it is the last. A fault of its query is no reason to refuse it,
+    /// but its answer. After `Memory` nothing is changed.
+    pub fn create_view<G: Gate>(
+        &mut self,
+        alloc: Global,
+        name: &str,
+        q: BoundQuery,
+        _gate: &G,
+    ) -> Result<(), Memory>
+        requires { IsReady q }
+        ensures ok { OnOk result ((files : spec.Files) → spec.taken files self.old (bound.CreateView name.now q) ≡ Ok (self.new, Done ∷ [])) }
+        ensures err { OnErr result (self.new ≡ self.old) }
+    {
+        let name = Words::new(alloc, name)?;
+        let entry = view_entry(alloc, name.copy()?, &q)?;
+        self.views.push(View::new(name, q))?;
+        match self.catalog.views.push(entry) {
+            Ok(()) => Ok(()),
+            Err(wanted) => {
+                remove_last(&mut self.views);
+                Err(wanted)
+            }
+        }
+    }
+
+    /// Drops the table of this name, or refuses it with the first view that reads it; then nothing is changed. `Memory`
+    /// comes only there, for the name of that view.
+    pub fn drop_table(&mut self, alloc: Global, name: &str) -> Result<(), Fail<Refused>>
+        ensures exact { Gives (result_map (λ _. (self.new, Done ∷ [])) result) (spec.drop_table self.old name.now) }
+        ensures err { OnErr result (self.new ≡ self.old) }
+    {
+        if let Some(view) = first_reader(self.catalog.views.as_slice(), name) {
+            return Err(Fail::Cause(Refused::InUse(view.name.copy()?)));
+        }
+        self.tables.remove(name);
+        let entries = mem::replace(&mut self.catalog.tables, Items::new(alloc));
+        self.catalog.tables = other_tables(entries, name);
+        Ok(())
+    }
+
+    /// Drops the view of this name. It takes no memory.
+    pub fn drop_view(&mut self, alloc: Global, name: &str)
+        ensures { (files : spec.Files) → spec.taken files self.old (bound.DropView name.now) ≡ Ok (self.new, Done ∷ []) }
+    {
+        remove_view(&mut self.views, name);
+        let entries = mem::replace(&mut self.catalog.views, Items::new(alloc));
+        self.catalog.views = other_views(entries, name);
+    }
+
+    /// Changes the rows of a table, and answers how many rows are counted; or refuses the change, and then nothing is
+    /// changed (docs/MEANING.md, "Changes").
+    pub fn apply<G: Gate>(
+        &mut self,
+        alloc: Global,
+        c: &Change,
+        _gate: &G,
+    ) -> Result<u64, Fail<Refused>>
+        ensures exact { Gives (result_map (λ count. (self.new, Counted count ∷ [])) result) (spec.change_step self.old c.now) }
+        ensures err { OnErr result (self.new ≡ self.old) }
+    {
+        let staged = self.tables.stage(alloc, c)?;
+        Ok(self.tables.commit(staged))
+    }
+
+    /// What the view of this name answers over the tables as they stand: its rows as they are printed, or its first fault.
+    /// `NoView` comes exactly where no such view is (docs/MEANING.md, "Answers").
+    pub fn answer<G: Gate>(
+        &mut self,
+        alloc: Global,
+        view: &str,
+        _gate: &G,
+    ) -> Result<Answer, Fail<NoView>>
+        ensures exact { Gives result (view_answer self.old view.now) }
+        ensures same { self.new ≡ self.old }
+    {
+        match view_named(&self.views, view) {
+            Some(found) => Ok(answer_over(alloc, &self.tables, found.query())?),
+            None => Err(Fail::Cause(NoView {
+                name: Words::new(alloc, view)?,
+            })),
+        }
+    }
+
+    /// What a query that is ready (`specs/Queries`) answers over the tables as they stand (docs/MEANING.md, "Answers").
+    /// `Memory` is the only error.
+    pub fn query<G: Gate>(&self, alloc: Global, q: &BoundQuery, _gate: &G) -> Result<Answer, Memory>
+        requires { IsReady q.now }
+        ensures { IfOk result (λ a. a ≡ answer_of self.now.tables q.now) }
+    {
+        answer_over(alloc, &self.tables, q)
+    }
+}

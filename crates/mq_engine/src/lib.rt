@@ -1,0 +1,17 @@
+//! The tables and views of a session: bound statements go in, one after another.
+//! Out come counts of rows, answers, or why a statement is refused.
+//! The state after each call and each answer are those of mq_ir's `specs/Statement` and `specs/Answer`.
+#![tactic(auto)]
+
+mod catalogs;
+mod engine;
+mod faults;
+mod model_rows;
+mod models;
+mod queries;
+mod results;
+mod views;
+
+pub use engine::{Engine, MAX_WORKERS};
+pub use queries::answer_over;
+pub use views::{NoView, View};
