@@ -1,38 +1,13 @@
 //! Runs a script of SQL statements. The script's bytes go in from standard input.
 //! Out come the lines of each statement on standard output, and the status of the run.
-//! specs/Script defines the lines of a script, specs/Grammar and specs/Spelling its statements.
+//! What a script prints is defined by mq_tool, specs/Script.
 #![tactic(auto)]
 
-mod answer;
-mod binding;
-mod binds;
-mod catalog;
-mod cells;
-mod evaluate;
-mod first;
-mod fitting;
-mod laws;
-mod lines;
-mod lists;
-mod marks;
-mod partition;
-mod reader;
-mod run;
-mod sequential;
-mod statuses;
-mod step;
-mod tree;
-
 use mq_io::{MapShelf, OpenGate, ReaderSource, WriterSink};
-use statuses::{BAD_WORDS, NO_MEMORY};
+use mq_tool::{BAD_WORDS, NO_MEMORY, run};
 use std::io::ErrorKind;
 use std::process::ExitCode;
 use std::{env, io};
-
-#[cfg(test)]
-mod answer_tests;
-#[cfg(test)]
-mod tests;
 
 fn main(rt: HostRuntime) -> ExitCode {
     let args = match env::args(&rt) {
@@ -47,7 +22,7 @@ fn main(rt: HostRuntime) -> ExitCode {
     let mut files = MapShelf::new(Vec::new(alloc), Vec::new(alloc));
     let mut out = WriterSink::new(io::writer(&rt));
     let gate = OpenGate;
-    let status = run::run(alloc, &words, &mut script, &mut files, &mut out, &gate);
+    let status = run(alloc, &words, &mut script, &mut files, &mut out, &gate);
     ExitCode::from(status)
 }
 

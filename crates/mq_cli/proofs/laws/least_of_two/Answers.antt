@@ -1,5 +1,0 @@
-use Rattle.mq_cli.proofs.RepeatLemmas as lemma
-use Rattle.mq_cli.proofs.laws.least_of_two.Goals as goal
-
-pub returns : goal.returns
-returns c = lemma.least_of_two

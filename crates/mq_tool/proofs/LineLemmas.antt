@@ -1,0 +1,13 @@
+-- The lines of an answer.
+use Rattle.std.proofs.Common.{◌≡◌, ℕ, List, [], ◌∷◌, ◌++◌, false, map, length, refl}
+use Rattle.std.specs.List.{list_any}
+use Rattle.mq_ir.specs.Lines.{RowLine, RowCount, is_flaw}
+use Rattle.mq_ir.specs.Partitions.{Tuple}
+
+no_flaw : (rows : List Tuple) (n : ℕ) → list_any is_flaw (map RowLine rows ++ RowCount n ∷ []) ≡ false
+no_flaw [] n = refl
+no_flaw (r ∷ rs) n = no_flaw rs n
+
+-- rows are no errors and no faults
+pub no_flaw_line : (rows : List Tuple) → list_any is_flaw (map RowLine rows ++ RowCount (length rows) ∷ []) ≡ false
+no_flaw_line rows = no_flaw rows (length rows)

@@ -1,0 +1,130 @@
+-- A run, one statement after another.
+use Rattle.std.proofs.Common.{◌≡◌, ℕ, zero, suc, ◌+◌, ◌<◌, ◌≤◌, length, get_or, drop, map, List, [], ◌∷◌, ◌++◌, Bool, false, ◌||◌, Option, Some, None, refl, sym, ap, ◌∙◌, subst, append_assoc, append-nil, arith}
+use Rattle.std.specs.List.{list_any}
+use Rattle.std.proofs.lemmas.List.Folds.{list_any-append}
+use Rattle.std.proofs.lemmas.Grind.{flat_map-append}
+use Rattle.std.specs.Io.KnownBytes.{Appends}
+use Rattle.std.proofs.KnownBytes.{Appends-nil, Appends-trans}
+use Rattle.mq_io.specs.Progress.{AppendsFront, GaveAtMost}
+use Rattle.mq_io.specs.ProgressLemmas.{AppendsFront-after, AppendsFront-of_part}
+use Rattle.mq_lexer.specs.declared.script.Statement as code
+use Rattle.mq_lexer.specs.Statements.{Statement, statement}
+use Rattle.mq_ir.specs.Lines.{Line, is_flaw, line_text, text_of}
+use Rattle.mq_ir.specs.Statement.{Files, State}
+use Rattle.mq_engine.specs.Sessions.{nothing}
+use Rattle.mq_tool.specs.Script.{AreReadAs, ArePrinted, IsReadAs, Read, lines_from, statement_step}
+use Rattle.mq_tool.specs.Steps.{CutShort, Writes, WritesAll, WritesFront}
+use Rattle.mq_tool.proofs.ReadLemmas.{at_line}
+
+-- a source that is not touched gave nothing
+pub gave_nothing : (n : ℕ) (left : Option (List ℕ)) → GaveAtMost n left left
+gave_nothing n None = tt
+gave_nothing n (Some bytes) = omega arith
+
+text_of-append : (xs ys : List Line) → text_of (xs ++ ys) ≡ text_of xs ++ text_of ys
+text_of-append xs ys = flat_map-append line_text xs ys
+
+-- how all statements are read where the rest is: those that are done first
+pub record Behind (reads : List (ℕ × Read)) (all rest : List Statement) : Type 0 where
+  pub joined : (rs : List (ℕ × Read)) → AreReadAs rest rs → AreReadAs all (reads ++ rs)
+  pub parted : (rs : List (ℕ × Read)) → AreReadAs all rs → (others : List (ℕ × Read)) × (rs ≡ reads ++ others) × AreReadAs rest others
+
+-- what was done of all statements, once the rest is left: with the lines of the rest it makes the lines of all
+pub record RunSoFar (files : Files) (before now : Option (List ℕ)) (state : State) (flaw : Bool) (all rest : List Statement) : Type 0 where
+  pub reads : List (ℕ × Read)
+  pub behind : Behind reads all rest
+  pub done : List Line
+  pub lines : (rs : List (ℕ × Read)) → lines_from files nothing (reads ++ rs) ≡ done ++ lines_from files state rs
+  pub written : Appends before now (text_of done)
+  pub flawed : flaw ≡ list_any is_flaw done
+
+pub run_starts : (files : Files) (before : Option (List ℕ)) (all : List Statement) → RunSoFar files before before nothing false all all
+run_starts files before all = record {
+  reads = [];
+  behind = record { joined = λ rs p. p; parted = λ rs p. (rs, refl, p) };
+  done = [];
+  lines = λ rs. refl;
+  written = Appends-nil before;
+  flawed = refl;
+}
+
+-- the next of them is read as r
+next_behind : (reads : List (ℕ × Read)) (all rest : List Statement) (s : Statement) (read : Read) → IsReadAs s.tokens read
+    → Behind reads all (s ∷ rest) → Behind (reads ++ (s.line, read) ∷ []) all rest
+next_behind reads all rest s read is so = record {
+  joined = λ rs p. subst (AreReadAs all) (sym (append_assoc reads ((s.line, read) ∷ []) rs)) (so.joined ((s.line, read) ∷ rs) (refl, is, p));
+  parted = λ rs p. let h = so.parted rs p in by rs h.0 h.1 h.2;
+}
+  where
+    by : (rs others : List (ℕ × Read)) → rs ≡ reads ++ others → AreReadAs (s ∷ rest) others
+        → (next : List (ℕ × Read)) × (rs ≡ (reads ++ (s.line, read) ∷ []) ++ next) × AreReadAs rest next
+    by rs [] e p = absurd p
+    by rs (x ∷ xs) e p =
+        let first : x ≡ (s.line, read) = at_line s.tokens s.line x (s.line, read) p.0 refl p.1 is in
+        (xs, e ∙ ap (λ y. reads ++ y ∷ xs) first ∙ sym (append_assoc reads ((s.line, read) ∷ []) xs), p.2)
+
+pub run_goes_on : (files : Files) (before now next : Option (List ℕ)) (state state' : State) (flaw found : Bool) (all rest : List Statement) (s : Statement)
+    → RunSoFar files before now state flaw all (s ∷ rest) → Writes s state state' now next found → RunSoFar files before next state' (flaw || found) all rest
+run_goes_on files before now next state state' flaw found all rest s so w =
+    let r : ℕ × Read = (s.line, w.0) in
+    let meant = statement_step files state r in
+    let here = w.2 files in
+    record {
+      reads = so.reads ++ r ∷ [];
+      behind = next_behind so.reads all rest s w.0 w.1 so.behind;
+      done = so.done ++ meant.1;
+      lines = λ rs.
+          ap (lines_from files nothing) (append_assoc so.reads (r ∷ []) rs) ∙ so.lines (r ∷ rs)
+          ∙ sym (append_assoc so.done meant.1 (lines_from files meant.0 rs))
+          ∙ ap (λ t. (so.done ++ meant.1) ++ lines_from files t rs) (sym here.0);
+      written = subst (Appends before next) (sym (text_of-append so.done meant.1)) (Appends-trans before now next _ _ so.written here.1);
+      flawed = ap (λ q. q || found) so.flawed ∙ ap (λ q. list_any is_flaw so.done || q) here.2 ∙ sym (list_any-append is_flaw so.done meant.1);
+    }
+
+pub run_cut : (files : Files) (before now next : Option (List ℕ)) (state : State) (flaw : Bool) (all rest : List Statement) (s : Statement)
+    → RunSoFar files before now state flaw all (s ∷ rest) → CutShort s state now next → WritesFront files all before next
+run_cut files before now next state flaw all rest s so cut lines printed =
+    let h = so.behind.parted printed.reads printed.are_read in
+    by h.0 h.2 (printed.printed ∙ ap (lines_from files nothing) h.1 ∙ so.lines h.0)
+  where
+    by : (others : List (ℕ × Read)) → AreReadAs (s ∷ rest) others → lines ≡ so.done ++ lines_from files state others
+        → AppendsFront before next (text_of lines)
+    by [] p e = absurd p
+    by (x ∷ xs) p e =
+        let r : ℕ × Read = (s.line, x.1) in
+        let first : x ≡ r = at_line s.tokens s.line x r p.0 refl p.1 p.1 in
+        let meant = statement_step files state r in
+        let others = lines_from files meant.0 xs in
+        let all_lines : lines ≡ so.done ++ (meant.1 ++ others) = e ∙ ap (λ y. so.done ++ lines_from files state (y ∷ xs)) first in
+        let text : text_of so.done ++ (text_of meant.1 ++ text_of others) ≡ text_of lines =
+        ap (λ t. text_of so.done ++ t) (sym (text_of-append meant.1 others)) ∙ sym (text_of-append so.done (meant.1 ++ others))
+        ∙ ap text_of (sym all_lines) in
+        subst (AppendsFront before next) text
+        (AppendsFront-after before now next _ _ so.written (AppendsFront-of_part now next (text_of meant.1) (text_of others) (cut files x.1 p.1)))
+
+pub run_ends : (files : Files) (before now : Option (List ℕ)) (state : State) (flaw : Bool) (all : List Statement)
+    → RunSoFar files before now state flaw all [] → WritesAll files all before now flaw
+run_ends files before now state flaw all so =
+    let printed : ArePrinted files all so.done = record {
+      reads = so.reads ++ [];
+      are_read = so.behind.joined [] tt;
+      printed = sym (so.lines [] ∙ append-nil so.done);
+    } in
+    (so.done, printed, so.written, so.flawed)
+
+-- the statement at a place, and those behind it
+drop_statement : (xs : List code.Statement) (i : ℕ) (d : code.Statement) → i < length xs → drop i (map statement xs) ≡ statement (get_or xs i d) ∷ drop (i + 1) (map statement xs)
+drop_statement [] i d less = absurd (omega arith)
+drop_statement (x ∷ xs) zero d less = refl
+drop_statement (x ∷ xs) (suc i) d less = let one : suc i + 1 ≡ suc (i + 1) = omega arith in rw one (drop_statement xs i d (omega arith))
+
+module _ (files : Files) (before now next : Option (List ℕ)) (state state' : State) (flaw found : Bool) (xs : List code.Statement) (i : ℕ) (d : code.Statement) (less : i < length xs)
+    (so : RunSoFar files before now state flaw (map statement xs) (drop i (map statement xs))) where
+  here : RunSoFar files before now state flaw (map statement xs) (statement (get_or xs i d) ∷ drop (i + 1) (map statement xs))
+  here = subst (RunSoFar files before now state flaw (map statement xs)) (drop_statement xs i d less) so
+
+  pub run_goes_on_at : Writes (statement (get_or xs i d)) state state' now next found → RunSoFar files before next state' (flaw || found) (map statement xs) (drop (i + 1) (map statement xs))
+  run_goes_on_at = run_goes_on files before now next state state' flaw found (map statement xs) (drop (i + 1) (map statement xs)) (statement (get_or xs i d)) here
+
+  pub run_cut_at : CutShort (statement (get_or xs i d)) state now next → WritesFront files (map statement xs) before next
+  run_cut_at = run_cut files before now next state flaw (map statement xs) (drop (i + 1) (map statement xs)) (statement (get_or xs i d)) here

@@ -1,0 +1,24 @@
+use Rattle.std.proofs.Common.{Bool, map, drop, ◌+◌, ◌≤◌, sym, subst, arith}
+use Rattle.std.proofs.lemmas.Result.{err_from_is_err_and}
+use Rattle.mq_lexer.specs.Statements.{statement}
+use Rattle.mq_ir.specs.Statement.{Files}
+use Rattle.mq_tool.proofs.RunLemmas.{RunSoFar, run_ends, run_goes_on_at, run_cut_at}
+use Rattle.mq_tool.proofs.scripts.run_statements.Goals as goal
+
+pub returns-in_err-found-clause-cut_short : goal.returns-in_err-found-clause-cut_short
+returns-in_err-found-clause-cut_short g c =
+    let p = err_from_is_err_and c.from_residual.result c.from_residual.ensures.1 in
+    rw p.1 (λ (files : Files). run_cut_at files _ _ _ c.statements.engine c.statements.engine c.statements.flaw c.statements.flaw c.args.statements.now c.statements.statement-index _
+    c.statements-test.true (c.statements.invariant.0 files) c.in_err-found.ensures.cut_short)
+
+pub statements-preserved : goal.statements-preserved
+statements-preserved g c =
+    let all = c.args.statements.now in
+    let i = c.statements.statement-index in
+    let P : Bool → Type 0 = λ flaw. (files : Files) → RunSoFar files (g.K.Sink.taken c.args.out.now) (g.K.Sink.taken c.run_statement.new.out)
+    c.run_statement.new.engine flaw (map statement all) (drop (i + 1) (map statement all)) in (
+      subst P (sym c.either-flaw.ensures)
+          (λ files. run_goes_on_at files _ _ _ c.statements.engine c.run_statement.new.engine c.statements.flaw c.in_ok-found.found all i _ c.statements-test.true
+          (c.statements.invariant.0 files) c.in_ok-found.ensures.done),
+      omega (arith, c.statements.invariant.1, c.in_ok-found.ensures.later),
+    )

@@ -1,0 +1,12 @@
+use Rattle.std.proofs.Common.{◌∷◌, [], Ok, false, refl, sym, ap, ◌∙◌}
+use Rattle.mq_ir.specs.declared.statement.Bound.TheVariants as bound
+use Rattle.mq_ir.specs.Lines.{Done}
+use Rattle.mq_ir.specs.Statement.{taken}
+use Rattle.mq_tool.proofs.StepLemmas.{line_taken}
+use Rattle.mq_tool.proofs.takes.create_view.Goals as goal
+
+pub returns : goal.returns
+returns g c =
+    let old = c.args.engine.now in
+    λ files. line_taken (taken files old (bound.CreateView c.args.name.now c.args.query)) old c.create_view.new.self Done false c.args.out.now.items c.done_text.new.out.items
+    (ap (λ n. taken files old (bound.CreateView n c.args.query)) (sym c.as_str.ensures) ∙ c.in_ok-create_view.ensures.ok files) c.in_ok-done_text.ensures.ok refl

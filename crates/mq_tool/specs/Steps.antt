@@ -1,0 +1,82 @@
+-- What the parts of a run give.
+use Rattle.std.specs.Prelude.{◌≡◌, ⊤, ℕ, Bool, List, ◌++◌, Option, None, Result, Ok, Err}
+use Rattle.std.specs.List.{list_any}
+use Rattle.std.specs.Io.KnownBytes.{Appends}
+use Rattle.mq_io.specs.Progress.{AppendsFront}
+use Rattle.mq_values.specs.declared.faults.Refused.{Refused}
+use Rattle.mq_values.specs.declared.memory.Fail.{Fail}
+use Rattle.mq_values.specs.declared.memory.Fail.TheVariants as fail
+use Rattle.mq_lexer.specs.Lexemes.{Lexeme}
+use Rattle.mq_lexer.specs.Statements.{Statement}
+use Rattle.mq_ast.specs.declared.statements.Stmt.{Stmt}
+use Rattle.mq_ir.specs.declared.statement.Bound.{Bound}
+use Rattle.mq_ir.specs.declared.statement.Bound.TheVariants as bound
+use Rattle.mq_ir.specs.Lines.{Line, is_flaw, text_of}
+use Rattle.mq_ir.specs.Statement.{Files, Printed, State}
+use Rattle.mq_ir.specs.Tables.{table_at}
+use Rattle.mq_engine.specs.Queries.{IsReady}
+use Rattle.mq_tool.specs.Script.{ArePrinted, IsReadAs, Read, Tree, meaning, statement_step, tree_of}
+
+-- What tokens are read as, with the tree where they have one. Want of memory says nothing.
+abbrev pub Finds : List Lexeme → Result Stmt (Fail Refused) → Type 0
+Finds tokens (Ok s) = IsReadAs tokens (Tree s)
+Finds tokens (Err (fail.Cause refusal)) = (read : Read) × IsReadAs tokens read × (tree_of read ≡ Err refusal)
+Finds tokens (Err fail.Memory) = ⊤
+
+-- what the engine asks of a bound statement: a table is new, a query is ready, and it is no LOAD
+abbrev pub CanRun : State → Bound → Type 0
+CanRun state (bound.CreateTable def) = table_at state.tables def.name ≡ None
+CanRun state (bound.CreateView name query) = IsReady query
+CanRun state (bound.Query query) = IsReady query
+CanRun state (bound.Load table file) = ⊥
+CanRun state _ = ⊤
+
+-- the same, where the engine keeps no part of the statement
+abbrev pub CanLend : State → Bound → Type 0
+CanLend state (bound.CreateTable def) = ⊥
+CanLend state (bound.CreateView name query) = ⊥
+CanLend state b = CanRun state b
+
+-- the state is the one that is meant, the lines that are meant were appended, and it is said whether one of them is a flaw
+abbrev pub Steps : Printed → State → List ℕ → List ℕ → Bool → Type 0
+Steps meant state before after flaw = (state ≡ meant.0) × (after ≡ before ++ text_of meant.1) × (flaw ≡ list_any is_flaw meant.1)
+
+-- What is meant was done, or it is refused and nothing was done. Want of memory says nothing.
+abbrev pub Takes : Result Printed Refused → State → State → List ℕ → List ℕ → Result Bool (Fail Refused) → Type 0
+Takes meant old new before after (Ok flaw) = (printed : Printed) × (meant ≡ Ok printed) × Steps printed new before after flaw
+Takes meant old new before after (Err (fail.Cause refusal)) = (meant ≡ Err refusal) × (new ≡ old) × (after ≡ before)
+Takes meant old new before after (Err fail.Memory) = ⊤
+
+-- the same of the statement of some tokens
+abbrev pub Tried : List Lexeme → State → State → List ℕ → List ℕ → Result Bool (Fail Refused) → Type 0
+Tried tokens old new before after result =
+    (read : Read) × IsReadAs tokens read × ((files : Files) → Takes (meaning files old read) old new before after result)
+
+abbrev pub Tries : List Lexeme → State → State → List ℕ → List ℕ → Result Bool (Fail Refused) → Type 0
+Tries tokens old new before after (Err fail.Memory) = ⊤
+Tries tokens old new before after result = Tried tokens old new before after result
+
+-- a statement was done as it is read
+abbrev pub Does : Statement → State → State → List ℕ → List ℕ → Bool → Type 0
+Does s old new before after flaw =
+    (read : Read) × IsReadAs s.tokens read × ((files : Files) → Steps (statement_step files old (s.line, read)) new before after flaw)
+
+-- The same of a statement whose lines are written. What was taken is told or not.
+abbrev pub Writes : Statement → State → State → Option (List ℕ) → Option (List ℕ) → Bool → Type 0
+Writes s old new before after flaw =
+    (read : Read) × IsReadAs s.tokens read × ((files : Files) → let meant = statement_step files old (s.line, read) in
+    (new ≡ meant.0) × Appends before after (text_of meant.1) × (flaw ≡ list_any is_flaw meant.1))
+
+-- however the statement is read, a front of its lines is written
+abbrev pub CutShort : Statement → State → Option (List ℕ) → Option (List ℕ) → Type 0
+CutShort s old before after =
+    (files : Files) (read : Read) → IsReadAs s.tokens read → AppendsFront before after (text_of (statement_step files old (s.line, read)).1)
+
+-- these statements have lines, all of which were written, and it is said whether one of them is a flaw
+abbrev pub WritesAll : Files → List Statement → Option (List ℕ) → Option (List ℕ) → Bool → Type 0
+WritesAll files ss before after flaw =
+    (lines : List Line) × ArePrinted files ss lines × Appends before after (text_of lines) × (flaw ≡ list_any is_flaw lines)
+
+-- whichever lines these statements have, a front of them was written
+abbrev pub WritesFront : Files → List Statement → Option (List ℕ) → Option (List ℕ) → Type 0
+WritesFront files ss before after = (lines : List Line) → ArePrinted files ss lines → AppendsFront before after (text_of lines)

@@ -1,0 +1,17 @@
+//! The whole tool as a library: the bytes of a script go in from a source, its statements are done one after another,
+//! and their lines come out at a sink, with a status.
+//! `specs/Script.antt` defines what a script prints.
+#![tactic(auto)]
+
+mod laws;
+mod reading;
+mod scripts;
+mod statuses;
+mod step;
+mod takes;
+
+pub use laws::one_output;
+pub use scripts::run;
+pub use statuses::{
+    BAD_WORDS, DONE, FLAWED, NO_MEMORY, NOT_UTF8, READ_FAILED, TOO_LONG, WRITE_FAILED,
+};
