@@ -9,7 +9,7 @@ use Rattle.mq_lexer.specs.Lexemes.{lexeme}
 use Rattle.mq_ast.specs.declared.statements.Stmt.{Stmt}
 use Rattle.mq_ast.specs.Laws.OneStatementLemmas.{stmt_same}
 use Rattle.mq_ast.specs.Prelude.{Tok, tok_of, toks}
-use Rattle.mq_parse_expr.specs.Reading.{from}
+use Rattle.mq_parse_words.specs.Reading.{from}
 use Rattle.mq_parse_stmt.specs.Parsing.{Parses}
 use Rattle.mq_binder.specs.BuiltForms.{built}
 use Rattle.mq_tool.specs.Script.{Deep, NoTree, seen}
