@@ -1,14 +1,14 @@
 -- What is known of a state by the names in it.
 use Rattle.std.proofs.Common.{◌≡◌, ℕ, List, [], ◌∷◌, Bool, true, false, ◌||◌, cond, length, map, Option, Some, None, refl, ap, ◌∙◌}
 use Rattle.std.specs.Option.{IfSome}
-use Rattle.std.specs.List.{find, list_any}
+use Rattle.std.specs.List.{list_any}
 use Rattle.std.proofs.lemmas.Cmp.{nat_list_eq_equiv}
 use Rattle.mq_ir.specs.declared.catalog.TableEntry.{TableEntry}
 use Rattle.mq_ir.specs.declared.query.BoundQuery.{BoundQuery}
 use Rattle.mq_ir.specs.declared.query.ModelPart.{ModelPart}
 use Rattle.mq_ir.specs.Names.{is_table, is_taken, is_view}
 use Rattle.mq_ir.specs.Statement.{State}
-use Rattle.mq_ir.specs.Tables.{Table, Tables, is_name, table_at}
+use Rattle.mq_ir.specs.Tables.{Tables, is_name, table_at}
 use Rattle.mq_engine.specs.Catalogs.{catalog_of, entry_of_table}
 use Rattle.mq_engine.specs.Queries.{HasModel, IsReady}
 use Rattle.mq_ready_laws.specs.ReadyLaws.{QueryIsReady, RunsInTurn}

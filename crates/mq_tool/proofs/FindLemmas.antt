@@ -1,5 +1,5 @@
 -- What the parser gives is what the tokens are read as.
-use Rattle.std.proofs.Common.{◌≡◌, ℕ, List, [], ◌∷◌, true, false, map, Result, Ok, Err, refl, sym, ap, ◌∙◌, subst}
+use Rattle.std.proofs.Common.{◌≡◌, List, [], ◌∷◌, true, false, map, Result, Ok, Err, refl, ap, ◌∙◌, subst}
 use Rattle.mq_values.specs.declared.faults.Refused.{Refused}
 use Rattle.mq_values.specs.declared.faults.Refused.TheVariants as refused
 use Rattle.mq_values.specs.declared.memory.Fail.{Fail}

@@ -1,9 +1,11 @@
 -- A run, one statement after another.
-use Rattle.std.proofs.Common.{◌≡◌, ℕ, zero, suc, ◌+◌, ◌<◌, ◌≤◌, length, get_or, drop, map, List, [], ◌∷◌, ◌++◌, Bool, false, ◌||◌, Option, Some, None, refl, sym, ap, ◌∙◌, subst, append_assoc, append-nil, arith}
+use Rattle.std.proofs.Common.{◌≡◌, ℕ, zero, suc, ◌+◌, ◌<◌, ◌≤◌, length, get_or, drop, map, List, [], ◌∷◌, ◌++◌, Bool, false, if◌then◌else◌, ◌||◌, Option, Some, None, refl, sym, ap, ◌∙◌, subst, append_assoc, append-nil, arith}
 use Rattle.std.specs.List.{list_any}
+use Rattle.std.proofs.lemmas.List.{drop_all}
 use Rattle.std.proofs.lemmas.List.Folds.{list_any-append}
 use Rattle.std.proofs.lemmas.Grind.{flat_map-append}
-use Rattle.std.specs.Io.KnownBytes.{Appends}
+use Rattle.std.specs.Option.{IfSome}
+use Rattle.std.specs.Io.KnownBytes.{Appends, Consumes, IsAtEnd}
 use Rattle.std.proofs.KnownBytes.{Appends-nil, Appends-trans}
 use Rattle.mq_io.specs.Progress.{AppendsFront, GaveAtMost}
 use Rattle.mq_io.specs.ProgressLemmas.{AppendsFront-after, AppendsFront-of_part}
@@ -12,7 +14,8 @@ use Rattle.mq_lexer.specs.Statements.{Statement, statement}
 use Rattle.mq_ir.specs.Lines.{Line, is_flaw, line_text, text_of}
 use Rattle.mq_ir.specs.Statement.{Files, State}
 use Rattle.mq_engine.specs.Sessions.{nothing}
-use Rattle.mq_tool.specs.Script.{AreReadAs, ArePrinted, IsReadAs, Read, lines_from, statement_step}
+use Rattle.mq_tool.specs.Script.{AreReadAs, ArePrinted, IsReadAs, Read, lines_from, statement_step, status_of}
+use Rattle.mq_tool.specs.declared.statuses.TheConstants.{DONE, FLAWED}
 use Rattle.mq_tool.specs.Steps.{CutShort, Writes, WritesAll, WritesFront}
 use Rattle.mq_tool.proofs.ReadLemmas.{at_line}
 
@@ -20,6 +23,12 @@ use Rattle.mq_tool.proofs.ReadLemmas.{at_line}
 pub gave_nothing : (n : ℕ) (left : Option (List ℕ)) → GaveAtMost n left left
 gave_nothing n None = tt
 gave_nothing n (Some bytes) = omega arith
+
+-- what holds of the bytes that were read to the end holds of those that the source told
+pub told_whole : (P : List ℕ → Type 0) (old new : Option (List ℕ)) (bytes : List ℕ) → Consumes old new bytes → IsAtEnd new → P bytes → IfSome old P
+told_whole P None new bytes c e p = tt
+told_whole P (Some xs) None bytes c e p = absurd c
+told_whole P (Some xs) (Some ys) bytes c e p = subst P (sym (c ∙ ap (λ t. bytes ++ t) e ∙ append-nil bytes)) p
 
 text_of-append : (xs ys : List Line) → text_of (xs ++ ys) ≡ text_of xs ++ text_of ys
 text_of-append xs ys = flat_map-append line_text xs ys
@@ -117,6 +126,22 @@ drop_statement : (xs : List code.Statement) (i : ℕ) (d : code.Statement) → i
 drop_statement [] i d less = absurd (omega arith)
 drop_statement (x ∷ xs) zero d less = refl
 drop_statement (x ∷ xs) (suc i) d less = let one : suc i + 1 ≡ suc (i + 1) = omega arith in rw one (drop_statement xs i d (omega arith))
+
+-- none is behind the last
+no_more : (xs : List code.Statement) (i : ℕ) → length xs ≤ i → drop i (map statement xs) ≡ []
+no_more [] i h = drop_all i [] h
+no_more (x ∷ xs) zero h = absurd (omega arith)
+no_more (x ∷ xs) (suc i) h = no_more xs i (omega arith)
+
+pub run_ends_at : (files : Files) (before now : Option (List ℕ)) (state : State) (flaw : Bool) (xs : List code.Statement) (i : ℕ) → length xs ≤ i
+    → RunSoFar files before now state flaw (map statement xs) (drop i (map statement xs)) → WritesAll files (map statement xs) before now flaw
+run_ends_at files before now state flaw xs i h so =
+    run_ends files before now state flaw (map statement xs) (subst (RunSoFar files before now state flaw (map statement xs)) (no_more xs i h) so)
+
+-- the status of a run that wrote all, by whether a line was a flaw
+pub status_by : (files : Files) (ss : List Statement) (before after : Option (List ℕ)) (flaw : Bool) → WritesAll files ss before after flaw
+    → (lines : List Line) × ArePrinted files ss lines × Appends before after (text_of lines) × ((if flaw then FLAWED else DONE) ≡ status_of lines)
+status_by files ss before after flaw w = (w.0, w.1, w.2, ap (λ b. if b then FLAWED else DONE) w.3)
 
 module _ (files : Files) (before now next : Option (List ℕ)) (state state' : State) (flaw found : Bool) (xs : List code.Statement) (i : ℕ) (d : code.Statement) (less : i < length xs)
     (so : RunSoFar files before now state flaw (map statement xs) (drop i (map statement xs))) where

@@ -1,8 +1,8 @@
-use Rattle.std.proofs.Common.{Bool, map, drop, ◌+◌, ◌≤◌, sym, subst, arith}
+use Rattle.std.proofs.Common.{Bool, false, map, drop, ◌+◌, sym, subst, arith}
 use Rattle.std.proofs.lemmas.Result.{err_from_is_err_and}
 use Rattle.mq_lexer.specs.Statements.{statement}
-use Rattle.mq_ir.specs.Statement.{Files}
-use Rattle.mq_tool.proofs.RunLemmas.{RunSoFar, run_ends, run_goes_on_at, run_cut_at}
+use Rattle.mq_ir.specs.Statement.{Files, State}
+use Rattle.mq_tool.proofs.RunLemmas.{RunSoFar, run_starts, run_ends_at, run_goes_on_at, run_cut_at}
 use Rattle.mq_tool.proofs.scripts.run_statements.Goals as goal
 
 pub returns-in_err-found-clause-cut_short : goal.returns-in_err-found-clause-cut_short
@@ -22,3 +22,14 @@ statements-preserved g c =
           (c.statements.invariant.0 files) c.in_ok-found.ensures.done),
       omega (arith, c.statements.invariant.1, c.in_ok-found.ensures.later),
     )
+
+pub statements-init : goal.statements-init
+statements-init g c =
+    let before = g.K.Sink.taken c.args.out.now in
+    let all = map statement c.args.statements.now in
+    (λ files. subst (λ (s : State). RunSoFar files before before s false all all) (sym c.new-engine.ensures) (run_starts files before all), omega arith)
+
+pub returns-clause-done : goal.returns-clause-done
+returns-clause-done g c =
+    λ files. run_ends_at files (g.K.Sink.taken c.args.out.now) (g.K.Sink.taken c.statements.out) c.statements.engine c.statements.flaw c.args.statements.now c.statements.statement-index
+    c.statements-test.false (c.statements.invariant.0 files)

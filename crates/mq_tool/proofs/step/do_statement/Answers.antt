@@ -9,4 +9,4 @@ returns-in-Ok g c =
 pub returns-in_ok-refusal_text-in-Err-Cause : goal.returns-in_ok-refusal_text-in-Err-Cause
 returns-in_ok-refusal_text-in-Err-Cause g c =
     does_refuse (statement c.args.statement.now) c.args.engine.now c.try_statement.new.engine c.args.out.now.items c.try_statement.new.out.items c.refusal_text.new.out.items
-    c.in-Err-Cause.refused c.in-Err-Cause.ensures c.in_ok-refusal_text-in-Err-Cause.ensures.ok
+    c.in-Err-Cause.refused (rw c.in-Err-Cause.field-0-is at c.in-Err-Cause.ensures) c.in_ok-refusal_text-in-Err-Cause.ensures.ok

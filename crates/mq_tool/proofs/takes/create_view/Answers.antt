@@ -1,4 +1,4 @@
-use Rattle.std.proofs.Common.{◌∷◌, [], Ok, false, refl, sym, ap, ◌∙◌}
+use Rattle.std.proofs.Common.{false, refl, sym, ap, ◌∙◌}
 use Rattle.mq_ir.specs.declared.statement.Bound.TheVariants as bound
 use Rattle.mq_ir.specs.Lines.{Done}
 use Rattle.mq_ir.specs.Statement.{taken}
