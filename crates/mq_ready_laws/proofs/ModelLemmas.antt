@@ -18,14 +18,16 @@ use Rattle.mq_bind_scopes.specs.declared.misuse_numbers.TheConstants.{MISUSE_OF_
 use Rattle.mq_bind_scopes.specs.declared.scopes.Part.TheVariants as part
 use Rattle.mq_bind_scopes.specs.declared.scopes.Scope.{Scope}
 use Rattle.mq_bind_expr.specs.ExpressionWalk.{bound_filter}
+use Rattle.mq_bind_scopes.specs.Heads.{head_bound}
+use Rattle.mq_bind_scopes.specs.Options.{ignores_nav, options_clash}
 use Rattle.mq_bind_scopes.specs.Positions.{standing}
 use Rattle.mq_bind_scopes.specs.Refusals.{misuse}
 use Rattle.mq_binder.specs.declared.found.ListItem.{ListItem}
 use Rattle.mq_binder.specs.declared.found.Lists.{Lists}
 use Rattle.mq_binder.specs.declared.found.ModelFound.{ModelFound}
 use Rattle.mq_binder.specs.declared.found.ReferenceFound.{ReferenceFound}
-use Rattle.mq_binder.specs.ListWalk.{ignores_nav, list_columns, list_exprs, list_kinds, options_clash}
-use Rattle.mq_binder.specs.ModelWalk.{all_items, head_bound, iterate_of, lists_and_rules, lists_bound, model_over, model_part, rule_scope, rules_over}
+use Rattle.mq_binder.specs.ListWalk.{list_columns, list_exprs, list_kinds}
+use Rattle.mq_binder.specs.ModelWalk.{all_items, iterate_of, lists_and_rules, lists_bound, model_over, model_part, rule_scope, rules_over}
 use Rattle.mq_binder.specs.ReferenceWalk.{references_bound}
 use Rattle.mq_binder.specs.RuleWalk.{rules_bound}
 use Rattle.mq_ready_laws.specs.ReadyLaws.{RunsInTurn}
