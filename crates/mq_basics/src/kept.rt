@@ -15,15 +15,23 @@ fn add_whether_same(is: bool, answer: &mut Vec<u8>) -> Result<(), Memory> {
 /// A copy and a clone of the value, and whether they are the same as the value.
 pub(crate) fn add_copied(alloc: Global, text: &str, answer: &mut Vec<u8>) -> Read<()> {
     let v = value(alloc, text)?;
+    add_copy(&v, answer)?;
+    add_clone(&v, answer)?;
+    Ok(add_either(v.is_null(), " null", " not null", answer)?)
+}
+
+fn add_copy(v: &Value, answer: &mut Vec<u8>) -> Result<(), Memory> {
     let copy = v.copy()?;
-    let clone = v.clone()?;
     add("\t", answer)?;
     print(&copy, answer)?;
-    add_whether_same(copy == v, answer)?;
+    add_whether_same(copy == *v, answer)
+}
+
+fn add_clone(v: &Value, answer: &mut Vec<u8>) -> Result<(), Memory> {
+    let clone = v.clone()?;
     add(" ", answer)?;
     print(&clone, answer)?;
-    add_whether_same(clone == v, answer)?;
-    Ok(add_either(v.is_null(), " null", " not null", answer)?)
+    add_whether_same(clone == *v, answer)
 }
 
 /// How many bytes a text has, its copies, and whether it stands behind the empty text; or that it is none.

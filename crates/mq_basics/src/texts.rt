@@ -42,7 +42,7 @@ fn push(field: &str, text: &mut String) -> Read<()> {
     Ok(())
 }
 
-// Two digits, and what stands behind them.
+// Two digits, with small letters, and what stands behind them.
 fn push_coded(piece: &str, text: &mut String) -> Read<()> {
     match (piece.as_bytes(), piece.get(2..)) {
         ([high, low, ..], Some(rest)) => {
