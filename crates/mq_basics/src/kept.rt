@@ -15,40 +15,84 @@ fn add_whether_same(is: bool, answer: &mut Vec<u8>) -> Result<(), Memory> {
 /// A copy and a clone of the value, and whether they are the same as the value.
 pub(crate) fn add_copied(alloc: Global, text: &str, answer: &mut Vec<u8>) -> Read<()> {
     let v = value(alloc, text)?;
+    add_copy(&v, answer)?;
+    add_clone(&v, answer)?;
+    Ok(add_either(v.is_null(), " null", " not null", answer)?)
+}
+
+fn add_copy(v: &Value, answer: &mut Vec<u8>) -> Result<(), Memory> {
     let copy = v.copy()?;
-    let clone = v.clone()?;
     add("\t", answer)?;
     print(&copy, answer)?;
-    add_whether_same(copy == v, answer)?;
+    add_whether_same(copy == *v, answer)
+}
+
+fn add_clone(v: &Value, answer: &mut Vec<u8>) -> Result<(), Memory> {
+    let clone = v.clone()?;
     add(" ", answer)?;
     print(&clone, answer)?;
-    add_whether_same(clone == v, answer)?;
-    Ok(add_either(v.is_null(), " null", " not null", answer)?)
+    add_whether_same(clone == *v, answer)
 }
 
 /// How many bytes a text has, its copies, and whether it stands behind the empty text; or that it is none.
 pub(crate) fn add_fitted(alloc: Global, field: &str, answer: &mut Vec<u8>) -> Read<()> {
     let text = text(alloc, field)?;
+    match Text::new(alloc, text.as_str())? {
+        Some(text) => Ok(add_text(&text, answer)?),
+        None => Ok(add("\tnone", answer)?),
+    }
+}
+
+fn add_text(text: &Text, answer: &mut Vec<u8>) -> Result<(), Memory> {
     add("\t", answer)?;
-    let Some(text) = Text::new(alloc, text.as_str())? else {
-        return Ok(add("none", answer)?);
-    };
     add_number(text.as_str().len() as u64, answer)?;
-    add_whether_same(text.copy()? == text, answer)?;
-    add_whether_same(text.clone()? == text, answer)?;
-    Ok(add_either(Text::empty() < text, " above", " least", answer)?)
+    add_whether_same(is_text_copied(text)?, answer)?;
+    add_whether_same(is_text_cloned(text)?, answer)?;
+    add_either(is_text_filled(text), " above", " least", answer)
+}
+
+fn is_text_copied(text: &Text) -> Result<bool, Memory> {
+    Ok(text.copy()? == *text)
+}
+
+fn is_text_cloned(text: &Text) -> Result<bool, Memory> {
+    Ok(text.clone()? == *text)
+}
+
+fn is_text_filled(text: &Text) -> bool {
+    Text::empty() < *text
 }
 
 /// The copy of a name, whether both copies are the same, and whether it stands behind the empty one.
 pub(crate) fn add_words(alloc: Global, field: &str, answer: &mut Vec<u8>) -> Read<()> {
     let words = Words::new(alloc, text(alloc, field)?.as_str())?;
-    let copy = words.copy()?;
+    Ok(add_name(&words, answer)?)
+}
+
+fn add_name(words: &Words, answer: &mut Vec<u8>) -> Result<(), Memory> {
     add("\t", answer)?;
+    add_name_copied(words, answer)?;
+    add_whether_same(is_name_cloned(words)?, answer)?;
+    add_either(is_name_filled(words), " above", " least", answer)?;
+    add_either(is_name_empty(words), " empty", "", answer)
+}
+
+fn add_name_copied(words: &Words, answer: &mut Vec<u8>) -> Result<(), Memory> {
+    let copy = words.copy()?;
     add_bytes(copy.as_str().as_bytes(), answer)?;
-    add_whether_same(copy == words, answer)?;
-    add_whether_same(words.clone()? == words, answer)?;
-    add_either(Words::empty() < words, " above", " least", answer)?;
-    Ok(add_either(words == Words::empty(), " empty", "", answer)?)
+    add_whether_same(copy == *words, answer)
+}
+
+fn is_name_cloned(words: &Words) -> Result<bool, Memory> {
+    Ok(words.clone()? == *words)
+}
+
+fn is_name_filled(words: &Words) -> bool {
+    Words::empty() < *words
+}
+
+fn is_name_empty(words: &Words) -> bool {
+    *words == Words::empty()
 }
 
 /// Values, one that is put before them and one behind them, with tabs between; a dash where there is none.

@@ -71,10 +71,14 @@ fn add_statement(statement: Statement<'_, '_>, answer: &mut Vec<u8>) -> Result<(
     add("\t", answer)?;
     add_number(statement.line as u64, answer)?;
     for (at, token) in statement.tokens.iter().enumerate() {
-        add(if at == 0 { ": " } else { " | " }, answer)?;
-        add_bytes(token.text.as_bytes(), answer)?;
+        add_piece(at, *token, answer)?;
     }
     Ok(())
+}
+
+fn add_piece(at: usize, token: Token<'_>, answer: &mut Vec<u8>) -> Result<(), Memory> {
+    add(if at == 0 { ": " } else { " | " }, answer)?;
+    add_bytes(token.text.as_bytes(), answer)
 }
 
 /// All statements at once.

@@ -24,20 +24,40 @@ pub(crate) fn add_marks(alloc: Global, text: &str, answer: &mut Vec<u8>) -> Read
 }
 
 fn add_marks_of(token: Token<'_>, spelling: &str, answer: &mut Vec<u8>) -> Result<(), Memory> {
-    add_either(is_word(token, spelling), "W", "", answer)?;
-    add_either(is_sign(token, spelling), "S", "", answer)?;
-    add_either(is_name(token), "N", "", answer)?;
-    add_either(is_reserved(token.text), "R", "", answer)?;
+    add_word_mark(token, spelling, answer)?;
+    add_sign_mark(token, spelling, answer)?;
+    add_name_mark(token, answer)?;
+    add_reserved_mark(token, answer)?;
     add(".", answer)
+}
+
+fn add_word_mark(token: Token<'_>, spelling: &str, answer: &mut Vec<u8>) -> Result<(), Memory> {
+    add_either(is_word(token, spelling), "W", "", answer)
+}
+
+fn add_sign_mark(token: Token<'_>, spelling: &str, answer: &mut Vec<u8>) -> Result<(), Memory> {
+    add_either(is_sign(token, spelling), "S", "", answer)
+}
+
+fn add_name_mark(token: Token<'_>, answer: &mut Vec<u8>) -> Result<(), Memory> {
+    add_either(is_name(token), "N", "", answer)
+}
+
+fn add_reserved_mark(token: Token<'_>, answer: &mut Vec<u8>) -> Result<(), Memory> {
+    add_either(is_reserved(token.text), "R", "", answer)
 }
 
 /// Whether a text is spelled as a number, and the number that it has within the limits.
 pub(crate) fn add_number_read(alloc: Global, field: &str, answer: &mut Vec<u8>) -> Read<()> {
     let text = text(alloc, field)?;
     add_either(is_number(text.as_str()), "\tyes ", "\tno ", answer)?;
-    match read_number(text.as_str()) {
+    Ok(add_number_of(text.as_str(), answer)?)
+}
+
+fn add_number_of(text: &str, answer: &mut Vec<u8>) -> Result<(), Memory> {
+    match read_number(text) {
         Some(number) => Ok(number.print(answer)?),
-        None => Ok(add("none", answer)?),
+        None => add("none", answer),
     }
 }
 

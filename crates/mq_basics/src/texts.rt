@@ -42,16 +42,27 @@ fn push(field: &str, text: &mut String) -> Read<()> {
     Ok(())
 }
 
-// Two digits, and what stands behind them.
+// Two digits, with small letters, and what stands behind them.
 fn push_coded(piece: &str, text: &mut String) -> Read<()> {
-    let Some((digits, rest)) = piece.split_at_checked(2) else {
-        return no_tree();
-    };
-    let Ok(code) = u8::from_str_radix(digits, 16) else {
-        return no_tree();
-    };
-    text.push(char::from(code))?;
-    Ok(text.push_str(rest)?)
+    match (piece.as_bytes(), piece.get(2..)) {
+        ([high, low, ..], Some(rest)) => {
+            text.push(character(digit(*high)?, digit(*low)?))?;
+            Ok(text.push_str(rest)?)
+        }
+        _ => no_tree(),
+    }
+}
+
+fn digit(sign: u8) -> Read<u8> {
+    match sign {
+        b'0'..=b'9' => Ok(sign.wrapping_sub(48)),
+        b'a'..=b'f' => Ok(sign.wrapping_sub(87)),
+        _ => no_tree(),
+    }
+}
+
+fn character(high: u8, low: u8) -> char {
+    char::from(high.wrapping_mul(16).wrapping_add(low))
 }
 
 /// A value: a number, NULL, or a text between quotes.

@@ -32,14 +32,27 @@ pub(crate) fn count(head: &str, wanted: &str, meant: usize) -> usize {
     }
 }
 
-/// How many bytes a call gives or takes, and the number of the call that fails, 0 for none.
-pub(crate) fn calls(head: &str, wanted: &str) -> (u32, u64) {
+/// How many bytes a call gives or takes.
+pub(crate) fn piece(head: &str, wanted: &str) -> u32
+    ensures { 0 < result }
+{
     match ask(head, wanted) {
         Some(text) => match text.split_once(',') {
-            Some((piece, failing)) => (at_least_one(piece), failing.parse::<u64>().unwrap_or(0)),
-            None => (at_least_one(text), 0),
+            Some((piece, _)) => at_least_one(piece),
+            None => at_least_one(text),
         },
-        None => (65536, 0),
+        None => 65536,
+    }
+}
+
+/// The number of the call that fails, 0 for none.
+pub(crate) fn failing(head: &str, wanted: &str) -> u64 {
+    match ask(head, wanted) {
+        Some(text) => match text.split_once(',') {
+            Some((_, call)) => call.parse::<u64>().unwrap_or(0),
+            None => 0,
+        },
+        None => 0,
     }
 }
 

@@ -1,6 +1,6 @@
 //! A run of a script over the objects in memory.
 
-use crate::heads::{ask, calls};
+use crate::heads::{ask, failing, piece};
 use mq_io::{BytesSource, MapShelf, OpenGate, VecSink};
 use mq_values::Memory;
 use std::alloc::Global;
@@ -15,10 +15,10 @@ pub(crate) struct Done {
 /// Runs a script as the head of its row asks.
 pub(crate) fn run_script(alloc: Global, head: &str, bytes: Vec<u8>) -> Result<Done, Memory> {
     let words = words_of(alloc, head)?;
-    let (piece, failing) = calls(head, "source");
-    let mut source = BytesSource::new(bytes, failing_calls(alloc, failing)?, piece);
-    let (piece, failing) = calls(head, "sink");
-    let sink = VecSink::new(alloc, failing_calls(alloc, failing)?, piece);
+    let failing = failing_calls(alloc, head, "source")?;
+    let mut source = BytesSource::new(bytes, failing, piece(head, "source"));
+    let failing = failing_calls(alloc, head, "sink")?;
+    let sink = VecSink::new(alloc, failing, piece(head, "sink"));
     Ok(run_over(alloc, &words, &mut source, sink))
 }
 
@@ -40,10 +40,11 @@ fn words_of(alloc: Global, head: &str) -> Result<Vec<String>, Memory> {
     Ok(words)
 }
 
-fn failing_calls(alloc: Global, number: u64) -> Result<Vec<u64>, Memory> {
-    let mut failing = Vec::new(alloc);
+fn failing_calls(alloc: Global, head: &str, wanted: &str) -> Result<Vec<u64>, Memory> {
+    let mut calls = Vec::new(alloc);
+    let number = failing(head, wanted);
     if number > 0 {
-        failing.push(number)?;
+        calls.push(number)?;
     }
-    Ok(failing)
+    Ok(calls)
 }
