@@ -1,0 +1,4 @@
+pub mod Conditions
+pub mod Findings
+pub mod Meaning
+pub mod Walks

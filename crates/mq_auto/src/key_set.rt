@@ -1,0 +1,51 @@
+//! Keys to be looked up.
+ghost use Rattle.std.specs.Prelude.{◌≡◌, [], OnOk};
+ghost use Rattle.std.specs.BTreeSet.{insert_key};
+ghost use Rattle.mq_values.specs.Order.{cmp_key};
+ghost use Rattle.mq_ir.specs.Keys.{is_among};
+
+use mq_values::{Key, Memory};
+use std::alloc::Global;
+use std::collections::BTreeSet;
+use std::marker::Model;
+
+/// Keys, each once. Contracts see them as a list.
+#[derive(Drop)]
+pub struct KeySet {
+    keys: BTreeSet<Key>,
+}
+
+impl Model for KeySet {
+    ghost use Rattle.std.specs.Prelude.{List};
+    ghost use Rattle.mq_ir.specs.Keys.{Tuple};
+
+    ghost Value = { List Tuple };
+
+    ghost view = { λ set. set.keys.keys };
+}
+
+impl KeySet {
+    /// No keys. It takes no memory.
+    pub fn new(alloc: Global) -> KeySet
+        ensures { result ≡ [] }
+    {
+        KeySet {
+            keys: BTreeSet::new(alloc),
+        }
+    }
+
+    /// Whether `key` is among these.
+    pub fn has(&self, key: &Key) -> bool
+        ensures { result ≡ is_among self.now key.now }
+    {
+        self.keys.contains(key)
+    }
+
+    /// Puts `key` to these; where it is among them already, nothing changes.
+    pub fn put(&mut self, key: Key) -> Result<(), Memory>
+        ensures { OnOk result (self.new ≡ insert_key cmp_key self.old key) }
+    {
+        self.keys.insert(key)?;
+        Ok(())
+    }
+}

@@ -1,0 +1,18 @@
+//! The shape of a model in automatic order: a model and the keys of an input go in, and no value of a cell.
+//! Out come the cells in the end, what is assigned and in which rounds, or the first fault or CYCLE.
+//! It is the shape of mq_ir's `specs/Shape`, and the rounds of its `specs/Automatic`.
+#![tactic(auto)]
+
+mod bounds;
+mod cycles;
+mod growth;
+mod least;
+mod lefts;
+mod nodes;
+mod placed_fault;
+mod reads;
+mod rules;
+mod shapes;
+
+pub use bounds::MAX_ASSIGNMENTS;
+pub use shapes::shape_of;
