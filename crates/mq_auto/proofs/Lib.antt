@@ -1,7 +1,0 @@
-mod FaultLemmas
-mod JudgeLemmas
-mod KeySetLemmas
-mod NodeLemmas
-mod RowLemmas
-mod SettledLemmas
-mod WalkLemmas

@@ -1,4 +1,0 @@
-pub mod Conditions
-pub mod Findings
-pub mod Meaning
-pub mod Walks

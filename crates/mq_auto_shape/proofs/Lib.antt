@@ -1,9 +1,0 @@
-mod CycleLemmas
-mod EdgeLemmas
-mod GrowthLemmas
-mod LeftLemmas
-mod LevelLemmas
-mod MeaningLemmas
-mod NodeLemmas
-mod OutcomeLemmas
-mod StepLemmas

@@ -1,6 +1,0 @@
-use Rattle.mq_auto_shape.specs.Walk.{left_grown}
-use Rattle.mq_auto_shape.proofs.StepLemmas.{Turned}
-use Rattle.mq_auto_shape.proofs.lefts.grow_all.Given as goal
-
-abbrev pub invariant-lefts : goal.invariant-lefts
-invariant-lefts l = Turned (left_grown l.number l.rule) l.fn.growth l.lefts l.left-index l.growth

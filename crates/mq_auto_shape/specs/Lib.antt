@@ -1,5 +1,0 @@
-pub mod Conditions
-pub mod Edges
-pub mod Found
-pub mod Outcomes
-pub mod Walk
