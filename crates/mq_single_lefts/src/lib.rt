@@ -4,9 +4,9 @@
 #![tactic(auto)]
 
 mod key_set;
+mod left_sides;
 mod placed_fault;
-mod single_lefts;
 
 pub use key_set::{KeySet, set_of};
+pub use left_sides::single_lefts;
 pub use placed_fault::{PlacedFault, kind_of};
-pub use single_lefts::single_lefts;

@@ -3,7 +3,7 @@ use Rattle.mq_ir.specs.Unfolding.{model_of, unfold_rule}
 use Rattle.mq_ir.specs.declared.query.SingleLeft.{SingleLeft}
 use Rattle.mq_single_lefts.specs.EachLaws.{all_of}
 use Rattle.mq_single_lefts.proofs.LeftLemmas.{lefts_there, lefts_wide}
-use Rattle.mq_single_lefts.proofs.single_lefts.single_lefts.Goals as goal
+use Rattle.mq_single_lefts.proofs.left_sides.single_lefts.Goals as goal
 
 pub returns-in-Ok-clause-wide : goal.returns-in-Ok-clause-wide
 returns-in-Ok-clause-wide c =
