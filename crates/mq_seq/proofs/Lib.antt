@@ -1,5 +1,4 @@
 mod GridLemmas
-mod KeySetLemmas
 mod LeftLemmas
 mod LentLemmas
 mod MapLemmas

@@ -10,7 +10,7 @@ use Rattle.mq_values.specs.Order.{cmp_key}
 use Rattle.mq_values.specs.OrderLaws.{key_total}
 use Rattle.mq_ir.specs.Keys.{Tuple}
 use Rattle.mq_ir.specs.Partitions.{Cells, with_cell}
-use Rattle.mq_seq.proofs.StepLemmas.{next_item}
+use Rattle.mq_single_lefts.specs.StepLaws.{next_item}
 
 at_key : (P : Tuple → Type 0) (es : Cells) (key measures : Tuple) (rest : Cells) → AllByRecursion P (keys_of (es ++ (key, measures) ∷ rest)) → P key
 at_key P [] key measures rest a = a.0

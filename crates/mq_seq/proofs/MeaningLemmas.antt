@@ -27,10 +27,11 @@ use Rattle.mq_ir.specs.Sequential.{Act, Standing, assigned, left_fault, left_ste
 use Rattle.mq_ir.specs.Targets.{targets}
 use Rattle.mq_ir.specs.Unfolding.{Model}
 use Rattle.mq_seq.specs.Outcomes.{rows_left, rows_of, rows_over}
-use Rattle.mq_seq.specs.Steps.{State, acting, begun, left_done, lefts_of, rule_done, target_done, target_value, turn_done, turn_with, turns_done, until_in, until_true}
+use Rattle.mq_seq.specs.Steps.{State, acting, begun, left_done, rule_done, target_done, target_value, turn_done, turn_with, turns_done, until_in, until_true}
 use Rattle.mq_seq.specs.Tracks.{Firsts, Track, assign, create, measure_from, start_of}
-use Rattle.mq_seq.proofs.KeySetLemmas.{among_with}
-use Rattle.mq_seq.proofs.StepLemmas.{fault_is_last}
+use Rattle.mq_single_lefts.specs.Lefts.{lefts_of}
+use Rattle.mq_single_lefts.specs.KeySetLaws.{among_with}
+use Rattle.mq_single_lefts.specs.StepLaws.{fault_is_last}
 use Rattle.mq_seq.proofs.NoteLemmas.{assign_cells, assign_tells, create_cells, create_tells}
 
 -- the same targets so far

@@ -1,4 +1,3 @@
-pub mod Conditions
 pub mod Outcomes
 pub mod Steps
 pub mod Tracks

@@ -1,5 +1,5 @@
 -- The steps of the rules over the cells of a partition, where a cell that was a target is noted once.
-use Rattle.std.specs.Prelude.{◌≡◌, ℕ, zero, suc, ◌+◌, List, [], Bool, true, false, Option, Some, None, Result, Ok, Err}
+use Rattle.std.specs.Prelude.{ℕ, zero, suc, ◌+◌, List, [], Bool, true, false, Option, Some, None, Result, Ok, Err}
 use Rattle.std.specs.List.{enumerate_from, find, list_any}
 use Rattle.std.specs.Map.{keys_of}
 use Rattle.std.specs.Option.{option_and_then, option_map_or}
@@ -8,16 +8,17 @@ use Rattle.mq_ir.specs.declared.expression.Expr.{Expr}
 use Rattle.mq_ir.specs.declared.query.Rule.{Rule}
 use Rattle.mq_ir.specs.declared.query.SingleLeft.{SingleLeft}
 use Rattle.mq_ir.specs.Expression.{holds}
-use Rattle.mq_ir.specs.Keys.{Tuple, is_among}
+use Rattle.mq_ir.specs.Keys.{Tuple}
 use Rattle.mq_ir.specs.Looks.{looks_of}
-use Rattle.mq_ir.specs.Placed.{Placed, placed_fault, value_fault}
+use Rattle.mq_ir.specs.Placed.{Placed, value_fault}
 use Rattle.mq_ir.specs.Reads.{Site, measure_at, read_until, right_value}
 use Rattle.mq_ir.specs.Results.{◌>>=◌, each_in_turn, marked}
 use Rattle.mq_ir.specs.Sequential.{Act, is_of_other, left_fault, site_of}
 use Rattle.mq_ir.specs.Targets.{targets}
-use Rattle.mq_ir.specs.Unfolding.{Model, model_of, unfold_rule}
+use Rattle.mq_ir.specs.Unfolding.{Model, model_of}
 use Rattle.mq_values.specs.Truth.{is_true}
 use Rattle.mq_dim_index.specs.Places.{with_key}
+use Rattle.mq_single_lefts.specs.Lefts.{lefts_of}
 use Rattle.mq_seq.specs.Tracks.{Track, assign, begun_track, create, measure_from}
 use Rattle.mq_seq.specs.declared.acting.Acting.{Acting}
 
@@ -35,10 +36,6 @@ acting model number rule turn input = record { model = model; input = input; num
 
 abbrev pub act_in : Acting → List Tuple → Act
 act_in a = acting (model_of a.model.now) a.number a.rule.now a.turn
-
--- the same keys are among these
-abbrev pub HasKeysOf : List Tuple → List Tuple → Type 0
-HasKeysOf keys set = (key : Tuple) → is_among set key ≡ is_among keys key
 
 -- what a rule assigns to a target
 abbrev pub target_value : Act → Tuple → State → Result Value Placed
@@ -68,10 +65,6 @@ left_done act left s =
     let found = targets left (act s.input).rule.mode (keys_of s.track.cells) in
     let now = created_in (act s.input).model found.created s in
     option_map_or Err (left_fault (act s.input) left (keys_of now.track.cells) found.cells) (each_in_turn (target_done act) found.cells now)
-
--- the single left sides of a rule, or the fault of unfolding it
-abbrev pub lefts_of : Model → ℕ → ℕ → Rule → Result (List SingleLeft) Placed
-lefts_of model turn number rule = marked (placed_fault number []) (unfold_rule model rule turn)
 
 -- one rule
 abbrev pub rule_done : Model → ℕ → ℕ × Rule → State → Result State Placed

@@ -11,9 +11,9 @@ ghost use Rattle.mq_seq.specs.Steps.{act_in, target_done, target_value};
 use crate::acting::Acting;
 use crate::grid::Grid;
 use crate::lent_cells::LentCells;
-use crate::placed_fault::{PlacedFault, kind_of};
 use mq_ir::Slot;
 use mq_refs::eval_cell;
+use mq_single_lefts::{PlacedFault, kind_of};
 use mq_values::{Fail, Key, Memory, Value};
 use std::alloc::Global;
 

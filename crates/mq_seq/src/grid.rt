@@ -4,16 +4,16 @@ ghost use Rattle.std.specs.Map.{keys_of};
 ghost use Rattle.mq_ir.specs.Iteration.{out_cell as spec_out_cell};
 ghost use Rattle.mq_ir.specs.Unfolding.{model_of};
 ghost use Rattle.mq_dim_index.specs.Places.{is_there, with_key};
-ghost use Rattle.mq_seq.specs.Conditions.{HaveLength};
+ghost use Rattle.mq_single_lefts.specs.Conditions.{HaveLength};
 ghost use Rattle.mq_seq.specs.Steps.{begun, created_in};
 ghost use Rattle.mq_seq.specs.Tracks.{assign};
 
 use crate::cell_map::{CellMap, keys_in};
 use crate::changing::{assigned, with_created};
-use crate::key_set::KeySet;
 use crate::tracked::Tracked;
 use mq_dim_index::DimIndex;
 use mq_ir::{Model as Lent, OutCell, PartShape};
+use mq_single_lefts::KeySet;
 use mq_values::{Items, Key, Memory, Value};
 use std::alloc::Global;
 use std::marker::Model;
@@ -32,7 +32,7 @@ pub struct Grid {
 impl Model for Grid {
     ghost use Rattle.std.specs.Prelude.{◌≡◌};
     ghost use Rattle.std.specs.Map.{keys_of};
-    ghost use Rattle.mq_seq.specs.Conditions.{HaveLength};
+    ghost use Rattle.mq_single_lefts.specs.Conditions.{HaveLength};
     ghost use Rattle.mq_seq.specs.Steps.{State};
 
     ghost Value = { State };

@@ -4,15 +4,15 @@ ghost use Rattle.std.specs.Map.{keys_of};
 ghost use Rattle.mq_values.specs.Answers.{Gives};
 ghost use Rattle.mq_ir.specs.Results.{each_in_turn};
 ghost use Rattle.mq_ir.specs.Sequential as spec;
-ghost use Rattle.mq_seq.specs.Conditions.{HavePlaces};
+ghost use Rattle.mq_single_lefts.specs.Conditions.{HavePlaces};
 ghost use Rattle.mq_seq.specs.Steps.{act_in, left_done};
 
 use crate::acting::Acting;
 use crate::assigning::assign_all;
 use crate::grid::Grid;
-use crate::placed_fault::PlacedFault;
 use crate::self_order::order_missing;
 use mq_ir::SingleLeft;
+use mq_single_lefts::PlacedFault;
 use mq_targets::targets;
 use mq_values::{Fail, FaultKind, Key, MAX_CELLS_OF_PARTITION, Memory, Shared};
 use std::alloc::Global;

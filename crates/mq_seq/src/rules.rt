@@ -2,17 +2,16 @@
 ghost use Rattle.std.specs.Prelude.{◌≡◌, length, Some, IfOk};
 ghost use Rattle.mq_values.specs.Answers.{Gives};
 ghost use Rattle.mq_ir.specs.Unfolding.{model_of};
-ghost use Rattle.mq_unfold.specs.LeftSides.{rule_of, unfold_kind};
-ghost use Rattle.mq_seq.specs.Conditions.{HavePlaces, LeftHasPlaces, LeftsHavePlaces};
-ghost use Rattle.mq_seq.specs.Steps.{lefts_of, rule_done, turn_done};
+ghost use Rattle.mq_unfold.specs.LeftSides.{rule_of};
+ghost use Rattle.mq_single_lefts.specs.Conditions.{LeftHasPlaces, LeftsHavePlaces};
+ghost use Rattle.mq_seq.specs.Steps.{rule_done, turn_done};
 
 use crate::acting::Acting;
 use crate::grid::Grid;
 use crate::lefts::act_all;
-use crate::placed_fault::{PlacedFault, kind_of};
-use mq_ir::{Model, Rule, SingleLeft};
-use mq_unfold::{UnfoldFault, unfold};
-use mq_values::{Fail, FaultKind, Items, Shared};
+use mq_ir::{Model, Rule};
+use mq_single_lefts::{PlacedFault, single_lefts};
+use mq_values::Fail;
 use std::alloc::Global;
 
 /// The cells after all rules have acted in text order, or the first fault. `Memory` comes too where there are more rules
@@ -63,37 +62,4 @@ fn act_rule(
         turn,
     };
     act_all(alloc, &act, lefts.as_slice(), grid)
-}
-
-// The single left sides of a rule, or the fault of unfolding it.
-fn single_lefts(
-    alloc: Global,
-    m: &Model<'_>,
-    turn: u32,
-    number: u32,
-    rule: &Rule,
-) -> Result<Items<SingleLeft>, Fail<PlacedFault>>
-    requires there { rule_of m.now.part.now.rules number ≡ Some rule.now }
-    requires places { LeftHasPlaces (length m.now.part.now.dims) rule.now.left }
-    ensures exact { Gives result (lefts_of (model_of m.now) turn number rule.now) }
-    ensures wide { IfOk result (HavePlaces (length m.now.part.now.dims)) }
-{
-    match unfold(alloc, m, number, turn) {
-        Ok(lefts) => Ok(lefts),
-        Err(Fail::Cause(fault)) => Err(Fail::Cause(PlacedFault::new(
-            number,
-            Shared::empty(),
-            kind_of_unfold(fault),
-        ))),
-        Err(Fail::Memory) => Err(Fail::Memory),
-    }
-}
-
-fn kind_of_unfold(fault: UnfoldFault) -> FaultKind
-    ensures { result ≡ unfold_kind fault }
-{
-    match fault {
-        UnfoldFault::Value(fault) => kind_of(fault),
-        UnfoldFault::TooMany => FaultKind::TooManyUnfolded,
-    }
 }

@@ -5,13 +5,14 @@ ghost use Rattle.std.specs.Map.{keys_of};
 ghost use Rattle.mq_ir.specs.Looks as looks;
 ghost use Rattle.mq_ir.specs.Sequential as spec;
 ghost use Rattle.mq_ir.specs.Targets.{is_symbolic as spec_is_symbolic, place_is_symbolic};
-ghost use Rattle.mq_seq.specs.Steps.{HasKeysOf, act_in, first_past, looks_past as spec_looks_past};
+ghost use Rattle.mq_single_lefts.specs.KeySets.{HasKeysOf};
+ghost use Rattle.mq_seq.specs.Steps.{act_in, first_past, looks_past as spec_looks_past};
 
 use crate::acting::Acting;
 use crate::grid::Grid;
-use crate::key_set::{KeySet, set_of};
 use mq_ir::{Look, SingleLeft, SinglePlace};
 use mq_refs::looks_of;
+use mq_single_lefts::{KeySet, set_of};
 use mq_values::{Key, Memory};
 use std::alloc::Global;
 

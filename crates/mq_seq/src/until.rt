@@ -17,7 +17,6 @@ ghost use Rattle.mq_seq.specs.Tracks.{measure_from};
 
 use crate::cell_map::CellMap;
 use crate::grid::Grid;
-use crate::placed_fault::{PlacedFault, kind_of};
 use crate::tracked::Tracked;
 use mq_ir::{Expr, Leaf, Model, Test};
 use mq_reads::{Aggregation, nav};
@@ -26,6 +25,7 @@ use mq_refs::{
     reference_cell, tests_named,
 };
 use mq_scalar::{Env, holds};
+use mq_single_lefts::{PlacedFault, kind_of};
 use mq_values::{Agg, DimTest, Fail, Key, Shared, Value, ValueFault};
 use std::alloc::Global;
 

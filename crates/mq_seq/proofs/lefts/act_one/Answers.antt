@@ -1,12 +1,11 @@
-use Rattle.std.proofs.Common.{◌≡◌, length, sym, ap, subst, ◌∙◌}
+use Rattle.std.proofs.Common.{sym, ap, subst, ◌∙◌}
 use Rattle.mq_values.specs.Answers.{Gives}
-use Rattle.mq_ir.specs.Keys.{Tuple}
 use Rattle.mq_ir.specs.Results.{each_in_turn}
 use Rattle.mq_ir.specs.Targets.{targets}
-use Rattle.mq_seq.specs.Conditions.{HaveLength}
+use Rattle.mq_single_lefts.specs.Conditions.{HaveLength}
 use Rattle.mq_seq.specs.Steps.{act_in, target_done}
 use Rattle.mq_seq.proofs.LeftLemmas.{left_fails, left_passes}
-use Rattle.mq_seq.proofs.WidthLemmas.{all_of, created_long, each_in}
+use Rattle.mq_single_lefts.specs.CreatedLaws.{created_long}
 use Rattle.mq_seq.proofs.lefts.act_one.Goals as goal
 
 pub targets-requires : goal.targets-requires
@@ -18,9 +17,7 @@ with_created-requires c =
     let n = c.args.grid.width in
     let set = c.index.result.now in
     let mode = c.args.act.now.rule.now.mode in
-    let long : HaveLength n (targets left mode set).created =
-    all_of (λ (key : Tuple). length key ≡ n) (targets left mode set).created (created_long left n c.requires mode set (each_in (λ (key : Tuple). length key ≡ n) set c.index.ensures.wide)) in
-    subst (HaveLength n) (sym (c.as_slice.ensures ∙ c.in_ok-found.ensures.created)) long
+    subst (HaveLength n) (sym (c.as_slice.ensures ∙ c.in_ok-found.ensures.created)) (created_long left n c.requires mode set c.index.ensures.wide)
 
 pub returns-in-Some-clause-exact : goal.returns-in-Some-clause-exact
 returns-in-Some-clause-exact c =
