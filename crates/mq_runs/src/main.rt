@@ -1,5 +1,6 @@
-//! Shows what the rules of a model make of rows in sequential order: a table comes in on standard input, a row a line.
-//! Out comes each line with the cells that the rules leave, or the first fault. It is how mq_seq is tested.
+//! Shows what the rules of a model make of rows: a table comes in on standard input, a row a line.
+//! Out comes each line with the cells that the rules leave, or the first fault. It is how mq_seq and
+//! mq_auto are tested.
 //! But for the tests of `ready` it has no contracts: what it writes is compared with a table that was worked out by hand.
 #![tactic(auto)]
 

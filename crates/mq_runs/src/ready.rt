@@ -1,7 +1,7 @@
-//! Whether the rules may run over a partition, as `run_seq` asks (mq_seq, `specs/Conditions`).
+//! Whether the rules may run over a partition, as `run_seq` and `run_auto` ask (mq_single_lefts, `specs/Conditions`).
 ghost use Rattle.std.specs.Prelude.{◌≡◌, ◌↔◌, length, IfOk, IsTrue};
 ghost use Rattle.std.specs.Map.{keys_of};
-ghost use Rattle.mq_seq.specs.Conditions.{HaveLength, IsReady, LeftHasPlaces, LeftsHavePlaces};
+ghost use Rattle.mq_single_lefts.specs.Conditions.{HaveLength, IsReady, LeftHasPlaces, LeftsHavePlaces};
 
 use mq_ir::{Left, ModelPart, PartInput};
 use mq_refs::keys_ascend;

@@ -2,8 +2,9 @@
 
 use crate::ready::is_ready;
 use crate::scene::Scene;
-use crate::shows::add_result;
+use crate::shows::{add_result, add_shape};
 use crate::statements::{add_refused, bound_of};
+use mq_auto::run_auto;
 use mq_ir::{Bound, Model, ModelPart, PartInput};
 use mq_notation::answers::add;
 use mq_seq::run_seq;
@@ -35,7 +36,6 @@ fn add_bound(
         return add("no query", answer);
     };
     match &query.model {
-        Some(part) if part.auto => add("AUTOMATIC", answer),
         Some(part) => add_partitions(alloc, scene, part, answer),
         None => add("no model", answer),
     }
@@ -73,5 +73,11 @@ fn add_partition(
         lists: &scene.lists,
         refs: &scene.refs,
     };
-    add_result(&input.key, run_seq(alloc, &model, input)?, answer)
+    if part.auto {
+        let (shape, left) = run_auto(alloc, &model, input)?;
+        add_result(&input.key, left, answer)?;
+        add_shape(&shape, answer)
+    } else {
+        add_result(&input.key, run_seq(alloc, &model, input)?, answer)
+    }
 }

@@ -1,6 +1,6 @@
 //! How cells and faults are written.
 
-use mq_ir::{Answer, OutCell, PartResult};
+use mq_ir::{Answer, OutCell, PartResult, PartShape};
 use mq_notation::answers::{add, add_number};
 use mq_notation::lists::add_values;
 use mq_render::answer_text;
@@ -56,5 +56,49 @@ fn add_cell(cell: &OutCell, answer: &mut Vec<u8>) -> Result<(), Memory> {
 fn add_fault(fault: QueryFault, answer: &mut Vec<u8>) -> Result<(), Memory> {
     answer_text(&Answer::Fault(fault), answer)?;
     answer.pop();
+    Ok(())
+}
+
+/// The shape of a partition: the keys of its input, those of its cells, and the measures that are assigned.
+pub(crate) fn add_shape(shape: &PartShape, answer: &mut Vec<u8>) -> Result<(), Memory> {
+    add(" from ", answer)?;
+    add_keys(shape.base.as_slice(), answer)?;
+    add(" to ", answer)?;
+    add_keys(shape.cells.as_slice(), answer)?;
+    add(" with ", answer)?;
+    add_assigned(shape.assigned.as_slice(), answer)
+}
+
+// The keys, or a dash; of many keys how many there are.
+fn add_keys(keys: &[Key], answer: &mut Vec<u8>) -> Result<(), Memory> {
+    if keys.is_empty() {
+        return add("-", answer);
+    }
+    if keys.len() > MAX_SHOWN {
+        return add_number(keys.len() as u64, answer);
+    }
+    for (at, key) in keys.iter().enumerate() {
+        add(if at == 0 { "" } else { " ; " }, answer)?;
+        add_values(key.as_slice(), answer)?;
+    }
+    Ok(())
+}
+
+// Each measure as its cell, its number from 0 and, behind the word by, its rule; or a dash, or how many there are.
+fn add_assigned(assigned: &[(Key, u32, u32)], answer: &mut Vec<u8>) -> Result<(), Memory> {
+    if assigned.is_empty() {
+        return add("-", answer);
+    }
+    if assigned.len() > MAX_SHOWN {
+        return add_number(assigned.len() as u64, answer);
+    }
+    for (at, (key, measure, rule)) in assigned.iter().enumerate() {
+        add(if at == 0 { "" } else { " ; " }, answer)?;
+        add_values(key.as_slice(), answer)?;
+        add(" / ", answer)?;
+        add_number(u64::from(*measure), answer)?;
+        add(" by ", answer)?;
+        add_number(u64::from(*rule), answer)?;
+    }
     Ok(())
 }
