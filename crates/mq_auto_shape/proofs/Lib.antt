@@ -1,0 +1,9 @@
+mod CycleLemmas
+mod EdgeLemmas
+mod GrowthLemmas
+mod LeftLemmas
+mod LevelLemmas
+mod MeaningLemmas
+mod NodeLemmas
+mod OutcomeLemmas
+mod StepLemmas

@@ -1,0 +1,5 @@
+pub mod Conditions
+pub mod Edges
+pub mod Found
+pub mod Outcomes
+pub mod Walk

@@ -1,0 +1,70 @@
+-- The walk over the rules, where what is assigned is kept in its order.
+use Rattle.std.specs.Prelude.{ℕ, List, [], ◌∷◌, ◌++◌, map, Option, Some, None, Result, Ok, Err, nat_lt, if◌then◌else◌}
+use Rattle.std.specs.List.{enumerate_from, find}
+use Rattle.std.specs.Option.{option_map, option_map_or, option_or}
+use Rattle.std.specs.Ordering.{is_gt, nat_cmp, ordering_then}
+use Rattle.std.specs.declared.cmp.Ordering.{Ordering}
+use Rattle.mq_values.specs.declared.faults.FaultKind.TheVariants as kind
+use Rattle.mq_values.specs.declared.limits.TheConstants.{MAX_CELLS_OF_PARTITION}
+use Rattle.mq_values.specs.Order.{cmp_key}
+use Rattle.mq_ir.specs.declared.query.Rule.{Rule}
+use Rattle.mq_ir.specs.declared.query.SingleLeft.{SingleLeft}
+use Rattle.mq_ir.specs.Keys.{Tuple}
+use Rattle.mq_ir.specs.Partitions.{ascending, placed}
+use Rattle.mq_ir.specs.Placed.{Placed, placed_fault}
+use Rattle.mq_ir.specs.Results.{◌>>=◌, each_in_turn}
+use Rattle.mq_ir.specs.Shape.{Assignment, Growing, assigns, cmp_assignment, shape_fault}
+use Rattle.mq_ir.specs.Targets.{targets}
+use Rattle.mq_ir.specs.Unfolding.{Model}
+use Rattle.mq_single_lefts.specs.Lefts.{lefts_of}
+
+-- these items put among others, the last of them first
+abbrev pub placed_all : {K : Type 0} → (K → K → Ordering) → List K → List K → List K
+placed_all cmp [] ys = ys
+placed_all cmp (x ∷ xs) ys = placed cmp x (placed_all cmp xs ys)
+
+-- the lesser of two: the first where they are alike or there is no other
+abbrev pub sooner_of : {K : Type 0} → (K → K → Ordering) → K → Option K → K
+sooner_of cmp x None = x
+sooner_of cmp x (Some y) = if is_gt (cmp x y) then y else x
+
+-- the assignment of a measure of a cell by a rule
+abbrev pub assigned_by : ℕ → ℕ → Tuple → Assignment
+assigned_by m number key = (key, m, number)
+
+-- a measure of a cell, and the order of such
+abbrev pub Node : Type 0
+Node = Tuple × ℕ
+
+abbrev pub cmp_node : Node → Node → Ordering
+cmp_node x y = ordering_then (cmp_key x.0 y.0) (nat_cmp x.1 y.1)
+
+-- a node with a number, as an assignment
+abbrev pub node_in : Node × ℕ → Assignment
+node_in e = (e.0.0, e.0.1, e.1)
+
+-- the number that stands behind a measure of a cell, where one does
+abbrev pub number_at : List Assignment → Tuple → ℕ → Option ℕ
+number_at nodes key m = option_map (λ a. a.2) (find (assigns m key) nodes)
+
+-- why a single left side may not assign its targets: one is assigned again, or there are too many cells
+abbrev pub fault_in : ℕ → Option Tuple → ℕ → Option Placed
+fault_in number again count =
+    option_or (option_map (λ key. placed_fault number key kind.AssignedTwice) again)
+    (if nat_lt MAX_CELLS_OF_PARTITION count then Some (placed_fault number [] kind.TooManyCells) else None)
+
+-- one single left side
+abbrev pub left_grown : ℕ → Rule → SingleLeft → Growing → Result Growing Placed
+left_grown number rule left g =
+    let found = targets left rule.mode g.set in
+    let set = ascending cmp_key (found.created ++ g.set) in
+    option_map_or Err (shape_fault number rule.measure g.assigned found.cells set)
+    (Ok (record { set = set; assigned = placed_all cmp_assignment (map (assigned_by rule.measure number) found.cells) g.assigned }))
+
+-- one rule
+abbrev pub rule_grown : Model → ℕ × Rule → Growing → Result Growing Placed
+rule_grown model (number, rule) g = lefts_of model 0 number rule >>= (λ lefts. each_in_turn (left_grown number rule) lefts g)
+
+-- all rules in text order, numbered from 1
+abbrev pub rules_grown : Model → Growing → Result Growing Placed
+rules_grown model = each_in_turn (rule_grown model) (enumerate_from 1 model.part.rules)

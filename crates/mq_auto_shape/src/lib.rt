@@ -1,0 +1,15 @@
+//! The shape of a model in automatic order: a model and the keys of an input go in, and no value of a cell.
+//! Out come the cells in the end, what is assigned and in which rounds, or the first fault or CYCLE.
+//! It is the shape of mq_ir's `specs/Shape`, and the rounds of its `specs/Automatic`.
+#![tactic(auto)]
+
+mod cycles;
+mod growth;
+mod least;
+mod lefts;
+mod nodes;
+mod reads;
+mod rules;
+mod shapes;
+
+pub use shapes::shape_of;

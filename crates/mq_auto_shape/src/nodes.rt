@@ -1,0 +1,101 @@
+//! Measures of cells to be looked up.
+ghost use Rattle.std.specs.Prelude.{◌≡◌, ℕ, [], ◌==◌, ◌&&◌, Some, if◌then◌else◌, map, IfOk, OnOk};
+ghost use Rattle.std.specs.List.{All, find, list_any};
+ghost use Rattle.std.specs.List.Sorted.{IsStrictlySortedBy};
+ghost use Rattle.std.specs.Map.{keys_of};
+ghost use Rattle.mq_ir.specs.Keys.{Tuple, is_same};
+ghost use Rattle.mq_ir.specs.Partitions.{placed};
+ghost use Rattle.mq_ir.specs.Shape.{assigns, cmp_assignment};
+ghost use Rattle.mq_auto_shape.specs.Walk.{cmp_node, node_in, number_at};
+
+use mq_values::{Items, Key, Memory};
+use std::alloc::Global;
+use std::collections::BTreeMap;
+use std::marker::Model;
+
+/// Measures of cells, each once with a number. Contracts see them as the list of (cell, measure, number), ascending.
+#[derive(Drop)]
+pub struct NodeMap {
+    numbers: BTreeMap<(Key, u32), u32>,
+}
+
+impl Model for NodeMap {
+    ghost use Rattle.std.specs.Prelude.{List, map};
+    ghost use Rattle.mq_ir.specs.Shape.{Assignment};
+    ghost use Rattle.mq_auto_shape.specs.Walk.{node_in};
+
+    ghost Value = { List Assignment };
+
+    ghost view = { λ nodes. map node_in nodes.numbers.entries };
+}
+
+impl NodeMap {
+    /// No measures. It takes no memory.
+    pub fn new(alloc: Global) -> NodeMap
+        ensures { result ≡ [] }
+    {
+        NodeMap {
+            numbers: BTreeMap::new(alloc),
+        }
+    }
+
+    /// The number of measure `m` of the cell at `key`, or `None` where it has none.
+    pub fn get(&self, key: &Key, m: u32) -> Result<Option<u32>, Memory>
+        ensures { IfOk result (λ number. number ≡ number_at self.now key.now m) }
+    {
+        let node = (key.copy()?, m);
+        Ok(self.numbers.get(&node).copied())
+    }
+
+    /// Whether measure `m` of the cell at `key` has a number.
+    pub fn has(&self, key: &Key, m: u32) -> Result<bool, Memory>
+        ensures { IfOk result (λ has. has ≡ list_any (assigns m key.now) self.now) }
+    {
+        let node = (key.copy()?, m);
+        Ok(self.numbers.contains_key(&node))
+    }
+
+    /// Gives a measure that has none its number. `Memory` comes too where it has one.
+    pub fn put(&mut self, key: Key, m: u32, number: u32) -> Result<(), Memory>
+        ensures { OnOk result (self.new ≡ placed cmp_assignment (key, m, number) self.old) }
+    {
+        let old = self.numbers.insert((key, m), number)?;
+        let had = old.is_some();
+        if had {
+            return Err(Memory);
+        }
+        Ok(())
+    }
+
+    /// Gives a measure its number, in place of the one that it has.
+    pub fn set(&mut self, key: Key, m: u32, number: u32) -> Result<(), Memory>
+        ensures { OnOk result ((k : Tuple) (j : ℕ) → number_at self.new k j
+            ≡ (if is_same key k && (m == j) then Some number else number_at self.old k j)) }
+    {
+        self.numbers.insert((key, m), number)?;
+        Ok(())
+    }
+
+    /// The measures with their numbers, ascending.
+    pub fn list(&self, alloc: Global) -> Result<Items<(Key, u32, u32)>, Memory>
+        ensures list { IfOk result (λ list. list ≡ self.now) }
+        ensures own { All (λ a. find (assigns a.1 a.0) self.now ≡ Some a) self.now }
+    {
+        entries_of(alloc, &self.numbers)
+    }
+}
+
+// The entries of a map, in order.
+fn entries_of(
+    alloc: Global,
+    numbers: &BTreeMap<(Key, u32), u32>,
+) -> Result<Items<(Key, u32, u32)>, Memory>
+    ensures list { IfOk result (λ list. list ≡ map node_in numbers.now.entries) }
+    ensures ascend { IsStrictlySortedBy cmp_node (keys_of numbers.now.entries) }
+{
+    let mut list = Vec::with_capacity(alloc, numbers.len())?;
+    for (node, number) in numbers.iter() {
+        list.push((node.0.copy()?, node.1, *number))?;
+    }
+    Ok(Items::from_vec(list))
+}

@@ -1,0 +1,95 @@
+//! Which assignments each assignment looks at.
+ghost use Rattle.std.specs.Prelude.{◌≡◌, ◌≤◌, length, map, IfOk, OnOk};
+ghost use Rattle.std.specs.List.{All, filter_map};
+ghost use Rattle.mq_levels.specs.Levels.{reads_in};
+ghost use Rattle.mq_ir.specs.Unfolding.{model_of};
+ghost use Rattle.mq_auto_shape.specs.Found.{IsRuled};
+ghost use Rattle.mq_auto_shape.specs.Edges.{PlacesAre, number_looked, reads_of};
+ghost use Rattle.mq_cells.specs.declared.bounds.TheConstants.{MAX_ASSIGNMENTS};
+
+use crate::nodes::NodeMap;
+use mq_cells::MAX_ASSIGNMENTS;
+use mq_ir::{Look, Model, PartShape};
+use mq_refs::looks_of;
+use mq_values::{Key, Memory};
+use std::alloc::Global;
+
+/// For each assignment of a shape the places of those that its rule looks at. `Memory` comes too where there are more
+/// than a `u32` can number, or one is by a rule that is not there.
+pub fn all_reads(alloc: Global, m: &Model<'_>, shape: &PartShape) -> Result<Vec<Vec<u32>>, Memory>
+    ensures reads { IfOk result (λ reads. reads_in reads.items ≡ map (reads_of (model_of m.now) shape.now) shape.now.assigned) }
+    ensures ruled { OnOk result (All (IsRuled (model_of m.now)) shape.now.assigned) }
+    ensures few { OnOk result (length shape.now.assigned ≤ MAX_ASSIGNMENTS) }
+{
+    let assigned = shape.assigned.as_slice();
+    let places = places_of(alloc, assigned)?;
+    let mut reads = Vec::with_capacity(alloc, assigned.len())?;
+    'assigned: for a in assigned {
+        reads.push(reads_at(alloc, m, shape, &places, a)?)?;
+    }
+    Ok(reads)
+}
+
+// The place of each measure that is assigned.
+fn places_of(alloc: Global, assigned: &[(Key, u32, u32)]) -> Result<NodeMap, Memory>
+    ensures places { IfOk result (λ nodes. PlacesAre nodes assigned.now) }
+    ensures few { OnOk result (length assigned.now ≤ MAX_ASSIGNMENTS) }
+{
+    if assigned.len() > MAX_ASSIGNMENTS {
+        return Err(Memory);
+    }
+    let mut nodes = NodeMap::new(alloc);
+    let mut at = assigned.len();
+    // From the last to the first: the first of those that are alike counts.
+    'placing: while at > 0 {
+        at -= 1;
+        let a = &assigned[at];
+        nodes.set(a.0.copy()?, a.1, at as u32)?;
+    }
+    Ok(nodes)
+}
+
+// The places of what the rule of an assignment looks at.
+fn reads_at(
+    alloc: Global,
+    m: &Model<'_>,
+    shape: &PartShape,
+    places: &NodeMap,
+    a: &(Key, u32, u32),
+) -> Result<Vec<u32>, Memory>
+    requires places { PlacesAre places.now shape.now.assigned }
+    ensures reads { IfOk result (λ reads. reads.items ≡ reads_of (model_of m.now) shape.now a.now) }
+    ensures ruled { OnOk result (IsRuled (model_of m.now) a.now) }
+{
+    let Some(number) = a.2.checked_sub(1) else {
+        return Err(Memory);
+    };
+    let Some(rule) = m.part.rules.get(number as usize) else {
+        return Err(Memory);
+    };
+    let looks = looks_of(alloc, rule, m, &a.0, 0, shape)?;
+    places_looked(alloc, places, looks.as_slice())
+}
+
+// The places of those among these looks that are assigned.
+fn places_looked(alloc: Global, places: &NodeMap, looks: &[Look]) -> Result<Vec<u32>, Memory>
+    ensures { IfOk result (λ reads. reads.items ≡ filter_map (number_looked places.now) looks.now) }
+{
+    let mut reads = Vec::new(alloc);
+    for look in looks {
+        if let Some(place) = place_looked(places, look)? {
+            reads.push(place)?;
+        }
+    }
+    Ok(reads)
+}
+
+// The place of a look, where it is one of a measure that is assigned.
+fn place_looked(places: &NodeMap, look: &Look) -> Result<Option<u32>, Memory>
+    ensures { IfOk result (λ place. place ≡ number_looked places.now look.now) }
+{
+    match look {
+        Look::Measure(name) => places.get(&name.key, name.measure),
+        Look::Presence(_) => Ok(None),
+    }
+}
