@@ -1,0 +1,3 @@
+pub mod Findings
+pub mod Meaning
+pub mod Walks

@@ -1,0 +1,61 @@
+-- What stands in a store of cells while the values of assignments are found round by round.
+use Rattle.std.specs.Prelude.{◌≡◌, ℕ, true, List, Some, slice_get}
+use Rattle.std.specs.List.{All, find}
+use Rattle.mq_ir.specs.declared.query.CellName.{CellName}
+use Rattle.mq_ir.specs.declared.query.Look.TheVariants.{Measure}
+use Rattle.mq_ir.specs.declared.query.PartShape.{PartShape}
+use Rattle.mq_ir.specs.declared.query.Rule.{Rule}
+use Rattle.mq_ir.specs.Automatic.{node_looks}
+use Rattle.mq_ir.specs.Partitions.{Cells, cell_at}
+use Rattle.mq_ir.specs.Rounds.{levelled}
+use Rattle.mq_ir.specs.Shape.{Assignment, assigns}
+use Rattle.mq_ir.specs.Slots.{cell_slot}
+use Rattle.mq_ir.specs.Unfolding.{Model, model_of}
+use Rattle.mq_cells.specs.Stores.{CellInput, DiffersAt, Results, name_assigned, slot_at}
+use Rattle.mq_auto_shape.specs.Found.{place_comes_in}
+use Rattle.mq_auto.specs.declared.work.Work.{Work}
+use Rattle.mq_auto.specs.Meaning.{result_at}
+
+-- the model at work
+abbrev pub model_in : Work → Model
+model_in work = model_of work.model.now
+
+-- no measure of a cell is assigned twice: the assignment that is found first is this one
+abbrev pub AreOwn : PartShape → Type 0
+AreOwn shape = All (λ a. find (assigns a.1 a.0) shape.assigned ≡ Some a) shape.assigned
+
+-- at the measure of an assignment stands what its rule makes of the cell over what stood before, and nothing else changed
+abbrev pub IsPut : Model → PartShape → CellInput → Results → Results → Assignment → Rule → Type 0
+IsPut model shape given before after a rule =
+    DiffersAt before after (name_assigned a) (Some (cell_slot model shape 0 rule a.0 (slot_at given before)))
+
+-- at a measure stands what is to stand there
+abbrev pub IsRight : Model → PartShape → Cells → Results → CellName → Type 0
+IsRight model shape input results c = results c ≡ result_at model shape input c
+
+-- .. at each one that is levelled within n rounds
+abbrev pub AreRightWithin : Model → PartShape → Cells → ℕ → Results → Type 0
+AreRightWithin model shape input n results =
+    (c : CellName) → levelled (node_looks model shape) n (Measure c) ≡ true → IsRight model shape input results c
+
+-- .. at that of the assignment at this place
+abbrev pub IsRightAt : Model → PartShape → Cells → Results → ℕ → Type 0
+IsRightAt model shape input results place =
+    (a : Assignment) → slice_get shape.assigned place ≡ Some a → IsRight model shape input results (name_assigned a)
+
+-- what was right stays so
+abbrev pub StayRight : Model → PartShape → Cells → Results → Results → Type 0
+StayRight model shape input before after = (c : CellName) → IsRight model shape input before c → IsRight model shape input after c
+
+-- Where n rounds are done, and an assignment comes in the next one: its slot is found, and what was right stays so.
+abbrev pub IsFoundAt : Model → PartShape → CellInput → Results → Results → ℕ → Type 0
+IsFoundAt model shape given before after place =
+    (input : Cells) (n : ℕ) → given ≡ cell_at input → place_comes_in model shape n place ≡ true → AreRightWithin model shape input n before
+    → StayRight model shape input before after × IsRightAt model shape input after place
+
+-- .. the same of some that come in it
+abbrev pub AreFoundAt : Model → PartShape → CellInput → Results → Results → List ℕ → Type 0
+AreFoundAt model shape given before after places =
+    (input : Cells) (n : ℕ) → given ≡ cell_at input → All (λ place. place_comes_in model shape n place ≡ true) places
+    → AreRightWithin model shape input n before
+    → StayRight model shape input before after × All (IsRightAt model shape input after) places

@@ -1,0 +1,73 @@
+//! What is found of a partition before its values.
+ghost use Rattle.std.specs.Prelude.{◌≡◌, Ok, Err, IfOk};
+ghost use Rattle.std.specs.Option.{option_map};
+ghost use Rattle.mq_ir.specs.Automatic.{shape_found};
+ghost use Rattle.mq_ir.specs.Iteration as spec;
+ghost use Rattle.mq_ir.specs.Placed.{at_partition};
+ghost use Rattle.mq_ir.specs.Unfolding.{model_of};
+ghost use Rattle.mq_single_lefts.specs.Conditions.{IsReady};
+ghost use Rattle.mq_auto.specs.Findings.{IsJudged};
+
+use crate::input_keys::keys_of;
+use mq_auto_shape::shape_of;
+use mq_ir::{Model, PartInput, PartShape};
+use mq_levels::Leveled;
+use mq_values::{FaultKind, Key, MAX_CELLS_OF_PARTITION, Memory, QueryFault, Shared};
+use std::alloc::Global;
+
+/// The shape of a partition with the rounds of its assignments, or the first fault of the input or the shape, or CYCLE.
+pub fn judge(
+    alloc: Global,
+    m: &Model<'_>,
+    p: &PartInput,
+) -> Result<Result<(PartShape, Leveled), QueryFault>, Memory>
+    requires ready { IsReady m.now.part.now p.now }
+    ensures { IfOk result (IsJudged (model_of m.now) p.now) }
+{
+    match input_fault(p)? {
+        Some(fault) => return Ok(Err(fault)),
+        None => {}
+    }
+    let keys = keys_of(alloc, p.cells.as_slice())?;
+    let shape = shape_of(alloc, m, keys.as_slice())?;
+    let key = p.key.copy()?;
+    match shape {
+        Ok(found) => Ok(Ok(found)),
+        Err(fault) => Ok(Err(in_partition(fault, key))),
+    }
+}
+
+// Why the rules may not begin with this input: a tuple stands twice, or there are too many cells.
+fn input_fault(p: &PartInput) -> Result<Option<QueryFault>, Memory>
+    ensures { IfOk result (λ fault. fault ≡ option_map (at_partition p.now.key) (spec.input_fault p.now)) }
+{
+    if let Some(key) = &p.repeated {
+        return Ok(Some(QueryFault {
+            kind: FaultKind::NotUnique,
+            rule: 0,
+            partition: p.key.copy()?,
+            cell: key.copy()?,
+        }));
+    }
+    if p.cells.len() > MAX_CELLS_OF_PARTITION {
+        return Ok(Some(QueryFault {
+            kind: FaultKind::TooManyCells,
+            rule: 0,
+            partition: p.key.copy()?,
+            cell: Shared::empty(),
+        }));
+    }
+    Ok(None)
+}
+
+// The same fault, in the partition with this key.
+fn in_partition(fault: QueryFault, partition: Key) -> QueryFault
+    ensures { result ≡ record { kind = fault.kind; rule = fault.rule; partition = partition; cell = fault.cell } }
+{
+    QueryFault {
+        kind: fault.kind,
+        rule: fault.rule,
+        partition,
+        cell: fault.cell,
+    }
+}
