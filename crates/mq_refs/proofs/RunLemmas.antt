@@ -1,6 +1,6 @@
 -- Which of the ascending keys can meet a test of their first dimension.
-use Rattle.std.proofs.Common.{◌≡◌, ◌≢◌, true≢false, ℕ, zero, suc, ◌+◌, ◌-◌, ◌<◌, ◌≤◌, List, [], ◌∷◌, Bool, true, false, ◌&&◌, cond, length, get_or, take, drop, Option, Some, None, IfSome, unwrap_or, Ordering, Less, Equal, Greater, refl, sym, subst, ap, ◌∙◌, inl, inr, ◌⊎◌, arith}
-use Rattle.std.specs.Cmp.{IsTotalOrder, on_total}
+use Rattle.std.proofs.Common.{◌≡◌, ◌≢◌, true≢false, ℕ, zero, suc, ◌+◌, ◌-◌, ◌<◌, ◌≤◌, List, [], ◌∷◌, Bool, true, false, ◌&&◌, cond, length, get_or, take, drop, Option, Some, None, IfSome, unwrap_or, slice_get, Ordering, Less, Equal, Greater, refl, sym, subst, ap, ◌∙◌, inl, inr, ◌⊎◌, arith}
+use Rattle.std.specs.Cmp.{IsTotalOrder, first_so, on_total}
 use Rattle.std.specs.List.{AllWithin, filter}
 use Rattle.std.specs.List.Sorted.{IsPartitionedBy, IsStrictlySortedBy}
 use Rattle.std.specs.Ordering.{int_cmp, is_le, is_lt, ordering_reverse, ordering_then}
@@ -23,10 +23,10 @@ use Rattle.mq_refs.proofs.OrderLemmas.{less_is}
 use Rattle.mq_refs.proofs.PlainLemmas.{one_factor}
 
 -- a value at the largest scale
-at_top : Number → Number
+abbrev at_top : Number → Number
 at_top n = record { mant = mant_at MAX_SCALE n; scale = MAX_SCALE }
 
-leveled : Value → Value
+abbrev leveled : Value → Value
 leveled (value.Num n) = value.Num (at_top n)
 leveled (value.Text t) = value.Text t
 leveled value.Null = value.Null
@@ -190,3 +190,11 @@ module _ {X : Type 0} (q : X → Bool) where
       by false true e f rest = let g : true ≡ false = sym (more x f) ∙ e in cc
       by false false e f rest =
           ap (λ b. filter p (cond b (x ∷ filter q xs) (filter q xs))) e ∙ rest ∙ sym (ap (λ b. cond b (x ∷ filter p xs) (filter p xs)) f)
+
+-- what meets all tests meets the first
+pub first_met : (tests : List DimTest) (test : DimTest) (key : Tuple) → Some test ≡ slice_get tests 0 → meets_every tests key ≡ true → meets_every (test ∷ []) key ≡ true
+first_met [] test key is h = cc
+first_met (t ∷ ts) test [] is h = refl
+first_met (t ∷ ts) test (v ∷ vs) is h =
+    let same : test ≡ t = cc in
+    ap (λ x. meets v x && true) same ∙ ap (λ b. b && true) (first_so (meets v t) (meets_every ts vs) h)
