@@ -1,17 +1,20 @@
 -- What a test says of the values that meet it, as bounds.
-use Rattle.std.proofs.Common.{◌≡◌, ◌≢◌, true≢false, ℕ, zero, suc, ◌<◌, List, [], ◌∷◌, Bool, true, false, length, get_or, map, Option, Some, None, IfSome, unwrap_or, Ordering, Less, Equal, Greater, refl, sym, subst, ap, ◌∙◌, arith}
-use Rattle.std.specs.Ordering.{is_eq}
-use Rattle.mq_values.specs.DimTestLaws.{told_and, told_at, told_between, told_cmp}
-use Rattle.mq_values.specs.DimTests.{all_hold, meets, told}
+use Rattle.std.proofs.Common.{◌≡◌, ◌≢◌, true≢false, ℕ, zero, suc, ◌+◌, ◌<◌, ◌≤◌, List, [], ◌∷◌, Bool, true, false, length, get_or, map, Option, Some, None, IfSome, unwrap_or, Ordering, Less, Equal, Greater, refl, sym, subst, ap, ◌∙◌, inl, inr, ◌⊎◌, arith}
+use Rattle.std.specs.Cmp.{tied_itself}
+use Rattle.std.specs.Ordering.{is_eq, ordering_reverse}
+use Rattle.std.proofs.lemmas.Bool.{cases_lt}
+use Rattle.mq_values.specs.DimTestLaws.{told_and, told_at, told_between, told_cmp, told_in}
+use Rattle.mq_values.specs.DimTests.{all_hold, is_among, meets, told}
 use Rattle.mq_values.specs.Order.{cmp_value, compared}
 use Rattle.mq_values.specs.OrderTells.{equal_as_compared}
-use Rattle.mq_values.specs.Truth.{Truth, agrees, agrees_with, both, comparison, is_true}
+use Rattle.mq_values.specs.Truth.{Truth, agrees, agrees_with, both, comparison, either, is_true}
 use Rattle.mq_values.specs.declared.operators.CmpOp.{CmpOp}
 use Rattle.mq_values.specs.declared.operators.CmpOp.TheVariants.{Eq, Ge, Le}
 use Rattle.mq_values.specs.declared.operators.DimTest.{DimTest}
 use Rattle.mq_values.specs.declared.operators.DimTest.TheVariants as test
 use Rattle.mq_values.specs.declared.value.Value.{Value}
 use Rattle.mq_refs.specs.Runs.{IsBound, cmp_by_worth}
+use Rattle.mq_refs.proofs.RunLemmas.{worth_total}
 use Rattle.mq_refs.proofs.SightLemmas.{equal_is}
 
 true_is : (t : Truth) → is_true t ≡ true → t ≡ Some true
@@ -85,3 +88,56 @@ each_holds v [] k d h l = absurd (omega arith)
 each_holds v (t ∷ ts) zero d h l = first_true (told v t) (all_hold (map (told v) ts)) (ap is_true h)
 each_holds v (t ∷ ts) (suc k) d h l =
     each_holds v ts k d (true_is (all_hold (map (told v) ts)) (second_true (told v t) (all_hold (map (told v) ts)) (ap is_true h))) (omega arith)
+
+either_true : (t u : Truth) → either t u ≡ Some true → (t ≡ Some true) ⊎ (u ≡ Some true)
+either_true (Some true) u h = inl refl
+either_true (Some false) u h = inr h
+either_true None (Some true) h = inr refl
+either_true None (Some false) h = cc
+either_true None None h = cc
+
+module _ (side : Ordering) where
+  -- a value that IN finds among these stands as one of them does
+  pub stands_among : (v w : Value) (ws : List Value) → is_among v ws ≡ Some true → ((k : ℕ) (d : Value) → k < length ws → cmp_by_worth (get_or ws k d) w ≢ side) → cmp_by_worth v w ≢ side
+  stands_among v w [] h each = cc
+  stands_among v w (x ∷ xs) h each = by (either_true (comparison Eq v x) (is_among v xs) h) (λ e. stands_among v w xs e (λ k d l. each (suc k) d (omega arith)))
+    where
+      by : (comparison Eq v x ≡ Some true) ⊎ (is_among v xs ≡ Some true) → (is_among v xs ≡ Some true → cmp_by_worth v w ≢ side) → cmp_by_worth v w ≢ side
+      by (inl e) rest =
+          let level : cmp_by_worth v x ≡ Equal = equal_is (cmp_by_worth v x) (holds_by_worth v x Eq (ap is_true e)) in
+          λ s. each 0 x (omega arith) (sym (worth_total.congr v x w level) ∙ s)
+      by (inr e) rest = rest e
+
+  pub bound_in : (t : DimTest) (ws : List Value) (bound : Value) → t ≡ test.In ws → ((v : Value) → is_among v ws ≡ Some true → cmp_by_worth v bound ≢ side) → IsBound t side bound
+  bound_in t ws bound is h v m = h v (true_is (is_among v ws) (sym (ap is_true (ap (told v) is ∙ told_in v ws)) ∙ m))
+
+  module _ (n : side ≢ Equal) where
+    further : (u v w : Value) → cmp_by_worth u v ≡ side → cmp_by_worth v w ≡ side → cmp_by_worth u w ≡ side
+    further u v w e f = by side n e f
+      where
+        by : (r : Ordering) → r ≢ Equal → cmp_by_worth u v ≡ r → cmp_by_worth v w ≡ r → cmp_by_worth u w ≡ r
+        by Less m e f = worth_total.trans u v w e f
+        by Equal m e f = absurd (m refl)
+        by Greater m e f =
+            worth_total.antisymm u w
+            ∙ ap ordering_reverse (worth_total.trans w v u (worth_total.antisymm w v ∙ ap ordering_reverse f) (worth_total.antisymm v u ∙ ap ordering_reverse e))
+
+    itself : (v : Value) → cmp_by_worth v v ≢ side
+    itself v e = n (sym e ∙ tied_itself worth_total v)
+
+    module _ (ws : List Value) (found i : ℕ) (before : (k : ℕ) (d : Value) → k < i → cmp_by_worth (get_or ws k d) (get_or ws found d) ≢ side) where
+      -- none of the values up to number i is further than the one that was found
+      pub still_furthest : ((d : Value) → cmp_by_worth (get_or ws i d) (get_or ws found d) ≢ side) → (k : ℕ) (d : Value) → k < i + 1 → cmp_by_worth (get_or ws k d) (get_or ws found d) ≢ side
+      still_furthest not k d l = by (cases_lt k i)
+        where
+          by : (k < i) ⊎ (i ≤ k) → cmp_by_worth (get_or ws k d) (get_or ws found d) ≢ side
+          by (inl m) = before k d m
+          by (inr m) = let e : k ≡ i = omega arith in subst (λ (j : ℕ). cmp_by_worth (get_or ws j d) (get_or ws found d) ≢ side) (sym e) (not d)
+
+      -- and where number i is further, none is further than that
+      pub now_furthest : ((d : Value) → cmp_by_worth (get_or ws i d) (get_or ws found d) ≡ side) → (k : ℕ) (d : Value) → k < i + 1 → cmp_by_worth (get_or ws k d) (get_or ws i d) ≢ side
+      now_furthest past k d l = by (cases_lt k i)
+        where
+          by : (k < i) ⊎ (i ≤ k) → cmp_by_worth (get_or ws k d) (get_or ws i d) ≢ side
+          by (inl m) = λ e. before k d m (further (get_or ws k d) (get_or ws i d) (get_or ws found d) e (past d))
+          by (inr m) = let e : k ≡ i = omega arith in subst (λ (j : ℕ). cmp_by_worth (get_or ws j d) (get_or ws i d) ≢ side) (sym e) (itself (get_or ws i d))

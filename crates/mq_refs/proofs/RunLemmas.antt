@@ -48,7 +48,7 @@ same_leveled value.Null (value.Num b) = refl
 same_leveled value.Null (value.Text b) = refl
 same_leveled value.Null value.Null = refl
 
-worth_total : IsTotalOrder cmp_by_worth
+pub worth_total : IsTotalOrder cmp_by_worth
 worth_total = subst IsTotalOrder (λ i v w. same_leveled v w i) (on_total leveled value_total)
 
 -- what is not greater in the order of values is not greater by worth

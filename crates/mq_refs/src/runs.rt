@@ -1,7 +1,7 @@
 //! The keys that can meet some tests, among ascending keys.
-ghost use Rattle.std.specs.Prelude.{◌≡◌, ◌≢◌, ◌≤◌, true, false, [], ◌∷◌, length, map, Some, IfSome};
+ghost use Rattle.std.specs.Prelude.{◌≡◌, ◌≢◌, ◌↔◌, ◌≤◌, true, false, [], ◌∷◌, length, map, Some, IfSome, IsTrue};
 ghost use Rattle.std.specs.List.{AllWithin, filter};
-ghost use Rattle.mq_values.specs.DimTests.{all_hold, told};
+ghost use Rattle.mq_values.specs.DimTests.{all_hold, is_among, told};
 ghost use Rattle.mq_values.specs.Truth.{agrees};
 ghost use Rattle.mq_values.specs.declared.value.Value.{Value as OneValue};
 ghost use Rattle.mq_ir.specs.Targets.{meets_every};
@@ -102,6 +102,7 @@ fn bound_of<'a>(test: &'a DimTest, side: Ordering) -> Option<&'a Value>
             Some(w) => Some(w),
             None => bound_by(CmpOp::Le, high, side),
         },
+        DimTest::In(ws) => outermost(ws.as_slice(), side),
         DimTest::And(tests) => bound_among(tests.as_slice(), side),
         _ => None,
     }
@@ -125,4 +126,32 @@ fn bound_by<'a>(op: CmpOp, operand: &'a Value, side: Ordering) -> Option<&'a Val
     ensures { IfSome result (λ w. (w.now ≡ operand.now) × (agrees op side ≡ false)) }
 {
     if op.agrees(side) { None } else { Some(operand) }
+}
+
+// The one of these values that stands furthest on `side`, if there is one and the side is not the middle.
+fn outermost<'a>(ws: &'a [Value], side: Ordering) -> Option<&'a Value>
+    ensures { IfSome result (λ w. (v : OneValue) → is_among v ws.now ≡ Some true → spec.cmp_by_worth v w.now ≢ side) }
+{
+    if side.is_eq() || ws.is_empty() {
+        return None;
+    }
+    let mut found = 0;
+    for i in 0..ws.len() {
+        if stands_on(side, &ws[i], &ws[found]) {
+            found = i;
+        }
+    }
+    Some(&ws[found])
+}
+
+// Whether `v` stands on this side of `w`.
+fn stands_on(side: Ordering, v: &Value, w: &Value) -> bool
+    ensures { IsTrue result ↔ (spec.cmp_by_worth v.now w.now ≡ side) }
+{
+    let order = cmp_by_worth(v, w);
+    match side {
+        Ordering::Less => order.is_lt(),
+        Ordering::Equal => order.is_eq(),
+        Ordering::Greater => order.is_gt(),
+    }
 }
