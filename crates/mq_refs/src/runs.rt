@@ -34,7 +34,7 @@ fn first_has_value(keys: &[Key]) -> bool
     }
 }
 
-// The same for one test.
+// Keys in a row that hold all of `keys` that meet the test of their first dimension.
 fn run_within<'a>(keys: &'a [Key], test: &DimTest) -> &'a [Key]
     requires ascending { KeysAscend keys.now }
     requires valued { spec.first_has_value keys.now ≡ true }
@@ -90,7 +90,7 @@ fn cmp_by_worth(v: &Value, w: &Value) -> Ordering
     }
 }
 
-// A value on whose `side` stands none that meets the test, where the test names one.
+// A value such that none on that side of it meets the test, where the test names one.
 #[cycle(bounding)]
 fn bound_of<'a>(test: &'a DimTest, side: Ordering) -> Option<&'a Value>
     ensures { IfSome result (λ w. IsBound test.now side w.now) }
@@ -121,7 +121,7 @@ fn bound_among<'a>(tests: &'a [DimTest], side: Ordering) -> Option<&'a Value>
     None
 }
 
-// The operand of a comparison, where the comparison does not hold of values on that side of it.
+// The operand of a comparison, where the comparison holds of no value on that side of it.
 fn bound_by<'a>(op: CmpOp, operand: &'a Value, side: Ordering) -> Option<&'a Value>
     ensures { IfSome result (λ w. (w.now ≡ operand.now) × (agrees op side ≡ false)) }
 {

@@ -1,7 +1,5 @@
-use Rattle.std.proofs.Common.{◌≤◌, [], ◌∷◌, arith}
-use Rattle.std.proofs.lemmas.List.Elements.{AllWithin-upto}
+use Rattle.std.proofs.Common.{[], ◌∷◌, arith}
 use Rattle.mq_ir.specs.Targets.{meets_every}
-use Rattle.mq_refs.specs.Runs.{Misses}
 use Rattle.mq_refs.proofs.RunLemmas.{kept_between}
 use Rattle.mq_refs.proofs.runs.run_within.Goals as goal
 
