@@ -1,7 +1,9 @@
+pub mod BoundLemmas
 pub mod KeyLemmas
 pub mod ListLemmas
 pub mod LookLaws
 pub mod OrderLemmas
 pub mod PlainLemmas
+pub mod RunLemmas
 pub mod SightLemmas
 pub mod SlotLemmas

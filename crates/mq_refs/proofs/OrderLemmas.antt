@@ -16,7 +16,7 @@ use Rattle.mq_ir.specs.Keys.{Tuple, is_among, is_same}
 use Rattle.mq_ir.specs.Partitions.{Cells, cell_at}
 use Rattle.mq_refs.specs.Orders.{CellsAscend}
 
-less_is : (r : Ordering) → true ≡ is_lt r → r ≡ Less
+pub less_is : (r : Ordering) → true ≡ is_lt r → r ≡ Less
 less_is Less h = refl
 less_is Equal h = cc
 less_is Greater h = cc

@@ -43,7 +43,7 @@ module _ (site : Site) where
 -- all of them together
 pub ruleset plain_laws = (plain_lit, plain_leaf, plain_sum)
 
-one_factor : (z : ℤ) → z *ℤ pos 1 ≡ z
+pub one_factor : (z : ℤ) → z *ℤ pos 1 ≡ z
 unfolding one
 one_factor z = *ℤ-one z
 

@@ -16,7 +16,7 @@ use Rattle.mq_cells.specs.Stores.{is_named}
 use Rattle.mq_refs.specs.Sightings.{AreSteady, is_looked_at, seen_at, value_seen}
 use Rattle.mq_refs.specs.declared.sighting.Sighting.{Sighting}
 
-equal_is : (r : Ordering) → is_eq r ≡ true → r ≡ Equal
+pub equal_is : (r : Ordering) → is_eq r ≡ true → r ≡ Equal
 equal_is Less h = cc
 equal_is Equal h = refl
 equal_is Greater h = cc

@@ -25,10 +25,12 @@ ArraysAscend arrays = All (λ array. CellsAscend array.cells) arrays
 
 -- what is said to be in order is
 abbrev pub IsInOrder : InOrder → Lent → PartShape → Type 0
-IsInOrder order m s = (order.base ≡ true → KeysAscend s.base) × (order.refs ≡ true → ArraysAscend m.refs.now)
+IsInOrder order m s =
+    (order.base ≡ true → KeysAscend s.base) × ((order.refs ≡ true → ArraysAscend m.refs.now) × (order.cells ≡ true → KeysAscend s.cells))
 
 -- it has one proof at most
 pub IsInOrder-prop : (order : InOrder) (m : Lent) (s : PartShape) → IsProp (IsInOrder order m s)
 IsInOrder-prop order m s =
     ×_prop (→_prop (IsStrictlySortedBy-prop cmp_key s.base))
-    (→_prop (Π_prop (λ k. Π_prop (λ d. →_prop (IsStrictlySortedBy-prop (on (λ (cell : Tuple × Tuple). cell.0) cmp_key) _)))))
+    (×_prop (→_prop (Π_prop (λ k. Π_prop (λ d. →_prop (IsStrictlySortedBy-prop (on (λ (cell : Tuple × Tuple). cell.0) cmp_key) _)))))
+    (→_prop (IsStrictlySortedBy-prop cmp_key s.cells)))

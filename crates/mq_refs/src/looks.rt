@@ -8,9 +8,13 @@ ghost use Rattle.mq_ir.specs.Slots.{site_in};
 ghost use Rattle.mq_ir.specs.Targets as targets;
 ghost use Rattle.mq_ir.specs.Unfolding.{model_of};
 ghost use Rattle.mq_refs.specs.LookLists.{presence_at};
+ghost use Rattle.mq_refs.specs.Orders.{IsInOrder};
 ghost use Rattle.mq_refs.specs.Sites.{site_of};
 
 use crate::names::{key_named, meets_every, tests_named};
+use crate::order::{InOrder, UNKNOWN_ORDER};
+use crate::ordered::OrderedStandpoint;
+use crate::runs::run_for;
 use crate::standpoint::Standpoint;
 use crate::walk::push_looks;
 use mq_ir::{CellName, Expr, Leaf, Look, Model, PartShape, Rule, Test};
@@ -30,39 +34,62 @@ pub fn looks_of(
 ) -> Result<Items<Look>, Memory>
     ensures { IfOk result (λ looks. looks ≡ spec.looks_of (site_in (model_of m.now) s.now turn target.now) r.now.right) }
 {
+    looks_in(alloc, r, m, target, turn, s, UNKNOWN_ORDER)
+}
+
+/// The same as `looks_of`, where `order` says which keys are in order (`keys_ascend` of `s.base` and of `s.cells`,
+/// `arrays_ascend` of `m.refs`). The cells of a range are then found by searches among their keys.
+pub fn looks_in(
+    alloc: Global,
+    r: &Rule,
+    m: &Model<'_>,
+    target: &Key,
+    turn: u32,
+    s: &PartShape,
+    order: InOrder,
+) -> Result<Items<Look>, Memory>
+    requires { IsInOrder order m.now s.now }
+    ensures { IfOk result (λ looks. looks ≡ spec.looks_of (site_in (model_of m.now) s.now turn target.now) r.now.right) }
+{
     let at = Standpoint {
         model: m,
         shape: s,
         target,
         turn,
     };
-    looks_from(alloc, &at, &r.right)
+    let here = OrderedStandpoint { at: &at, order };
+    looks_from(alloc, &here, &r.right)
 }
 
 /// The looks of `e` where it stands.
-pub fn looks_from(alloc: Global, at: &Standpoint<'_>, e: &Expr) -> Result<Items<Look>, Memory>
-    ensures { IfOk result (λ looks. looks ≡ spec.looks_of (site_of at.now) e.now) }
+pub fn looks_from(
+    alloc: Global,
+    here: &OrderedStandpoint<'_>,
+    e: &Expr,
+) -> Result<Items<Look>, Memory>
+    ensures { IfOk result (λ looks. looks ≡ spec.looks_of (site_of here.now.at.now) e.now) }
 {
     let mut looks = Items::new(alloc);
-    push_looks(alloc, at, e, &mut looks)?;
+    push_looks(alloc, here, e, &mut looks)?;
     Ok(looks)
 }
 
 /// Puts the looks of a leaf behind `looks`.
 pub fn push_leaf(
     alloc: Global,
-    at: &Standpoint<'_>,
+    here: &OrderedStandpoint<'_>,
     leaf: &Leaf,
     looks: &mut Items<Look>,
 ) -> Result<(), Memory>
-    ensures { OnOk result (looks.new ≡ looks.old ++ leaf_looks (site_of at.now) leaf.now) }
+    ensures { OnOk result (looks.new ≡ looks.old ++ leaf_looks (site_of here.now.at.now) leaf.now) }
 {
+    let at = here.at;
     match leaf {
         Leaf::Cell(measure, indices) | Leaf::NotNull(measure, indices) => {
             push_measure(alloc, at, *measure, indices.as_slice(), looks)
         }
         Leaf::Range(_, measure, places) => {
-            push_range(alloc, at, *measure, places.as_slice(), looks)
+            push_range(alloc, here, *measure, places.as_slice(), looks)
         }
         Leaf::Present(indices) => push_presence(alloc, at, indices.as_slice(), looks),
         _ => Ok(()),
@@ -105,15 +132,20 @@ fn push_presence(
 // The measures of the cells of a range.
 fn push_range(
     alloc: Global,
-    at: &Standpoint<'_>,
+    here: &OrderedStandpoint<'_>,
     measure: u32,
     places: &[Test],
     looks: &mut Items<Look>,
 ) -> Result<(), Memory>
-    ensures { OnOk result (looks.new ≡ looks.old ++ looks_named (looks_at measure) (range_named (site_of at.now) places.now)) }
+    ensures { OnOk result (looks.new ≡ looks.old ++ looks_named (looks_at measure) (range_named (site_of here.now.at.now) places.now)) }
 {
+    let at = here.at;
     match tests_named(alloc, at, at.model.part.dims.as_slice(), places) {
-        Ok(tests) => push_cells(measure, tests.as_slice(), at.shape.cells.as_slice(), looks),
+        Ok(tests) => {
+            let set = at.shape.cells.as_slice();
+            let run = run_for(set, here.order.cells, tests.as_slice());
+            push_cells(measure, tests.as_slice(), run, looks)
+        }
         Err(Fail::Cause(_)) => Ok(()),
         Err(Fail::Memory) => Err(Memory),
     }

@@ -5,13 +5,21 @@ ghost use Rattle.mq_refs.specs.Orders.{ArraysAscend, CellsAscend, KeysAscend};
 use mq_ir::RefArray;
 use mq_values::Key;
 
-/// Which keys are known to ascend, each once: those of a partition's input, and those of the cells of every reference.
-/// Among these a cell is found without going through all others.
+/// Which keys are known to ascend, each once: those of a partition's input, those of the cells of every reference, and
+/// those of all cells of the partition. Among these a cell or a range is found without going through all others.
 #[derive(Clone, Copy)]
 pub struct InOrder {
     pub base: bool,
     pub refs: bool,
+    pub cells: bool,
 }
+
+/// No keys are known to be in order.
+pub const UNKNOWN_ORDER: InOrder = InOrder {
+    base: false,
+    refs: false,
+    cells: false,
+};
 
 /// Whether these keys ascend, each once. It takes no memory.
 pub fn keys_ascend(keys: &[Key]) -> bool

@@ -8,7 +8,7 @@ ghost use Rattle.mq_ir.specs.Keys.{is_among};
 ghost use Rattle.mq_ir.specs.Reads as spec;
 ghost use Rattle.mq_ir.specs.Targets as targets;
 ghost use Rattle.mq_cells.specs.Stores.{cell_name};
-ghost use Rattle.mq_refs.specs.Orders.{IsInOrder, IsInOrder-prop, KeysAscend};
+ghost use Rattle.mq_refs.specs.Orders.{IsInOrder, KeysAscend};
 ghost use Rattle.mq_refs.specs.Sightings.{value_seen};
 ghost use Rattle.mq_refs.specs.Sites as sites;
 ghost use Rattle.mq_refs.specs.Sites.{site_of};
@@ -16,7 +16,9 @@ ghost use Rattle.mq_refs.specs.Sites.{site_of};
 use crate::inside::inner_leaf;
 use crate::names::{cell_named, meets_every, tests_named};
 use crate::order::InOrder;
+use crate::ordered::OrderedStandpoint;
 use crate::references::{kind_in, reference_cell};
+use crate::runs::run_for;
 use crate::seen::Seen;
 use crate::standpoint::Standpoint;
 use mq_ir::{Expr, Leaf, Test};
@@ -28,36 +30,36 @@ use std::alloc::Global;
 /// The place of a right side.
 #[derive(Drop)]
 pub struct Reading<'a> {
-    pub at: &'a Standpoint<'a>,
+    pub here: &'a OrderedStandpoint<'a>,
     pub seen: Seen,
-    pub order: InOrder,
-    ghost ordered: { IsInOrder order at.now.model.now at.now.shape.now } by { IsInOrder-prop order at.now.model.now at.now.shape.now },
 }
 
 impl Env for Reading<'_> {
-    ghost gives = { λ env. spec.read (site_of env.at.now) env.at.now.shape.now.base (value_seen env.seen) };
+    ghost gives = { λ env. spec.read (site_of env.here.now.at.now) env.here.now.at.now.shape.now.base (value_seen env.seen) };
 
     fn leaf(&mut self, alloc: Global, leaf: &Leaf) -> Result<Value, Fail<ValueFault>> {
+        let at = self.here.at;
+        let order = self.here.order;
         match leaf {
             Leaf::Cell(measure, indices) => {
-                cell_value(alloc, self.at, *measure, indices.as_slice(), &mut self.seen)
+                cell_value(alloc, at, *measure, indices.as_slice(), &mut self.seen)
             }
             Leaf::Range(agg, measure, places) => range_value(
                 alloc,
-                self.at,
+                self.here,
                 *agg,
                 *measure,
                 places.as_slice(),
                 &mut self.seen,
             ),
             Leaf::RefCell(r, measure, indices) => {
-                reference_cell(alloc, self.at, self.order, *r, *measure, indices.as_slice())
+                reference_cell(alloc, at, order, *r, *measure, indices.as_slice())
             }
-            Leaf::Present(indices) => presence(alloc, self.at, self.order, indices.as_slice()),
+            Leaf::Present(indices) => presence(alloc, at, order, indices.as_slice()),
             Leaf::NotNull(measure, indices) => {
-                not_null(alloc, self.at, *measure, indices.as_slice(), &mut self.seen)
+                not_null(alloc, at, *measure, indices.as_slice(), &mut self.seen)
             }
-            _ => inner_leaf(self.at, leaf),
+            _ => inner_leaf(at, leaf),
         }
     }
 }
@@ -191,23 +193,20 @@ pub fn flag(holds: bool) -> Value
 // An aggregate of a measure over the cells that meet each place, without NAV.
 fn range_value(
     alloc: Global,
-    at: &Standpoint<'_>,
+    here: &OrderedStandpoint<'_>,
     agg: Agg,
     measure: u32,
     places: &[Test],
     seen: &mut Seen,
 ) -> Result<Value, Fail<ValueFault>>
-    ensures exact { Gives result (spec.range_value (site_of at.now) (value_seen seen.old) agg measure places.now) }
+    ensures exact { Gives result (spec.range_value (site_of here.now.at.now) (value_seen seen.old) agg measure places.now) }
     ensures same { seen.new ≡ seen.old }
 {
+    let at = here.at;
     let tests = tests_named(alloc, at, at.model.part.dims.as_slice(), places)?;
-    aggregate_of(
-        agg,
-        measure,
-        tests.as_slice(),
-        at.shape.cells.as_slice(),
-        seen,
-    )
+    let set = at.shape.cells.as_slice();
+    let run = run_for(set, here.order.cells, tests.as_slice());
+    aggregate_of(agg, measure, tests.as_slice(), run, seen)
 }
 
 // An aggregate of a measure over the cells of `set` that meet every test.

@@ -12,7 +12,8 @@ ghost use Rattle.mq_refs.specs.Sightings.{measures_in};
 ghost use Rattle.mq_refs.specs.Sites.{site_of};
 
 use crate::looks::looks_from;
-use crate::order::InOrder;
+use crate::order::{InOrder, UNKNOWN_ORDER};
+use crate::ordered::OrderedStandpoint;
 use crate::plain::brought;
 use crate::reading::Reading;
 use crate::references::kind_in;
@@ -45,15 +46,12 @@ pub fn eval_cell<C: Cells>(
     ensures same_input { C.input cells.new ≡ C.input cells.old }
     ensures same_results { C.results cells.new ≡ C.results cells.old }
 {
-    let unknown = InOrder {
-        base: false,
-        refs: false,
-    };
-    eval_cell_in(alloc, r, m, target, turn, s, unknown, cells)
+    eval_cell_in(alloc, r, m, target, turn, s, UNKNOWN_ORDER, cells)
 }
 
-/// The same as `eval_cell`, where `order` says which keys are in order (`keys_ascend` of `s.base`, `arrays_ascend` of
-/// `m.refs`). Whether a cell is in the input, and a cell of a reference, are then found by searches among their keys.
+/// The same as `eval_cell`, where `order` says which keys are in order (`keys_ascend` of `s.base` and of `s.cells`,
+/// `arrays_ascend` of `m.refs`). Whether a cell is in the input, a cell of a reference, and the cells of a range are then
+/// found by searches among their keys.
 pub fn eval_cell_in<C: Cells>(
     alloc: Global,
     r: &Rule,
@@ -78,10 +76,11 @@ pub fn eval_cell_in<C: Cells>(
         target,
         turn,
     };
+    let here = OrderedStandpoint { at: &at, order };
     reads_are_among_looks();
-    let looks = looks_from(alloc, &at, &r.right)?;
+    let looks = looks_from(alloc, &here, &r.right)?;
     match seen_at(alloc, looks.as_slice(), cells)? {
-        Some(sightings) => slot_over(alloc, &at, order, r, Seen::new(sightings)),
+        Some(sightings) => slot_over(alloc, &here, r, Seen::new(sightings)),
         None => Ok(Slot::Poisoned),
     }
 }
@@ -89,15 +88,14 @@ pub fn eval_cell_in<C: Cells>(
 // The value of a right side over what was seen, or its fault.
 fn slot_over(
     alloc: Global,
-    at: &Standpoint<'_>,
-    order: InOrder,
+    here: &OrderedStandpoint<'_>,
     r: &Rule,
     seen: Seen,
 ) -> Result<Slot, Memory>
-    requires { IsInOrder order at.now.model.now at.now.shape.now }
-    ensures { IfOk result (λ slot. slot ≡ slot_of (spec.right_value (site_of at.now) at.now.shape.now.base (sightings.value_seen seen) r.now)) }
+    ensures { IfOk result (λ slot. slot
+        ≡ slot_of (spec.right_value (site_of here.now.at.now) here.now.at.now.shape.now.base (sightings.value_seen seen) r.now)) }
 {
-    match right_value(alloc, at, order, r, seen) {
+    match right_value(alloc, here, r, seen) {
         Ok(v) => Ok(Slot::Done(v)),
         Err(Fail::Cause(fault)) => Ok(Slot::Faulted(fault)),
         Err(Fail::Memory) => Err(Memory),
@@ -106,20 +104,14 @@ fn slot_over(
 
 fn right_value(
     alloc: Global,
-    at: &Standpoint<'_>,
-    order: InOrder,
+    here: &OrderedStandpoint<'_>,
     r: &Rule,
     seen: Seen,
 ) -> Result<Value, Fail<ValueFault>>
-    requires { IsInOrder order at.now.model.now at.now.shape.now }
-    ensures { Gives result (spec.right_value (site_of at.now) at.now.shape.now.base (sightings.value_seen seen) r.now) }
+    ensures { Gives result (spec.right_value (site_of here.now.at.now) here.now.at.now.shape.now.base (sightings.value_seen seen) r.now) }
 {
-    let mut reading = Reading {
-        at: &*at,
-        seen,
-        order,
-    };
+    let mut reading = Reading { here: &*here, seen };
     let v = eval(alloc, &r.right, &mut reading)?;
-    let kind = kind_in(at.model.part.measures.as_slice(), r.measure);
+    let kind = kind_in(here.at.model.part.measures.as_slice(), r.measure);
     brought(alloc, v, kind)
 }

@@ -4,12 +4,12 @@ use crate::models::{arrays, cell, described, model, rule};
 use crate::scene::Scene;
 use crate::shows::{add_looks, add_slot};
 use crate::stores;
-use mq_ir::Model;
+use mq_ir::{Model, RefArray};
 use mq_notation::answers::add;
 use mq_notation::lists::key;
 use mq_notation::literals::number_of;
 use mq_notation::notation::{Read, no_tree};
-use mq_refs::{InOrder, arrays_ascend, eval_cell, eval_cell_in, keys_ascend, looks_of};
+use mq_refs::{InOrder, arrays_ascend, eval_cell, eval_cell_in, keys_ascend, looks_in, looks_of};
 use mq_values::{Fail, Memory};
 use std::alloc::Global;
 
@@ -43,6 +43,7 @@ fn add_answer(
         "value-in-order" => add_evaluated_in_order(alloc, scene, text, answer),
         "order" => add_order(alloc, scene, answer),
         "looks" => add_looked_at(alloc, scene, text, answer),
+        "looks-in-order" => add_looked_at_in_order(alloc, scene, text, answer),
         _ => changed(alloc, scene, asked, text),
     }
 }
@@ -143,10 +144,7 @@ fn add_evaluated_in_order(
     };
     let target = key(alloc, target)?;
     let turn = number_of(turn)?;
-    let order = InOrder {
-        base: keys_ascend(scene.shape.base.as_slice()),
-        refs: arrays_ascend(model.refs),
-    };
+    let order = order_of(scene, model.refs);
     let slot = eval_cell_in(
         alloc,
         rule.get(),
@@ -161,13 +159,24 @@ fn add_evaluated_in_order(
     Ok(add_slot(&slot, answer)?)
 }
 
-// Whether the keys of the input are in order, and those of the references.
+fn order_of(scene: &Scene, refs: &[RefArray]) -> InOrder {
+    InOrder {
+        base: keys_ascend(scene.shape.base.as_slice()),
+        refs: arrays_ascend(refs),
+        cells: keys_ascend(scene.shape.cells.as_slice()),
+    }
+}
+
+// Whether the keys of the input are in order, those of the references, and those of all cells.
 fn add_order(alloc: Global, scene: &Scene, answer: &mut Vec<u8>) -> Read<()> {
     let refs = arrays(alloc, scene.references.as_slice())?;
+    let order = order_of(scene, refs.as_slice());
     add("\tinput:", answer)?;
-    add(yes_or_no(keys_ascend(scene.shape.base.as_slice())), answer)?;
+    add(yes_or_no(order.base), answer)?;
     add(" references:", answer)?;
-    Ok(add(yes_or_no(arrays_ascend(refs.as_slice())), answer)?)
+    add(yes_or_no(order.refs), answer)?;
+    add(" cells:", answer)?;
+    Ok(add(yes_or_no(order.cells), answer)?)
 }
 
 fn yes_or_no(holds: bool) -> &'static str {
@@ -186,6 +195,37 @@ fn add_looked_at(alloc: Global, scene: &Scene, text: &str, answer: &mut Vec<u8>)
     let target = key(alloc, target)?;
     let turn = number_of(turn)?;
     let looks = looks_of(alloc, rule.get(), &model, &target, turn, &scene.shape)?;
+    add("\t", answer)?;
+    Ok(add_looks(looks.as_slice(), answer)?)
+}
+
+// The same by the call that takes what is in order.
+fn add_looked_at_in_order(
+    alloc: Global,
+    scene: &Scene,
+    text: &str,
+    answer: &mut Vec<u8>,
+) -> Read<()> {
+    let (measure, target, turn, right) = parts(text)?;
+    let rule = rule(alloc, number_of(measure)?, right)?;
+    let part = model(alloc, scene)?;
+    let model = Model {
+        part: part.get(),
+        lists: &[],
+        refs: &[],
+    };
+    let target = key(alloc, target)?;
+    let turn = number_of(turn)?;
+    let order = order_of(scene, model.refs);
+    let looks = looks_in(
+        alloc,
+        rule.get(),
+        &model,
+        &target,
+        turn,
+        &scene.shape,
+        order,
+    )?;
     add("\t", answer)?;
     Ok(add_looks(looks.as_slice(), answer)?)
 }

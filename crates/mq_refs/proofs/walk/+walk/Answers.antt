@@ -8,6 +8,6 @@ pub push_looks-returns-in_ok-push_arms-in-Case : goal.push_looks-returns-in_ok-p
 push_looks-returns-in_ok-push_arms-in-Case t c =
     on_ok_weaker c.push_if_any-in-Case.result
     (λ put. put
-    ∙ put_case_parts (site_of c.args.at.now) c.args.looks.now c.push_if_any.new.looks c.push_arms.new.looks c.args.e.now _ _ _ c.as_slice-in-Case.result.now c.in-Case.is
+    ∙ put_case_parts (site_of c.args.here.now.at.now) c.args.looks.now c.push_if_any.new.looks c.push_arms.new.looks c.args.e.now _ _ _ c.as_slice-in-Case.result.now c.in-Case.is
     c.as_slice-in-Case.ensures c.in_ok-push_if_any-in-Case.ensures c.in_ok-push_arms-in-Case.ensures)
     c.push_if_any-in-Case.ensures
