@@ -39,6 +39,7 @@ pub fn walk_rounds<C: Cells>(
         order: InOrder {
             base: keys_ascend(s.base.as_slice()),
             refs: arrays_ascend(m.refs),
+            cells: keys_ascend(s.cells.as_slice()),
         },
     };
     'rounds: for round in rounds {

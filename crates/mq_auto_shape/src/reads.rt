@@ -3,6 +3,7 @@ ghost use Rattle.std.specs.Prelude.{◌≡◌, ◌≤◌, length, map, IfOk, OnO
 ghost use Rattle.std.specs.List.{All, filter_map};
 ghost use Rattle.mq_levels.specs.Levels.{reads_in};
 ghost use Rattle.mq_ir.specs.Unfolding.{model_of};
+ghost use Rattle.mq_refs.specs.Orders.{IsInOrder};
 ghost use Rattle.mq_auto_shape.specs.Found.{IsRuled};
 ghost use Rattle.mq_auto_shape.specs.Edges.{PlacesAre, number_looked, reads_of};
 ghost use Rattle.mq_cells.specs.declared.bounds.TheConstants.{MAX_ASSIGNMENTS};
@@ -10,7 +11,7 @@ ghost use Rattle.mq_cells.specs.declared.bounds.TheConstants.{MAX_ASSIGNMENTS};
 use crate::nodes::NodeMap;
 use mq_cells::MAX_ASSIGNMENTS;
 use mq_ir::{Look, Model, PartShape};
-use mq_refs::looks_of;
+use mq_refs::{InOrder, keys_ascend, looks_in};
 use mq_values::{Key, Memory};
 use std::alloc::Global;
 
@@ -23,9 +24,14 @@ pub fn all_reads(alloc: Global, m: &Model<'_>, shape: &PartShape) -> Result<Vec<
 {
     let assigned = shape.assigned.as_slice();
     let places = places_of(alloc, assigned)?;
+    let order = InOrder {
+        base: false,
+        refs: false,
+        cells: keys_ascend(shape.cells.as_slice()),
+    };
     let mut reads = Vec::with_capacity(alloc, assigned.len())?;
     'assigned: for a in assigned {
-        reads.push(reads_at(alloc, m, shape, &places, a)?)?;
+        reads.push(reads_at(alloc, m, shape, order, &places, a)?)?;
     }
     Ok(reads)
 }
@@ -54,9 +60,11 @@ fn reads_at(
     alloc: Global,
     m: &Model<'_>,
     shape: &PartShape,
+    order: InOrder,
     places: &NodeMap,
     a: &(Key, u32, u32),
 ) -> Result<Vec<u32>, Memory>
+    requires order { IsInOrder order m.now shape.now }
     requires places { PlacesAre places.now shape.now.assigned }
     ensures reads { IfOk result (λ reads. reads.items ≡ reads_of (model_of m.now) shape.now a.now) }
     ensures ruled { OnOk result (IsRuled (model_of m.now) a.now) }
@@ -67,7 +75,7 @@ fn reads_at(
     let Some(rule) = m.part.rules.get(number as usize) else {
         return Err(Memory);
     };
-    let looks = looks_of(alloc, rule, m, &a.0, 0, shape)?;
+    let looks = looks_in(alloc, rule, m, &a.0, 0, shape, order)?;
     places_looked(alloc, places, looks.as_slice())
 }
 

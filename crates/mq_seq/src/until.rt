@@ -21,19 +21,13 @@ use crate::tracked::Tracked;
 use mq_ir::{Expr, Leaf, Model, Test};
 use mq_reads::{Aggregation, nav};
 use mq_refs::{
-    InOrder, Standpoint, cell_named, flag, inner_leaf, is_there, kind_in, meets_every,
+    Standpoint, UNKNOWN_ORDER, cell_named, flag, inner_leaf, is_there, kind_in, meets_every,
     reference_cell, tests_named,
 };
 use mq_scalar::{Env, holds};
 use mq_single_lefts::{PlacedFault, kind_of};
 use mq_values::{Agg, DimTest, Fail, Key, Shared, Value, ValueFault};
 use std::alloc::Global;
-
-// UNTIL is evaluated once a turn, so no key is known to be in order there.
-const UNKNOWN: InOrder = InOrder {
-    base: false,
-    refs: false,
-};
 
 /// Whether UNTIL holds over the cells after a turn and those with which it began, or its fault; where it is unknown, it
 /// does not hold.
@@ -115,7 +109,14 @@ impl Env for Until<'_> {
                 range_value(alloc, self.at, *agg, *measure, places.as_slice(), cells)
             }
             Leaf::RefCell(r, measure, indices) => {
-                reference_cell(alloc, self.at, UNKNOWN, *r, *measure, indices.as_slice())
+                reference_cell(
+                    alloc,
+                    self.at,
+                    UNKNOWN_ORDER,
+                    *r,
+                    *measure,
+                    indices.as_slice(),
+                )
             }
             Leaf::Present(indices) => presence(alloc, self.at, indices.as_slice()),
             Leaf::NotNull(measure, indices) => {
