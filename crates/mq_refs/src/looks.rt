@@ -1,5 +1,5 @@
 //! What a right side looks at.
-ghost use Rattle.std.specs.Prelude.{◌≡◌, ◌++◌, IfOk, OnOk};
+ghost use Rattle.std.specs.Prelude.{◌≡◌, ◌++◌, true, IfOk, OnOk};
 ghost use Rattle.std.specs.List.{filter};
 ghost use Rattle.mq_ir.specs.Looks as spec;
 ghost use Rattle.mq_ir.specs.Looks.{leaf_looks, look_at, looks_at, looks_named};
@@ -8,7 +8,7 @@ ghost use Rattle.mq_ir.specs.Slots.{site_in};
 ghost use Rattle.mq_ir.specs.Targets as targets;
 ghost use Rattle.mq_ir.specs.Unfolding.{model_of};
 ghost use Rattle.mq_refs.specs.LookLists.{presence_at};
-ghost use Rattle.mq_refs.specs.Orders.{IsInOrder};
+ghost use Rattle.mq_refs.specs.Orders.{IsInOrder, KeysAscend};
 ghost use Rattle.mq_refs.specs.Sites.{site_of};
 
 use crate::names::{key_named, meets_every, tests_named};
@@ -143,24 +143,26 @@ fn push_range(
     match tests_named(alloc, at, at.model.part.dims.as_slice(), places) {
         Ok(tests) => {
             let set = at.shape.cells.as_slice();
-            let run = run_for(set, here.order.cells, tests.as_slice());
-            push_cells(measure, tests.as_slice(), run, looks)
+            push_cells(measure, tests.as_slice(), set, here.order.cells, looks)
         }
         Err(Fail::Cause(_)) => Ok(()),
         Err(Fail::Memory) => Err(Memory),
     }
 }
 
-// The measures of the cells that meet every test.
+// The measures of the cells of `set` that meet every test. The set ascends where `ascend` says so.
 fn push_cells(
     measure: u32,
     tests: &[DimTest],
     set: &[Key],
+    ascend: bool,
     looks: &mut Items<Look>,
 ) -> Result<(), Memory>
+    requires { ascend ≡ true → KeysAscend set.now }
     ensures { OnOk result (looks.new ≡ looks.old ++ looks_at measure (filter (targets.meets_every tests.now) set.now)) }
 {
-    for key in set {
+    let run = run_for(set, ascend, tests);
+    for key in run {
         if meets_every(tests, key.as_slice()) {
             let key = key.copy()?;
             looks.push(Look::Measure(CellName { key, measure }))?;

@@ -46,7 +46,8 @@ impl Env for Reading<'_> {
             }
             Leaf::Range(agg, measure, places) => range_value(
                 alloc,
-                self.here,
+                at,
+                order,
                 *agg,
                 *measure,
                 places.as_slice(),
@@ -193,35 +194,38 @@ pub fn flag(holds: bool) -> Value
 // An aggregate of a measure over the cells that meet each place, without NAV.
 fn range_value(
     alloc: Global,
-    here: &OrderedStandpoint<'_>,
+    at: &Standpoint<'_>,
+    order: InOrder,
     agg: Agg,
     measure: u32,
     places: &[Test],
     seen: &mut Seen,
 ) -> Result<Value, Fail<ValueFault>>
-    ensures exact { Gives result (spec.range_value (site_of here.now.at.now) (value_seen seen.old) agg measure places.now) }
+    requires { IsInOrder order at.now.model.now at.now.shape.now }
+    ensures exact { Gives result (spec.range_value (site_of at.now) (value_seen seen.old) agg measure places.now) }
     ensures same { seen.new ≡ seen.old }
 {
-    let at = here.at;
     let tests = tests_named(alloc, at, at.model.part.dims.as_slice(), places)?;
     let set = at.shape.cells.as_slice();
-    let run = run_for(set, here.order.cells, tests.as_slice());
-    aggregate_of(agg, measure, tests.as_slice(), run, seen)
+    aggregate_of(agg, measure, tests.as_slice(), set, order.cells, seen)
 }
 
-// An aggregate of a measure over the cells of `set` that meet every test.
+// An aggregate of a measure over the cells of `set` that meet every test. The set ascends where `ascend` says so.
 fn aggregate_of(
     agg: Agg,
     measure: u32,
     tests: &[DimTest],
     set: &[Key],
+    ascend: bool,
     seen: &mut Seen,
 ) -> Result<Value, Fail<ValueFault>>
+    requires { ascend ≡ true → KeysAscend set.now }
     ensures exact { Gives result (aggregate agg (map (λ key. value_seen seen.old (cell_name key measure)) (filter (targets.meets_every tests.now) set.now))) }
     ensures same { seen.new ≡ seen.old }
 {
+    let run = run_for(set, ascend, tests);
     let mut aggregation = Aggregation::new(agg);
-    for key in set {
+    for key in run {
         if meets_every(tests, key.as_slice()) {
             let v = seen.value(key.as_slice(), measure)?;
             aggregation = aggregation.with(&v)?;

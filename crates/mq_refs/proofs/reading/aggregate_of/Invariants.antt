@@ -11,6 +11,6 @@ abbrev pub invariant-loop-key : goal.invariant-loop-key
 invariant-loop-key l = record {
   same : l.seen ≡ l.fn.seen;
   meant :
-      comes_to l.aggregation (map (λ key. value_seen l.fn.seen (cell_name key l.measure)) (filter (meets_every l.tests) (drop l.key-index l.set)))
+      comes_to l.aggregation (map (λ key. value_seen l.fn.seen (cell_name key l.measure)) (filter (meets_every l.tests) (drop l.key-index l.run)))
       ≡ aggregate l.fn.agg (map (λ key. value_seen l.fn.seen (cell_name key l.measure)) (filter (meets_every l.tests) l.set));
 }
