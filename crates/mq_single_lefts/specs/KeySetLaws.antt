@@ -51,7 +51,8 @@ module _ {A : Type 0} (key_of : A → Tuple) (items : List A) where
   pub gather_start : (set : List Tuple) → set ≡ [] → Gathered key_of items 0 set
   gather_start set e = record { is = λ q. ap (λ s. is_key_in key_of items q || is_among s q) e ∙ or_false (is_key_in key_of items q) }
 
-  pub gather_next : (set after : List Tuple) (i : ℕ) (x : A) (key : Tuple) → i < length items → x ≡ get_or items i x → key ≡ key_of x → after ≡ insert_key cmp_key set key
+  pub gather_next : (set after : List Tuple) (i : ℕ) (x : A) (key : Tuple) → i < length items → x ≡ get_or items i x
+      → key ≡ key_of x → after ≡ insert_key cmp_key set key
       → Gathered key_of items i set → Gathered key_of items (i + 1) after
   gather_next set after i x key h e k a w = record {
     is =
@@ -65,5 +66,6 @@ module _ {A : Type 0} (key_of : A → Tuple) (items : List A) where
   }
 
   -- in the end it has those of all
-  pub gather_end : (set : List Tuple) (i : ℕ) → length items ≤ i → Gathered key_of items i set → (q : Tuple) → is_among set q ≡ is_key_in key_of items q
+  pub gather_end : (set : List Tuple) (i : ℕ) → length items ≤ i → Gathered key_of items i set → (q : Tuple)
+      → is_among set q ≡ is_key_in key_of items q
   gather_end set i h w = λ q. sym (ap (λ l. is_key_in key_of l q || is_among set q) (drop_all i items h)) ∙ w.is q
