@@ -1,1 +1,0 @@
-use Rattle.mq_engine.proofs.results.result_of.Goals as goal
