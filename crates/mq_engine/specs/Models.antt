@@ -1,5 +1,5 @@
 -- Models over the items of their query, and the rows that they leave.
-use Rattle.std.specs.Prelude.{◌≡◌, ℕ, ◌+◌, List, [], length, Result, Ok}
+use Rattle.std.specs.Prelude.{ℕ, ◌+◌, List, [], length, Result, Ok}
 use Rattle.mq_values.specs.declared.faults.QueryFault.{QueryFault}
 use Rattle.mq_ir.specs.declared.query.ModelPart.{ModelPart}
 use Rattle.mq_ir.specs.declared.query.PartInput.{PartInput}
