@@ -1,4 +1,3 @@
-pub mod BuiltForms
 pub mod ChangeWalk
 pub mod ForWalk
 pub mod FromWalk

@@ -4,7 +4,6 @@
 #![tactic(auto)]
 
 mod bases;
-mod built_forms;
 mod changes;
 mod for_lists;
 mod found;
@@ -20,7 +19,6 @@ mod sources;
 mod statements;
 mod tables;
 
-pub use built_forms::built;
 pub use found::{
     Base, LeftFound, LeftItemFound, ListFound, ListItem, Lists, ModelFound, PlainFound,
     ReferenceFound, RulesFound, Sources,

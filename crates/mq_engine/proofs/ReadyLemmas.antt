@@ -17,7 +17,7 @@ use Rattle.mq_ir.specs.Partitions.{ascending, cut, first_of, input_of, partition
 use Rattle.mq_ir.specs.RowLaws.{times}
 use Rattle.mq_sort.specs.Rising.{Low, Rising}
 use Rattle.mq_sort.specs.SortLaws.{mapped_ascending, rising_ascending, tied_ascending}
-use Rattle.mq_seq.specs.Conditions.{IsReady, LeftsHavePlaces}
+use Rattle.mq_single_lefts.specs.Conditions.{IsReady, LeftsHavePlaces}
 use Rattle.mq_engine.specs.Models.{MayRun, width_of}
 
 -- ---- lists of which each item has a property

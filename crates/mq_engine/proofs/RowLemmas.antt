@@ -1,5 +1,5 @@
 -- The rows of a model, once its references, its FOR subqueries and its partitions are there.
-use Rattle.std.proofs.Common.{◌≡◌, ℕ, List, [], Result, Ok, sym, ap, subst, ◌∙◌}
+use Rattle.std.proofs.Common.{◌≡◌, List, [], Result, Ok, sym, ap, subst, ◌∙◌}
 use Rattle.std.specs.List.{enumerate_from}
 use Rattle.mq_values.specs.Answers.{Gives}
 use Rattle.mq_values.specs.declared.faults.QueryFault.{QueryFault}

@@ -1,5 +1,5 @@
 -- Queries, and what is asked of one before it runs.
-use Rattle.std.specs.Prelude.{◌≡◌, List, false, length, IfSome, Result}
+use Rattle.std.specs.Prelude.{◌≡◌, List, length, IfSome, Result}
 use Rattle.mq_values.specs.Answers.{result_map}
 use Rattle.mq_values.specs.declared.faults.QueryFault.{QueryFault}
 use Rattle.mq_ir.specs.declared.query.BoundQuery.{BoundQuery}
@@ -8,13 +8,12 @@ use Rattle.mq_ir.specs.Answer.{query_rows}
 use Rattle.mq_ir.specs.Partitions.{Tuple}
 use Rattle.mq_ir.specs.Printing.{printed_rows}
 use Rattle.mq_ir.specs.Tables.{Tables}
-use Rattle.mq_seq.specs.Conditions.{LeftsHavePlaces}
+use Rattle.mq_single_lefts.specs.Conditions.{LeftsHavePlaces}
 use Rattle.mq_engine.specs.Models.{width_of}
 
--- a model with an item for each of its columns, whose left sides have a place for each dimension and whose rules act one after another
+-- a model with an item for each of its columns, whose left sides have a place for each dimension
 pub record HasModel (q : BoundQuery) (part : ModelPart) : Type 0 where
   pub lefts : LeftsHavePlaces part
-  pub in_turn : part.auto ≡ false
   pub wide : length q.items.items ≡ width_of part
 
 -- a query may run where its model does

@@ -1,5 +1,5 @@
 //! The rows of a query with MODEL: its partitions one after another, ascending.
-ghost use Rattle.std.specs.Prelude.{◌≡◌, [], false};
+ghost use Rattle.std.specs.Prelude.{◌≡◌, []};
 ghost use Rattle.std.specs.List.{All};
 ghost use Rattle.mq_values.specs.Answers.{Gives, result_map};
 ghost use Rattle.mq_ir.specs.Answer as spec;
@@ -7,7 +7,7 @@ ghost use Rattle.mq_ir.specs.Placed.{at_partition};
 ghost use Rattle.mq_ir.specs.References.{reference_over};
 ghost use Rattle.mq_ir.specs.Results.{each, each_in_turn, marked};
 ghost use Rattle.mq_ir.specs.Unfolding.{model_of};
-ghost use Rattle.mq_seq.specs.Conditions.{IsReady};
+ghost use Rattle.mq_single_lefts.specs.Conditions.{IsReady};
 ghost use Rattle.mq_sources.specs.References.{cells_of_arrays};
 ghost use Rattle.mq_engine.specs.Models.{MayRun, gathered_rows};
 
@@ -61,8 +61,7 @@ fn all_partitions(
     m: &Lent<'_>,
     inputs: &Items<PartInput>,
 ) -> Result<Vec<ModelRow>, Fail<QueryFault>>
-    requires ready { All (IsReady m.now.part.now) inputs.now }
-    requires order { m.now.part.now.auto ≡ false }
+    requires { All (IsReady m.now.part.now) inputs.now }
     ensures { Gives (result_map (λ rows. rows.items) result) (gathered_rows (model_of m.now) inputs.now) }
 {
     let gathered = gathered_of(alloc, m, inputs.as_slice())?;
@@ -75,8 +74,7 @@ fn gathered_of(
     m: &Lent<'_>,
     inputs: &[PartInput],
 ) -> Result<Gathered, Fail<QueryFault>>
-    requires ready { All (IsReady m.now.part.now) inputs.now }
-    requires order { m.now.part.now.auto ≡ false }
+    requires { All (IsReady m.now.part.now) inputs.now }
     ensures { Gives result (each_in_turn (spec.partition_step (model_of m.now)) inputs.now (0, [])) }
 {
     let mut gathered = Gathered::new(alloc);
@@ -123,8 +121,7 @@ fn with_partition(
     p: &PartInput,
     gathered: Gathered,
 ) -> Result<Gathered, Fail<QueryFault>>
-    requires ready { IsReady m.now.part.now p.now }
-    requires order { m.now.part.now.auto ≡ false }
+    requires { IsReady m.now.part.now p.now }
     ensures { Gives result (spec.partition_step (model_of m.now) p.now gathered) }
 {
     match result_of(alloc, m, p)? {

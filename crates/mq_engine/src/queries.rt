@@ -4,7 +4,7 @@ ghost use Rattle.std.specs.List.{range_with_len};
 ghost use Rattle.mq_values.specs.Answers.{Gives, result_map};
 ghost use Rattle.mq_ir.specs.Answer as spec;
 ghost use Rattle.mq_ir.specs.Printing as printing;
-ghost use Rattle.mq_seq.specs.Conditions.{HaveLength};
+ghost use Rattle.mq_single_lefts.specs.Conditions.{HaveLength};
 ghost use Rattle.mq_engine.specs.Models.{MayRun};
 ghost use Rattle.mq_engine.specs.Queries.{IsReady, rows_shown};
 

@@ -1,4 +1,4 @@
--- A model that is bound runs in turn where its tree says so.
+-- A model that is bound is ready.
 use Rattle.std.proofs.Common.{◌≡◌, ℕ, ◌+◌, List, ◌++◌, length, false, Option, Ok, sym, ap, ◌∙◌, subst}
 use Rattle.std.specs.Prelude.{is_some}
 use Rattle.std.specs.List.{All}
@@ -13,7 +13,7 @@ use Rattle.mq_ir.specs.declared.query.ModelPart.{ModelPart}
 use Rattle.mq_ir.specs.declared.query.PlainPart.{PlainPart}
 use Rattle.mq_ir.specs.declared.query.Rule.{Rule}
 use Rattle.mq_ir.specs.Results.{◌>>=◌}
-use Rattle.mq_seq.specs.Conditions.{LeftHasPlaces}
+use Rattle.mq_single_lefts.specs.Conditions.{LeftHasPlaces}
 use Rattle.mq_bind_scopes.specs.declared.misuse_numbers.TheConstants.{MISUSE_OF_OPTIONS}
 use Rattle.mq_bind_scopes.specs.declared.scopes.Part.TheVariants as part
 use Rattle.mq_bind_scopes.specs.declared.scopes.Scope.{Scope}
@@ -30,7 +30,7 @@ use Rattle.mq_binder.specs.ListWalk.{list_columns, list_exprs, list_kinds}
 use Rattle.mq_binder.specs.ModelWalk.{all_items, iterate_of, lists_and_rules, lists_bound, model_over, model_part, rule_scope, rules_over}
 use Rattle.mq_binder.specs.ReferenceWalk.{references_bound}
 use Rattle.mq_binder.specs.RuleWalk.{rules_bound}
-use Rattle.mq_ready_laws.specs.ReadyLaws.{RunsInTurn}
+use Rattle.mq_ready_laws.specs.ReadyLaws.{ModelIsReady}
 use Rattle.mq_ready_laws.proofs.RuleLemmas.{rules_have_places}
 use Rattle.mq_ready_laws.proofs.StepLemmas.{ok_is, passed, went}
 
@@ -50,42 +50,41 @@ counted lists =
     ∙ (λ i. length lists.parts + sym (kinds_long lists.dims) i + sym (kinds_long lists.measures) i)
 
 -- ---- the rules
-abbrev InTurn : Lists → ModelPart → Type 0
-InTurn lists x = RunsInTurn (length (list_exprs (all_items lists))) x
+abbrev IsReadyOver : Lists → ModelPart → Type 0
+IsReadyOver lists x = ModelIsReady (length (list_exprs (all_items lists))) x
 
-rules_in_turn : (catalog : Catalog) (m : ModelTree) → m.auto ≡ false → (refs : List ReferenceFound) (lists : Lists) (turns : Option ℕ) (x : ModelPart)
-    → rules_over catalog m refs lists turns (rule_scope refs lists (is_some turns)) ≡ Ok x → InTurn lists x
-rules_in_turn catalog m manual refs lists turns x h =
+rules_ready : (catalog : Catalog) (m : ModelTree) (refs : List ReferenceFound) (lists : Lists) (turns : Option ℕ) (x : ModelPart)
+    → rules_over catalog m refs lists turns (rule_scope refs lists (is_some turns)) ≡ Ok x → IsReadyOver lists x
+rules_ready catalog m refs lists turns x h =
     let scope = rule_scope refs lists (is_some turns) in
     let made : List Rule × List PlainPart → Option Expr → ModelPart = λ found until. model_part m refs lists (iterate_of turns until) found in
     let w = went (rules_bound catalog scope (unwrap_or m.mode mode.Upsert) m.auto m.rules)
     (λ found. bound_filter scope (standing part.Until) m.until >>= (λ until. Ok (made found until))) x h in
     let v = went (bound_filter scope (standing part.Until) m.until) (λ until. Ok (made w.value until)) x w.after in
     let places = rules_have_places catalog scope (unwrap_or m.mode mode.Upsert) m.auto m.rules w.value w.first in
-    subst (InTurn lists) (ok_is (made w.value v.value) x v.after) (record {
+    subst (IsReadyOver lists) (ok_is (made w.value v.value) x v.after) (record {
       lefts = subst (λ n. All (λ (rule : Rule). LeftHasPlaces n rule.left) w.value.0) (columns_kinds lists.dims) places;
-      in_turn = manual;
       wide = counted lists;
     })
 
 -- ---- the model
-abbrev FoundInTurn : ModelFound → Type 0
-FoundInTurn found = RunsInTurn (length found.items) found.part
+abbrev FoundIsReady : ModelFound → Type 0
+FoundIsReady found = ModelIsReady (length found.items) found.part
 
-lists_in_turn : (catalog : Catalog) (group : Option (List ColRef)) (scope : Scope) (m : ModelTree) → m.auto ≡ false → (refs : List ReferenceFound) (found : ModelFound)
-    → lists_and_rules catalog group scope m refs ≡ Ok found → FoundInTurn found
-lists_in_turn catalog group scope m manual refs found h =
+lists_ready : (catalog : Catalog) (group : Option (List ColRef)) (scope : Scope) (m : ModelTree) (refs : List ReferenceFound) (found : ModelFound)
+    → lists_and_rules catalog group scope m refs ≡ Ok found → FoundIsReady found
+lists_ready catalog group scope m refs found h =
     let made : Lists → ModelPart → ModelFound = λ lists x. record { part = x; items = list_exprs (all_items lists); columns = list_columns (all_items lists); group = group } in
     let w = went (lists_bound scope m)
     (λ lists. head_bound m >>= (λ turns. rules_over catalog m refs lists turns (rule_scope refs lists (is_some turns)) >>= (λ x. Ok (made lists x)))) found h in
     let v = went (head_bound m) (λ turns. rules_over catalog m refs w.value turns (rule_scope refs w.value (is_some turns)) >>= (λ x. Ok (made w.value x))) found w.after in
     let u = went (rules_over catalog m refs w.value v.value (rule_scope refs w.value (is_some v.value))) (λ x. Ok (made w.value x)) found v.after in
-    subst FoundInTurn {x = made w.value u.value} (ok_is (made w.value u.value) found u.after) (rules_in_turn catalog m manual refs w.value v.value u.value u.first)
+    subst FoundIsReady {x = made w.value u.value} (ok_is (made w.value u.value) found u.after) (rules_ready catalog m refs w.value v.value u.value u.first)
 
-pub model_in_turn : (catalog : Catalog) (scope : Scope) (m : ModelTree) → m.auto ≡ false → (found : ModelFound) → model_over catalog scope m ≡ Ok found
-    → RunsInTurn (length found.items) found.part
-model_in_turn catalog scope m manual found h =
+pub model_ready : (catalog : Catalog) (scope : Scope) (m : ModelTree) (found : ModelFound) → model_over catalog scope m ≡ Ok found
+    → ModelIsReady (length found.items) found.part
+model_ready catalog scope m found h =
     let rest = references_bound catalog (ignores_nav m.opts false) m.refs >>= (λ refs. lists_and_rules catalog scope.group scope m refs) in
     let p = passed (options_clash m.opts) (misuse MISUSE_OF_OPTIONS) rest found h in
     let w = went (references_bound catalog (ignores_nav m.opts false) m.refs) (λ refs. lists_and_rules catalog scope.group scope m refs) found p.after in
-    lists_in_turn catalog scope.group scope m manual w.value found w.after
+    lists_ready catalog scope.group scope m w.value found w.after

@@ -1,7 +1,6 @@
--- A query that is bound is ready where its tree has no model in automatic order.
-use Rattle.std.proofs.Common.{◌≡◌, ℕ, List, length, Bool, true, not, Option, Some, None, Ok, subst}
+-- A query that is bound is ready.
+use Rattle.std.proofs.Common.{◌≡◌, ℕ, List, length, Bool, Option, Some, None, Ok, subst}
 use Rattle.std.specs.List.{range_with_len}
-use Rattle.std.specs.Option.{option_map_or}
 use Rattle.mq_ast.specs.declared.queries.ModelTree.{ModelTree}
 use Rattle.mq_ast.specs.declared.queries.Query.{Query}
 use Rattle.mq_ir.specs.declared.catalog.Catalog.{Catalog}
@@ -15,9 +14,9 @@ use Rattle.mq_binder.specs.FromWalk.{base_of, grouped_by}
 use Rattle.mq_binder.specs.ModelWalk.{model_group, model_over}
 use Rattle.mq_binder.specs.PlainWalk.{plain_bound}
 use Rattle.mq_binder.specs.QueryWalk.{few_shown, model_key, model_query, model_rows, plain_query, printed_key, query_bound, query_with, shown_scope}
-use Rattle.mq_ready_laws.specs.ReadyLaws.{QueryIsReady, RunsInTurn}
-use Rattle.mq_ready_laws.proofs.ModelLemmas.{model_in_turn}
-use Rattle.mq_ready_laws.proofs.StepLemmas.{ok_is, was, went}
+use Rattle.mq_ready_laws.specs.ReadyLaws.{ModelIsReady, QueryIsReady}
+use Rattle.mq_ready_laws.proofs.ModelLemmas.{model_ready}
+use Rattle.mq_ready_laws.proofs.StepLemmas.{ok_is, went}
 
 -- without MODEL
 plain_is_ready : (q : Query) (found : PlainFound) (b : BoundQuery) → plain_query q found ≡ Ok b → QueryIsReady b
@@ -28,7 +27,7 @@ plain_is_ready q found b h =
     subst QueryIsReady (ok_is (made w.value) b w.after) tt
 
 -- with MODEL
-model_is_ready : (q : Query) (from : FromPart) (scope : Scope) (found : ModelFound) → RunsInTurn (length found.items) found.part → (b : BoundQuery) → model_query q from scope found ≡ Ok b
+model_is_ready : (q : Query) (from : FromPart) (scope : Scope) (found : ModelFound) → ModelIsReady (length found.items) found.part → (b : BoundQuery) → model_query q from scope found ≡ Ok b
     → QueryIsReady b
 model_is_ready q from scope found ready b h =
     let shown = shown_scope scope found in
@@ -38,16 +37,15 @@ model_is_ready q from scope found ready b h =
     let v = went (each (model_key found.columns) q.order) (λ order. Ok (made w.value order)) b w.after in
     subst QueryIsReady {x = made w.value v.value} (ok_is (made w.value v.value) b v.after) ready
 
-by_model : (catalog : Catalog) (q : Query) (model : Option ModelTree) → option_map_or (λ (m : ModelTree). not m.auto) model true ≡ true → (b : BoundQuery)
-    → query_with catalog q model ≡ Ok b → QueryIsReady b
-by_model catalog q None manual b h =
+by_model : (catalog : Catalog) (q : Query) (model : Option ModelTree) (b : BoundQuery) → query_with catalog q model ≡ Ok b → QueryIsReady b
+by_model catalog q None b h =
     let w = went (plain_bound catalog q.plain) (plain_query q) b h in
     plain_is_ready q w.value b w.after
-by_model catalog q (Some m) manual b h =
+by_model catalog q (Some m) b h =
     let w = went (base_of catalog q.plain) (λ base. model_rows catalog q m base.from (grouped_by (model_group m base) base.scope)) b h in
     let scope = grouped_by (model_group m w.value) w.value.scope in
     let v = went (model_over catalog scope m) (model_query q w.value.from scope) b w.after in
-    model_is_ready q w.value.from scope v.value (model_in_turn catalog scope m (was m.auto manual) v.value v.first) b v.after
+    model_is_ready q w.value.from scope v.value (model_ready catalog scope m v.value v.first) b v.after
 
-pub query_ready : (catalog : Catalog) (q : Query) → option_map_or (λ (m : ModelTree). not m.auto) q.model true ≡ true → (b : BoundQuery) → query_bound catalog q ≡ Ok b → QueryIsReady b
+pub query_ready : (catalog : Catalog) (q : Query) (b : BoundQuery) → query_bound catalog q ≡ Ok b → QueryIsReady b
 query_ready catalog q = by_model catalog q q.model

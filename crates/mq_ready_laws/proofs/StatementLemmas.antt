@@ -25,23 +25,23 @@ use Rattle.mq_bind_expr.specs.ExpressionWalk.{bound_filter}
 use Rattle.mq_bind_scopes.specs.Names.{Name}
 use Rattle.mq_bind_scopes.specs.Positions.{standing}
 use Rattle.mq_bind_scopes.specs.Refusals.{duplicate_name, limit, refused_where, unknown_name}
-use Rattle.mq_binder.specs.BuiltForms.{built}
 use Rattle.mq_binder.specs.ChangeWalk.{change_scope, rows_bound, sets_bound}
 use Rattle.mq_binder.specs.FromWalk.{table_called}
 use Rattle.mq_binder.specs.QueryWalk.{query_bound}
 use Rattle.mq_binder.specs.StatementWalk.{delete_bound, insert_bound, statement_bound, update_bound, update_over, view_bound}
 use Rattle.mq_binder.specs.TableWalk.{columns_named, columns_of, schema_with, table_bound}
+use Rattle.mq_ready_laws.specs.BuiltForms.{built}
 use Rattle.mq_ready_laws.specs.ReadyLaws.{BoundQueryIsReady, BoundViewIsReady, CreatedTableIsNew, LoadIsNotBuilt, QueryIsReady}
 use Rattle.mq_ready_laws.proofs.QueryLemmas.{query_ready}
 use Rattle.mq_ready_laws.proofs.StepLemmas.{ok_is, passed, went}
 
--- what is known of a bound statement, by whether its tree is run
-abbrev Stands : Catalog → Bool → Bound → Type 0
-Stands catalog is_run (bound.CreateTable def) = is_taken catalog def.name ≡ false
-Stands catalog is_run (bound.CreateView name q) = is_run ≡ true → QueryIsReady q
-Stands catalog is_run (bound.Query q) = is_run ≡ true → QueryIsReady q
-Stands catalog is_run (bound.Load table file) = is_run ≡ false
-Stands catalog is_run _ = Unit {0}
+-- what is known of what a statement is bound to
+abbrev Stands : Catalog → Stmt → Bound → Type 0
+Stands catalog s (bound.CreateTable def) = is_taken catalog def.name ≡ false
+Stands catalog s (bound.CreateView name q) = QueryIsReady q
+Stands catalog s (bound.Query q) = QueryIsReady q
+Stands catalog s (bound.Load table file) = built s ≡ false
+Stands catalog s _ = Unit {0}
 
 -- ---- CREATE TABLE
 table_is_named : (catalog : Catalog) (name : Name) (cols : List ColDef) (key : List Name) (def : TableDef) → table_bound catalog name cols key ≡ Ok def → is_taken catalog def.name ≡ false
@@ -59,74 +59,72 @@ table_is_named catalog name cols key def h =
     subst (λ (d : TableDef). is_taken catalog d.name ≡ false) {x = whole} (ok_is whole def k.after) new.holds_not
 
 -- ---- CREATE VIEW
-view_stands : (catalog : Catalog) (name : Name) (q : Query) (is_run : Bool) → ((b : BoundQuery) → query_bound catalog q ≡ Ok b → is_run ≡ true → QueryIsReady b) → (b : Bound)
-    → view_bound catalog name q ≡ Ok b → Stands catalog is_run b
-view_stands catalog name q is_run ready b h =
+view_stands : (catalog : Catalog) (s : Stmt) (name : Name) (q : Query) (b : Bound) → view_bound catalog name q ≡ Ok b → Stands catalog s b
+view_stands catalog s name q b h =
     let rest : Result Bound Refused = query_bound catalog q >>= (λ b. Ok (bound.CreateView name b)) in
     let p = passed (is_taken catalog name) (duplicate_name name) (refused_where (nat_le MAX_VIEWS (length catalog.views)) (limit LIMIT_OF_VIEWS) rest) b h in
     let r = passed (nat_le MAX_VIEWS (length catalog.views)) (limit LIMIT_OF_VIEWS) rest b p.after in
     let w = went (query_bound catalog q) (λ b. Ok (bound.CreateView name b)) b r.after in
-    subst (Stands catalog is_run) (ok_is (bound.CreateView name w.value) b w.after) (ready w.value w.first)
+    subst (Stands catalog s) (ok_is (bound.CreateView name w.value) b w.after) (query_ready catalog q w.value w.first)
 
 -- ---- names of tables and views
-named_stands : (catalog : Catalog) (is_run test : Bool) (name : Name) (made b : Bound) → refused_where test (unknown_name name) (Ok made) ≡ Ok b → Stands catalog is_run made → Stands catalog is_run b
-named_stands catalog is_run test name made b h stands =
+named_stands : (catalog : Catalog) (s : Stmt) (test : Bool) (name : Name) (made b : Bound) → refused_where test (unknown_name name) (Ok made) ≡ Ok b → Stands catalog s made → Stands catalog s b
+named_stands catalog s test name made b h stands =
     let p = passed test (unknown_name name) (Ok made) b h in
-    subst (Stands catalog is_run) (ok_is made b p.after) stands
+    subst (Stands catalog s) (ok_is made b p.after) stands
 
 -- ---- changes
-insert_stands : (catalog : Catalog) (is_run : Bool) (name : Name) (cols : Option (List Name)) (rows : List (List E)) (b : Bound) → insert_bound catalog name cols rows ≡ Ok b → Stands catalog is_run b
-insert_stands catalog is_run name cols rows b h =
+insert_stands : (catalog : Catalog) (s : Stmt) (name : Name) (cols : Option (List Name)) (rows : List (List E)) (b : Bound) → insert_bound catalog name cols rows ≡ Ok b → Stands catalog s b
+insert_stands catalog s name cols rows b h =
     let w = went (table_called catalog name) (λ schema. rows_bound schema cols rows >>= (λ es. Ok (bound.Change (change.Insert name es)))) b h in
     let v = went (rows_bound w.value cols rows) (λ es. Ok (bound.Change (change.Insert name es))) b w.after in
-    subst (Stands catalog is_run) (ok_is (bound.Change (change.Insert name v.value)) b v.after) tt
+    subst (Stands catalog s) (ok_is (bound.Change (change.Insert name v.value)) b v.after) tt
 
-update_stands : (catalog : Catalog) (is_run : Bool) (name : Name) (sets : List (Name × E)) (filter : Option E) (b : Bound) → update_bound catalog name sets filter ≡ Ok b → Stands catalog is_run b
-update_stands catalog is_run name sets filter b h =
+update_stands : (catalog : Catalog) (s : Stmt) (name : Name) (sets : List (Name × E)) (filter : Option E) (b : Bound) → update_bound catalog name sets filter ≡ Ok b → Stands catalog s b
+update_stands catalog s name sets filter b h =
     let w = went (table_called catalog name) (λ schema. update_over name schema sets filter (change_scope name schema)) b h in
     let scope = change_scope name w.value in
     let last : List (ℕ × Expr) → Option Expr → Bound = λ es condition. bound.Change (change.Update name es condition) in
     let v = went (sets_bound w.value scope sets) (λ es. bound_filter scope (standing part.Row) filter >>= (λ condition. Ok (last es condition))) b w.after in
     let u = went (bound_filter scope (standing part.Row) filter) (λ condition. Ok (last v.value condition)) b v.after in
-    subst (Stands catalog is_run) (ok_is (last v.value u.value) b u.after) tt
+    subst (Stands catalog s) (ok_is (last v.value u.value) b u.after) tt
 
-delete_stands : (catalog : Catalog) (is_run : Bool) (name : Name) (filter : Option E) (b : Bound) → delete_bound catalog name filter ≡ Ok b → Stands catalog is_run b
-delete_stands catalog is_run name filter b h =
+delete_stands : (catalog : Catalog) (s : Stmt) (name : Name) (filter : Option E) (b : Bound) → delete_bound catalog name filter ≡ Ok b → Stands catalog s b
+delete_stands catalog s name filter b h =
     let last : Option Expr → Bound = λ condition. bound.Change (change.Delete name condition) in
     let w = went (table_called catalog name) (λ schema. bound_filter (change_scope name schema) (standing part.Row) filter >>= (λ condition. Ok (last condition))) b h in
     let v = went (bound_filter (change_scope name w.value) (standing part.Row) filter) (λ condition. Ok (last condition)) b w.after in
-    subst (Stands catalog is_run) (ok_is (last v.value) b v.after) tt
+    subst (Stands catalog s) (ok_is (last v.value) b v.after) tt
 
 -- ---- all statements
-statement_stands : (catalog : Catalog) (s : Stmt) (b : Bound) → statement_bound catalog s ≡ Ok b → Stands catalog (built s) b
+statement_stands : (catalog : Catalog) (s : Stmt) (b : Bound) → statement_bound catalog s ≡ Ok b → Stands catalog s b
 statement_stands catalog (stmt.CreateTable name cols key) b h =
     let w = went (table_bound catalog (folded name) cols key) (λ def. Ok (bound.CreateTable def)) b h in
-    subst (Stands catalog (built (stmt.CreateTable name cols key))) (ok_is (bound.CreateTable w.value) b w.after) (table_is_named catalog (folded name) cols key w.value w.first)
+    subst (Stands catalog (stmt.CreateTable name cols key)) (ok_is (bound.CreateTable w.value) b w.after) (table_is_named catalog (folded name) cols key w.value w.first)
 statement_stands catalog (stmt.DropTable name) b h =
-    named_stands catalog (built (stmt.DropTable name)) (not (is_table catalog (folded name))) (folded name) (bound.DropTable (folded name)) b h tt
-statement_stands catalog (stmt.CreateView name q) b h =
-    view_stands catalog (folded name) q (built (stmt.CreateView name q)) (λ b k manual. query_ready catalog q manual b k) b h
+    named_stands catalog (stmt.DropTable name) (not (is_table catalog (folded name))) (folded name) (bound.DropTable (folded name)) b h tt
+statement_stands catalog (stmt.CreateView name q) b h = view_stands catalog (stmt.CreateView name q) (folded name) q b h
 statement_stands catalog (stmt.DropView name) b h =
-    named_stands catalog (built (stmt.DropView name)) (not (is_view catalog (folded name))) (folded name) (bound.DropView (folded name)) b h tt
-statement_stands catalog (stmt.Insert name cols rows) b h = insert_stands catalog (built (stmt.Insert name cols rows)) (folded name) cols rows b h
-statement_stands catalog (stmt.Update name sets filter) b h = update_stands catalog (built (stmt.Update name sets filter)) (folded name) sets filter b h
-statement_stands catalog (stmt.Delete name filter) b h = delete_stands catalog (built (stmt.Delete name filter)) (folded name) filter b h
+    named_stands catalog (stmt.DropView name) (not (is_view catalog (folded name))) (folded name) (bound.DropView (folded name)) b h tt
+statement_stands catalog (stmt.Insert name cols rows) b h = insert_stands catalog (stmt.Insert name cols rows) (folded name) cols rows b h
+statement_stands catalog (stmt.Update name sets filter) b h = update_stands catalog (stmt.Update name sets filter) (folded name) sets filter b h
+statement_stands catalog (stmt.Delete name filter) b h = delete_stands catalog (stmt.Delete name filter) (folded name) filter b h
 statement_stands catalog (stmt.Load name file) b h =
-    named_stands catalog (built (stmt.Load name file)) (not (is_table catalog (folded name))) (folded name) (bound.Load (folded name) file) b h refl
-statement_stands catalog (stmt.Show name) b h = subst (Stands catalog (built (stmt.Show name))) (ok_is (bound.Show (folded name)) b h) tt
+    named_stands catalog (stmt.Load name file) (not (is_table catalog (folded name))) (folded name) (bound.Load (folded name) file) b h refl
+statement_stands catalog (stmt.Show name) b h = subst (Stands catalog (stmt.Show name)) (ok_is (bound.Show (folded name)) b h) tt
 statement_stands catalog (stmt.Query q) b h =
     let w = went (query_bound catalog q) (λ b. Ok (bound.Query b)) b h in
-    subst (Stands catalog (built (stmt.Query q))) (ok_is (bound.Query w.value) b w.after) (λ manual. query_ready catalog q manual w.value w.first)
+    subst (Stands catalog (stmt.Query q)) (ok_is (bound.Query w.value) b w.after) (query_ready catalog q w.value w.first)
 
 -- ---- the laws
 pub table_is_new : (catalog : Catalog) (s : Stmt) (def : TableDef) → CreatedTableIsNew catalog s def
 table_is_new catalog s def = statement_stands catalog s (bound.CreateTable def)
 
 pub query_is_ready : (catalog : Catalog) (s : Stmt) (q : BoundQuery) → BoundQueryIsReady catalog s q
-query_is_ready catalog s q is_run h = statement_stands catalog s (bound.Query q) h is_run
+query_is_ready catalog s q = statement_stands catalog s (bound.Query q)
 
 pub view_is_ready : (catalog : Catalog) (s : Stmt) (name : Name) (q : BoundQuery) → BoundViewIsReady catalog s name q
-view_is_ready catalog s name q is_run h = statement_stands catalog s (bound.CreateView name q) h is_run
+view_is_ready catalog s name q = statement_stands catalog s (bound.CreateView name q)
 
 pub load_is_not_built : (catalog : Catalog) (s : Stmt) (table file : Name) → LoadIsNotBuilt catalog s table file
-load_is_not_built catalog s table file is_run h = let n = statement_stands catalog s (bound.Load table file) h in let c : true ≡ false = sym is_run ∙ n in absurd cc
+load_is_not_built catalog s table file is_built h = let n = statement_stands catalog s (bound.Load table file) h in let c : true ≡ false = sym is_built ∙ n in absurd cc

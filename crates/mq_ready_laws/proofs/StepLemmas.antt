@@ -32,10 +32,6 @@ pub was_not : (b : Bool) → not b ≡ false → b ≡ true
 was_not true h = refl
 was_not false h = absurd cc
 
-pub was : (b : Bool) → not b ≡ true → b ≡ false
-was true h = absurd cc
-was false h = refl
-
 pub same_of : (n m : ℕ) → (n == m) ≡ true → n ≡ m
 same_of n m h = grind (arith, nat_tests)
 

@@ -1,1 +1,2 @@
+pub mod BuiltForms
 pub mod ReadyLaws

@@ -10,8 +10,8 @@ pub fn created_tables_are_new()
     ensures { (catalog : Catalog) (s : Stmt) (def : TableDef) → CreatedTableIsNew catalog s def }
 {}
 
-/// The model of a query that is run has a place for each dimension on each left side, its rules are not in automatic
-/// order, and the query's items are the columns of its partitions, its dimensions and its measures.
+/// The model of a query has a place for each dimension on each left side, and the query's items are the columns of its
+/// partitions, its dimensions and its measures.
 pub fn queries_are_ready()
     ensures { (catalog : Catalog) (s : Stmt) (q : BoundQuery) → BoundQueryIsReady catalog s q }
 {}
@@ -21,7 +21,7 @@ pub fn views_are_ready()
     ensures { (catalog : Catalog) (s : Stmt) (name : Name) (q : BoundQuery) → BoundViewIsReady catalog s name q }
 {}
 
-/// A statement that is run is bound to no LOAD.
+/// A statement that the program does is bound to no LOAD.
 pub fn loads_are_not_built()
     ensures { (catalog : Catalog) (s : Stmt) (table file : Name) → LoadIsNotBuilt catalog s table file }
 {}

@@ -11,7 +11,7 @@ use Rattle.mq_ir.specs.Statement.{State}
 use Rattle.mq_ir.specs.Tables.{Tables, is_name, table_at}
 use Rattle.mq_engine.specs.Catalogs.{catalog_of, entry_of_table}
 use Rattle.mq_engine.specs.Queries.{HasModel, IsReady}
-use Rattle.mq_ready_laws.specs.ReadyLaws.{QueryIsReady, RunsInTurn}
+use Rattle.mq_ready_laws.specs.ReadyLaws.{ModelIsReady, QueryIsReady}
 
 neither : (a b : Bool) → (a || b) ≡ false → a ≡ false
 neither true b h = absurd cc
@@ -37,6 +37,6 @@ not_there state name h = none_named state.tables name (neither (is_table (catalo
 pub ready : (q : BoundQuery) → QueryIsReady q → IsReady q
 ready q h = by q.model h
   where
-    by : (m : Option ModelPart) → IfSome m (RunsInTurn (length q.items.items)) → IfSome m (HasModel q)
+    by : (m : Option ModelPart) → IfSome m (ModelIsReady (length q.items.items)) → IfSome m (HasModel q)
     by None h = tt
-    by (Some part) h = record { lefts = h.lefts; in_turn = h.in_turn; wide = h.wide }
+    by (Some part) h = record { lefts = h.lefts; wide = h.wide }

@@ -11,7 +11,7 @@ use Rattle.mq_ast.specs.Laws.OneStatementLemmas.{stmt_same}
 use Rattle.mq_ast.specs.Prelude.{Tok, tok_of, toks}
 use Rattle.mq_parse_words.specs.Reading.{from}
 use Rattle.mq_parse_stmt.specs.Parsing.{Parses}
-use Rattle.mq_binder.specs.BuiltForms.{built}
+use Rattle.mq_ready_laws.specs.BuiltForms.{built}
 use Rattle.mq_tool.specs.Script.{Deep, NoTree, seen}
 use Rattle.mq_tool.specs.Steps.{Finds}
 

@@ -23,11 +23,11 @@ use Rattle.mq_ir.specs.Lines.{Line, RefusalLine, is_flaw, line_text, text_of}
 use Rattle.mq_ir.specs.Results.{◌>>=◌}
 use Rattle.mq_ir.specs.Statement.{Files, Printed, State, View, answer_lines, show_step, taken}
 use Rattle.mq_ir.specs.Tables.{is_name}
-use Rattle.mq_binder.specs.BuiltForms.{built}
 use Rattle.mq_binder.specs.StatementWalk.{statement_bound}
 use Rattle.mq_engine.specs.declared.views.NoView.{NoView}
 use Rattle.mq_engine.specs.Catalogs.{catalog_of}
 use Rattle.mq_engine.specs.Sessions.{view_answer}
+use Rattle.mq_ready_laws.specs.BuiltForms.{built}
 use Rattle.mq_ready_laws.specs.ReadyLaws.{BoundQueryIsReady, BoundViewIsReady, CreatedTableIsNew, LoadIsNotBuilt}
 use Rattle.mq_tool.specs.Script.{IsReadAs, Read, Tree, meaning, or_refusal, statement_step}
 use Rattle.mq_tool.specs.Steps.{CanRun, CutShort, Does, Finds, Steps, Takes, Tries, Writes}
@@ -43,12 +43,12 @@ pub can_run : (state : State) (s : Stmt) (b : Bound) → built s ≡ true → st
     → CanRun state b
 can_run state s (bound.CreateTable def) is e tables queries views loads = not_there state def.name (tables def e)
 can_run state s (bound.DropTable name) is e tables queries views loads = tt
-can_run state s (bound.CreateView name q) is e tables queries views loads = ready q (views name q is e)
+can_run state s (bound.CreateView name q) is e tables queries views loads = ready q (views name q e)
 can_run state s (bound.DropView name) is e tables queries views loads = tt
 can_run state s (bound.Change change) is e tables queries views loads = tt
 can_run state s (bound.Load table file) is e tables queries views loads = loads table file is e
 can_run state s (bound.Show name) is e tables queries views loads = tt
-can_run state s (bound.Query q) is e tables queries views loads = ready q (queries q is e)
+can_run state s (bound.Query q) is e tables queries views loads = ready q (queries q e)
 
 -- the answer of a view that is there or not, and what SHOW prints of it
 abbrev answered : State → Option View → List ℕ → Result Answer NoView

@@ -13,10 +13,10 @@ use Rattle.mq_parse_stmt.specs.Depth.{TooDeep}
 use Rattle.mq_ir.specs.Lines.{Line, RefusalLine, is_flaw}
 use Rattle.mq_ir.specs.Results.{◌>>=◌}
 use Rattle.mq_ir.specs.Statement.{Files, Printed, State, taken}
-use Rattle.mq_binder.specs.BuiltForms.{built}
 use Rattle.mq_binder.specs.StatementWalk.{statement_bound}
 use Rattle.mq_engine.specs.Catalogs.{catalog_of}
 use Rattle.mq_engine.specs.Sessions.{nothing}
+use Rattle.mq_ready_laws.specs.BuiltForms.{built}
 use Rattle.mq_tool.specs.declared.statuses.TheConstants.{DONE, FLAWED, NOT_UTF8}
 
 -- What the tokens of a statement are read as: they nest too deep, or no statement that the program does reads them, or this one does.

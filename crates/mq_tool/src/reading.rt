@@ -3,19 +3,19 @@
 ghost use Rattle.std.specs.Prelude.{◌≡◌, true, map, IfOk};
 ghost use Rattle.mq_values.specs.Answers.{Gives};
 ghost use Rattle.mq_lexer.specs.Lexemes.{lexeme};
-ghost use Rattle.mq_binder.specs.BuiltForms as forms;
 ghost use Rattle.mq_binder.specs.StatementWalk.{statement_bound};
 ghost use Rattle.mq_engine.specs.Catalogs.{catalog_of};
+ghost use Rattle.mq_ready_laws.specs.BuiltForms as forms;
 ghost use Rattle.mq_tool.specs.Steps.{CanRun, Finds};
 
 use mq_ast::Stmt;
-use mq_binder::{bind, built};
+use mq_binder::bind;
 use mq_engine::Engine;
 use mq_ir::Bound;
 use mq_lexer::Token;
 use mq_parse_stmt::parse;
 use mq_ready_laws::{
-    created_tables_are_new, loads_are_not_built, queries_are_ready, views_are_ready,
+    built, created_tables_are_new, loads_are_not_built, queries_are_ready, views_are_ready,
 };
 use mq_values::{Boxed, Fail, Refused};
 use std::alloc::Global;

@@ -1,4 +1,4 @@
-use Rattle.std.proofs.Common.{◌≡◌, ◌∙◌, [], List, Result, ap, subst, sym}
+use Rattle.std.proofs.Common.{◌∙◌, [], List, Result, ap, subst, sym}
 use Rattle.mq_values.specs.Answers.{Gives, result_map}
 use Rattle.mq_values.specs.declared.faults.QueryFault.{QueryFault}
 use Rattle.mq_ir.specs.Partitions.{Cells}

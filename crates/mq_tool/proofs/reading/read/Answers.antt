@@ -1,6 +1,6 @@
 use Rattle.std.proofs.Common.{sym, ap, ◌∙◌}
 use Rattle.std.proofs.lemmas.Result.{err_from_is_err_and}
-use Rattle.mq_binder.specs.BuiltForms.{built}
+use Rattle.mq_ready_laws.specs.BuiltForms.{built}
 use Rattle.mq_tool.proofs.FindLemmas.{found, not_built, not_found}
 use Rattle.mq_tool.proofs.reading.read.Goals as goal
 
