@@ -12,7 +12,7 @@ use crate::acting::Acting;
 use crate::grid::Grid;
 use crate::lent_cells::LentCells;
 use mq_ir::Slot;
-use mq_refs::eval_cell;
+use mq_refs::eval_cell_in;
 use mq_single_lefts::{PlacedFault, kind_of};
 use mq_values::{Fail, Key, Memory, Value};
 use std::alloc::Global;
@@ -73,13 +73,14 @@ fn slot_for(alloc: Global, act: &Acting<'_>, target: &Key, grid: &Grid) -> Resul
         grid.now.input (measure_at grid.now.track.cells) act.now.rule.now)) }
 {
     let mut lent = LentCells::new(alloc, grid.cells());
-    eval_cell(
+    eval_cell_in(
         alloc,
         act.rule,
         act.model,
         target,
         act.turn,
         grid.shape(),
+        act.order(),
         &mut lent,
     )
 }

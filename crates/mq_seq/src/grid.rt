@@ -1,6 +1,8 @@
 //! The cells of a partition as the rules have left them.
 ghost use Rattle.std.specs.Prelude.{◌≡◌, [], None, false, map, IfOk};
+ghost use Rattle.std.specs.List.Sorted.{IsStrictlySortedBy};
 ghost use Rattle.std.specs.Map.{keys_of};
+ghost use Rattle.mq_values.specs.Order.{cmp_key};
 ghost use Rattle.mq_ir.specs.Iteration.{out_cell as spec_out_cell};
 ghost use Rattle.mq_ir.specs.Unfolding.{model_of};
 ghost use Rattle.mq_dim_index.specs.Places.{is_there, with_key};
@@ -31,7 +33,9 @@ pub struct Grid {
 
 impl Model for Grid {
     ghost use Rattle.std.specs.Prelude.{◌≡◌};
+    ghost use Rattle.std.specs.List.Sorted.{IsStrictlySortedBy};
     ghost use Rattle.std.specs.Map.{keys_of};
+    ghost use Rattle.mq_values.specs.Order.{cmp_key};
     ghost use Rattle.mq_single_lefts.specs.Conditions.{HaveLength};
     ghost use Rattle.mq_seq.specs.Steps.{State};
 
@@ -40,7 +44,7 @@ impl Model for Grid {
     ghost view = { λ g. record { input = g.shape.base; track = g.cells; updated = g.updated; width = g.width } };
 
     ghost invariant = { λ g. (g.index ≡ keys_of g.cells.cells) × (g.shape.cells ≡ keys_of g.cells.cells)
-        × HaveLength g.width (keys_of g.cells.cells) };
+        × HaveLength g.width (keys_of g.cells.cells) × IsStrictlySortedBy cmp_key g.shape.base };
 }
 
 impl Grid {
@@ -50,14 +54,19 @@ impl Grid {
         ensures { IfOk result (λ g. g ≡ record { input = keys_of cells; track = record { cells = cells; firsts = None }; updated = []; width = width }) }
     {
         let base = keys_in(alloc, &cells)?;
+        let _count = cells.len();
         seated(alloc, Tracked::new(cells), base, KeySet::new(alloc), width)
     }
 
-    /// The keys of the input, and those of the cells.
+    /// The keys of the input, and those of the cells; both ascend.
     pub fn shape(&self) -> &PartShape
         ensures base { result.now.base ≡ self.now.input }
         ensures cells { result.now.cells ≡ keys_of self.now.track.cells }
+        ensures base_ascends { IsStrictlySortedBy cmp_key result.now.base }
+        ensures cells_ascend { IsStrictlySortedBy cmp_key result.now.cells }
     {
+        // The index knows that its keys ascend.
+        let _keys = self.index.keys();
         &self.shape
     }
 
@@ -174,7 +183,8 @@ fn seated(
     updated: KeySet,
     width: usize,
 ) -> Result<Grid, Memory>
-    requires { HaveLength width (keys_of cells.cells) }
+    requires wide { HaveLength width (keys_of cells.cells) }
+    requires ascends { IsStrictlySortedBy cmp_key base }
     ensures { IfOk result (λ g. g ≡ record { input = base; track = cells; updated = updated; width = width }) }
 {
     let keys = keys_in(alloc, cells.cells())?;

@@ -15,6 +15,7 @@ use crate::cell_map::map_of;
 use crate::grid::Grid;
 use crate::turns::take_turns;
 use mq_ir::{Model, OutCell, PartInput, PartResult};
+use mq_refs::arrays_ascend;
 use mq_single_lefts::PlacedFault;
 use mq_values::{Fail, FaultKind, Items, Key, MAX_CELLS_OF_PARTITION, Memory, Shared};
 use std::alloc::Global;
@@ -63,7 +64,7 @@ fn cells_after(
 {
     let cells = map_of(alloc, cells)?;
     let grid = Grid::new(alloc, m.part.dims.len(), cells)?;
-    let grid = take_turns(alloc, m, grid)?;
+    let grid = take_turns(alloc, m, arrays_ascend(m.refs), grid)?;
     Ok(grid.rows(alloc)?)
 }
 

@@ -4,6 +4,7 @@ ghost use Rattle.mq_values.specs.Answers.{Gives};
 ghost use Rattle.mq_ir.specs.Unfolding.{model_of};
 ghost use Rattle.mq_unfold.specs.LeftSides.{rule_of};
 ghost use Rattle.mq_single_lefts.specs.Conditions.{LeftHasPlaces, LeftsHavePlaces};
+ghost use Rattle.mq_seq.specs.Known.{RefsInOrder};
 ghost use Rattle.mq_seq.specs.Steps.{rule_done, turn_done};
 
 use crate::acting::Acting;
@@ -19,11 +20,13 @@ use std::alloc::Global;
 pub fn act_rules(
     alloc: Global,
     m: &Model<'_>,
+    refs_ascend: bool,
     turn: u32,
     grid: Grid,
 ) -> Result<Grid, Fail<PlacedFault>>
     requires lefts { LeftsHavePlaces m.now.part.now }
     requires wide { grid.width ≡ length m.now.part.now.dims }
+    requires refs { RefsInOrder refs_ascend m.now }
     ensures exact { Gives result (turn_done (model_of m.now) turn grid) }
     ensures width { IfOk result (λ g. g.width ≡ grid.width) }
 {
@@ -34,7 +37,7 @@ pub fn act_rules(
             return Err(Fail::Memory);
         };
         number = next;
-        grid = act_rule(alloc, m, turn, number, rule, grid)?;
+        grid = act_rule(alloc, m, refs_ascend, turn, number, rule, grid)?;
     }
     Ok(grid)
 }
@@ -43,6 +46,7 @@ pub fn act_rules(
 fn act_rule(
     alloc: Global,
     m: &Model<'_>,
+    refs_ascend: bool,
     turn: u32,
     number: u32,
     rule: &Rule,
@@ -51,6 +55,7 @@ fn act_rule(
     requires there { rule_of m.now.part.now.rules number ≡ Some rule.now }
     requires places { LeftHasPlaces (length m.now.part.now.dims) rule.now.left }
     requires wide { grid.width ≡ length m.now.part.now.dims }
+    requires refs { RefsInOrder refs_ascend m.now }
     ensures exact { Gives result (rule_done (model_of m.now) turn (number, rule.now) grid) }
     ensures width { IfOk result (λ g. g.width ≡ grid.width) }
 {
@@ -60,6 +65,7 @@ fn act_rule(
         number,
         rule,
         turn,
+        refs_ascend,
     };
     act_all(alloc, &act, lefts.as_slice(), grid)
 }

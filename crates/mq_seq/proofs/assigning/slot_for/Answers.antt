@@ -9,7 +9,7 @@ pub returns : goal.returns
 returns c =
     let act = c.args.act.now in
     let s = c.args.grid.now in
-    IfOk-weaker c.eval_cell.result _ _
+    IfOk-weaker c.eval_cell_in.result _ _
     (λ slot is. is
     ∙ slot_lent (model_of act.model.now) act.turn act.rule.now c.args.target.now c.shape.result.now c.new-lent.result.cells s.track.cells c.new-lent.result.columns s.input (keys_of s.track.cells)
-    (c.new-lent.ensures.cells ∙ c.cells.ensures) c.new-lent.ensures.results c.shape.ensures.base c.shape.ensures.cells) c.eval_cell.ensures.exact
+    (c.new-lent.ensures.cells ∙ c.cells.ensures) c.new-lent.ensures.results c.shape.ensures.base c.shape.ensures.cells) c.eval_cell_in.ensures.exact

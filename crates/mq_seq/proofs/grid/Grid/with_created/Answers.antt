@@ -10,9 +10,9 @@ invariant_of-result c =
     let first = c.index-created-0-then-is_none in
     let keys = one_created (model_of c.args.m.now) grid.cells c.in_ok-cells.cells c.args.created.now c.in_ok-cells.ensures grid.index first.result c.self.invariant.0 c.if-created-eq1.true first.is in
     let wide = created_wide (model_of c.args.m.now) grid.cells c.in_ok-cells.cells c.args.created.now c.in_ok-cells.ensures grid.width c.args.self.width (ap (λ (s : State). s.width) c.self.view_is) c.self.invariant.2 c.requires in
-    (c.in_ok-index.ensures.index ∙ keys, c.in_ok-index.ensures.keys ∙ keys, wide)
+    (c.in_ok-index.ensures.index ∙ keys, c.in_ok-index.ensures.keys ∙ keys, wide, c.self.invariant.3)
 
-pub seated-requires : goal.seated-requires
-seated-requires c =
+pub seated-requires-clause-wide : goal.seated-requires-clause-wide
+seated-requires-clause-wide c =
     let grid = c.self.inside in
     created_wide (model_of c.args.m.now) grid.cells c.in_ok-cells.cells c.args.created.now c.in_ok-cells.ensures grid.width c.args.self.width (ap (λ (s : State). s.width) c.self.view_is) c.self.invariant.2 c.requires
