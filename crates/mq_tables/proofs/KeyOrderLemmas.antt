@@ -94,6 +94,37 @@ run_put runs stay joined keys new e b q =
     turned false true false = refl
     turned false false c = sym (or_false c)
 
+-- ---- runs, and the last keys behind them
+pub runs_alone : (runs before : List (List Tuple)) (last all : List Tuple) → runs ≡ before → length last ≡ 0 → all_keys before ++ last ≡ all → all_keys runs ≡ all
+runs_alone runs before last all e n h = ap all_keys e ∙ sym (append-nil (all_keys before)) ∙ ap (λ l. all_keys before ++ l) (sym (no_item last n)) ∙ h
+  where
+    no_item : (l : List Tuple) → length l ≡ 0 → l ≡ []
+    no_item [] e = refl
+    no_item (x ∷ xs) e = absurd (cc)
+
+pub run_behind : (runs before after : List (List Tuple)) (last copy all : List Tuple) → runs ≡ before → after ≡ runs ++ copy ∷ [] → copy ≡ last → all_keys before ++ last ≡ all → all_keys after ≡ all
+run_behind runs before after last copy all e a c h =
+    ap all_keys a
+    ∙ all_behind runs (copy ∷ [])
+    ∙ ap (λ l. all_keys runs ++ l) (append-nil copy ∙ c)
+    ∙ ap (λ l. all_keys l ++ last) e
+    ∙ h
+
+pub last_put : (before last new after keys : List Tuple) → ((q : Tuple) → is_among after q ≡ (is_among last q || is_among new q)) → ((q : Tuple) → is_among new q ≡ is_among keys q)
+    → HoldsBoth keys (before ++ last) (before ++ after)
+last_put before last new after keys u n q =
+    among_both before after q
+    ∙ ap (λ b. is_among before q || b) (u q ∙ ap (λ b. is_among last q || b) (n q))
+    ∙ turned (is_among before q) (is_among last q) (is_among keys q)
+    ∙ ap (λ b. is_among keys q || b) (sym (among_both before last q))
+  where
+    turned : (a b c : Bool) → (a || (b || c)) ≡ (c || (a || b))
+    turned true b true = refl
+    turned true b false = refl
+    turned false true true = refl
+    turned false true false = refl
+    turned false false c = sym (or_false c)
+
 -- ---- new keys behind earlier ones, row by row
 pub record Adding (schema : Schema) (earlier : List Tuple) (rows : List Tuple) (i : ℕ) (keys : List Tuple) : Type 0 where
   pub is : first_repeated (earlier ++ keys) (map (row_key schema) (drop i rows)) ≡ first_repeated earlier (map (row_key schema) rows)

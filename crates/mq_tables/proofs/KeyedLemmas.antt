@@ -2,6 +2,7 @@
 use Rattle.std.proofs.Common.{◌≡◌, ℕ, ◌+◌, ◌≤◌, List, [], ◌∷◌, ◌++◌, Bool, true, false, ◌||◌, length, map, take, drop, Option, Some, None, Result, Ok, Err, refl, sym, ap, ◌∙◌, subst}
 use Rattle.std.specs.Prelude.{◌≢◌, if◌then◌else◌}
 use Rattle.std.specs.Option.{option_map}
+use Rattle.std.proofs.Math.Seq.{drop-append_seam, take-append_seam}
 use Rattle.std.proofs.lemmas.List.{map-append, take-append-drop}
 use Rattle.mq_values.specs.Answers.{Gives}
 use Rattle.mq_values.specs.declared.memory.Fail.{Fail}
@@ -94,3 +95,37 @@ pub kept_front : (schema : Schema) (rows before order : List Tuple) (columns : L
     → take n rows ≡ before → AreKeys (map (row_key schema) (take n rows)) order
 kept_front schema rows before order columns n d e kept s =
     subst (λ (l : List Tuple). AreKeys (map (row_key schema) l) order) (sym s) (subst (λ (cs : List ℕ). AreKeys (keys_by cs before) order) e (kept d))
+
+-- ---- rows that change where they stand, whose keys are kept by the columns of the key
+module _ (schema : Schema) (before order : List Tuple) (columns : List ℕ) (some : columns ≢ []) (key : columns ≡ schema.key) (kept : AreKept columns before order) where
+  keyed : schema.key ≢ []
+  keyed e = some (key ∙ e)
+
+  of_key : (rows all : List Tuple) → AreKeys (map (row_key schema) rows) all → AreKept columns rows all
+  of_key rows all h n = subst (λ (cs : List ℕ). AreKeys (keys_by cs rows) all) (sym key) h
+
+  none_repeats : (rows all : List Tuple) → AreKeys (map (row_key schema) rows) all → judged schema rows ≡ Ok rows
+  none_repeats rows all h = ap (λ o. unless_refused o (Ok rows)) (kept_apart schema rows all keyed h)
+
+  -- new rows are put behind them
+  module _ (new : List Tuple) where
+    front_is : take (length before) (before ++ new) ≡ before
+    front_is = take-append_seam before new
+
+    new_is : new ≡ drop (length before) (before ++ new)
+    new_is = sym (drop-append_seam before new)
+
+    first_known : AreKeys (map (row_key schema) (take (length before) (before ++ new))) order
+    first_known = kept_front schema (before ++ new) before order columns (length before) some key kept front_is
+
+    all_known : (all : List Tuple) → Behind schema (before ++ new) (length before) new order all → AreKeys (map (row_key schema) (before ++ new)) all
+    all_known all grown = grown_kept schema (before ++ new) (length before) order all new new_is first_known grown
+
+    pub put_kept : (after all : List Tuple) → after ≡ before ++ new → Behind schema (before ++ new) (length before) new order all → AreKept columns after all
+    put_kept after all e grown = subst (λ (rows : List Tuple). AreKept columns rows all) (sym e) (of_key (before ++ new) all (all_known all grown))
+
+    pub put_judged : (after all : List Tuple) → after ≡ before ++ new → Behind schema (before ++ new) (length before) new order all → judged schema (before ++ new) ≡ Ok after
+    put_judged after all e grown = none_repeats (before ++ new) all (all_known all grown) ∙ ap Ok (sym e)
+
+    pub put_refused : (e : Refused) → option_map refused.DuplicateKey (first_repeated order (map (row_key schema) new)) ≡ Some e → judged schema (before ++ new) ≡ Err e
+    put_refused e h = grown_exit schema (before ++ new) (length before) order new (fail.Cause e) new_is keyed first_known h

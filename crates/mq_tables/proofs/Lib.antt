@@ -4,8 +4,11 @@ pub mod JudgeLemmas
 pub mod KeyLemmas
 pub mod KeyOrderLemmas
 pub mod KeyedLemmas
+pub mod LeftLemmas
+pub mod LoseLemmas
 pub mod OldPlaceLemmas
 pub mod OriginLemmas
+pub mod PutLemmas
 pub mod SetLemmas
 pub mod SparedLemmas
 pub mod StageLemmas

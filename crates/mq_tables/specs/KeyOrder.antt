@@ -1,5 +1,5 @@
 -- The keys that are kept beside rows, so that one is found again.
-use Rattle.std.specs.Prelude.{◌≡◌, ◌≢◌, ℕ, List, [], ◌||◌, map, Option, Some, None, Result, Ok, Err, slice_index_or}
+use Rattle.std.specs.Prelude.{◌≡◌, ◌≢◌, ℕ, List, [], ◌||◌, ◌&&◌, not, map, Option, Some, None, Result, Ok, Err, slice_index_or}
 use Rattle.std.specs.List.{flat_map}
 use Rattle.std.specs.Option.{option_map}
 use Rattle.std.specs.BTreeSet.{BTreeSet}
@@ -40,6 +40,16 @@ abbrev pub Grows : List Tuple → List Tuple → Result (List Tuple) (Fail Refus
 Grows earlier keys (Ok all) = (first_repeated earlier keys ≡ None) × HoldsBoth keys earlier all
 Grows earlier keys (Err (fail.Cause e)) = Repeats earlier keys e
 Grows earlier keys (Err fail.Memory) = Unit {0}
+
+-- the same where the keys are put to those that stand; after want of memory any of them may be there
+abbrev pub GrowsTo : List Tuple → List Tuple → List Tuple → Result (Unit {0}) (Fail Refused) → Type 0
+GrowsTo earlier keys after (Ok done) = (first_repeated earlier keys ≡ None) × HoldsBoth keys earlier after
+GrowsTo earlier keys after (Err (fail.Cause e)) = Repeats earlier keys e × (after ≡ earlier)
+GrowsTo earlier keys after (Err fail.Memory) = Unit {0}
+
+-- keys without some of them
+abbrev pub Loses : List Tuple → List Tuple → List Tuple → Type 0
+Loses all gone left = (key : Tuple) → is_among left key ≡ (is_among all key && not (is_among gone key))
 
 -- the keys of rows, of which no two are the same, stand in this order
 pub record AreKeys (keys order : List Tuple) : Type 0 where

@@ -1,5 +1,6 @@
 pub mod Drafts
 pub mod Held
+pub mod InPlace
 pub mod KeyOrder
 pub mod OldPlaces
 pub mod Rows

@@ -1,12 +1,14 @@
 //! The values that a change puts into columns.
-ghost use Rattle.std.specs.Prelude.{◌≡◌, slice_set, IfOk};
+ghost use Rattle.std.specs.Prelude.{◌≡◌, IfOk};
 ghost use Rattle.mq_values.specs.Answers.{Gives};
 ghost use Rattle.mq_values.specs.declared.faults.Refused.TheVariants as refused;
 ghost use Rattle.mq_ir.specs.Changes as spec;
 ghost use Rattle.mq_ir.specs.Results.{marked};
 ghost use Rattle.mq_ir.specs.Unfolding.{converted as spec_converted};
 ghost use Rattle.mq_tables.specs.Drafts.{asked_for_null, column_found, row_set, set_value as spec_set_value};
+ghost use Rattle.mq_tables.specs.InPlace.{row_replaced};
 
+use crate::rows::put;
 use crate::scopes::{NoRow, OneRow};
 use mq_ir::{Column, Expr, Row, Schema};
 use mq_scalar::{Env, eval, holds};
@@ -141,15 +143,6 @@ fn row_with(
     Ok(Shared::new(alloc, Items::from_vec(values))?)
 }
 
-// Puts a value at a place, where there is one.
-fn put(values: &mut Vec<Value>, place: u32, v: Value)
-    ensures { values.new.items ≡ slice_set values.old.items place v }
-{
-    if (place as usize) < values.len() {
-        values[place as usize] = v;
-    }
-}
-
 // The values of a row, each once more.
 fn copied_values(alloc: Global, row: &Row) -> Result<Vec<Value>, Memory>
     ensures { IfOk result (λ values. values.items ≡ row.now) }
@@ -176,5 +169,23 @@ pub fn updated_row(
         Ok((row_with(alloc, schema, sets, number, row)?, true))
     } else {
         Ok((row.copy()?, false))
+    }
+}
+
+/// A row after UPDATE, where it is visited as true.
+pub fn replaced_row(
+    alloc: Global,
+    schema: &Schema,
+    sets: &[(u32, Expr)],
+    filter: &Option<Expr>,
+    number: u32,
+    row: &Row,
+) -> Result<Option<Row>, Fail<Refused>>
+    ensures { Gives result (row_replaced schema.now sets.now filter.now (number, row.now)) }
+{
+    if is_chosen(alloc, filter, number, row)? {
+        Ok(Some(row_with(alloc, schema, sets, number, row)?))
+    } else {
+        Ok(None)
     }
 }

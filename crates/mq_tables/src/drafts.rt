@@ -9,6 +9,7 @@ ghost use Rattle.mq_tables.specs.Drafts as spec;
 ghost use Rattle.mq_tables.specs.Staging.{new_places};
 
 use crate::columns::{inserted_row, is_chosen, updated_row};
+use crate::rows::{push_copies, row_copies};
 use crate::staged::Origins;
 use crate::table::Table;
 use mq_ir::{Change, Expr, Row, Schema};
@@ -44,8 +45,8 @@ pub fn drafted(alloc: Global, table: &Table, c: &Change) -> Result<Draft, Fail<R
     }
 }
 
-// The rows of INSERT, in order.
-fn inserted_rows(
+/// The rows of INSERT, in order.
+pub fn inserted_rows(
     alloc: Global,
     schema: &Schema,
     rows: &[Items<Expr>],
@@ -66,8 +67,7 @@ fn appended(alloc: Global, old: &[Row], new: &[Row]) -> Result<Draft, Memory>
     requires new { length new.now ≤ MAX_ROWS }
     ensures { IfOk result (λ draft. draft ≡ spec.appended old.now new.now) }
 {
-    let mut rows = Vec::with_capacity(alloc, old.len() + new.len())?;
-    push_copies(&mut rows, old)?;
+    let mut rows = row_copies(alloc, old, new.len())?;
     push_copies(&mut rows, new)?;
     let listed = no_places(alloc, new)?;
     Ok(Draft {
@@ -75,16 +75,6 @@ fn appended(alloc: Global, old: &[Row], new: &[Row]) -> Result<Draft, Memory>
         counted: new.len(),
         origins: Origins::new(old.len() as u32, listed),
     })
-}
-
-// The same rows once more, behind the others.
-fn push_copies(rows: &mut Vec<Row>, others: &[Row]) -> Result<(), Memory>
-    ensures { OnOk result (rows.new.items ≡ rows.old.items ++ others.now) }
-{
-    'rows: for row in others {
-        rows.push(row.copy()?)?;
-    }
-    Ok(())
 }
 
 fn no_places(alloc: Global, rows: &[Row]) -> Result<Items<Option<u32>>, Memory>

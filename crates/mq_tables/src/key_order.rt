@@ -1,10 +1,10 @@
 //! The keys of rows, kept in runs of which each is in order, so that one is found again.
-ghost use Rattle.std.specs.Prelude.{◌≡◌, ◌≤◌, [], ◌||◌, true, not, map, length, flat_map, IfOk, OnOk};
+ghost use Rattle.std.specs.Prelude.{◌≡◌, ◌≤◌, [], ◌||◌, true, false, not, map, length, flat_map, IfOk, OnOk};
 ghost use Rattle.std.specs.BTreeSet.{insert_key};
 ghost use Rattle.mq_values.specs.Order.{cmp_key};
 ghost use Rattle.mq_ir.specs.Changes as spec;
 ghost use Rattle.mq_ir.specs.Keys.{is_among};
-ghost use Rattle.mq_tables.specs.KeyOrder.{Adds, Grows, HoldsBoth, all_keys};
+ghost use Rattle.mq_tables.specs.KeyOrder.{Adds, Grows, GrowsTo, HoldsBoth, Loses, all_keys};
 
 use crate::keys::row_key;
 use mq_ir::{Row, Schema};
@@ -32,38 +32,42 @@ impl Model for Run {
     ghost view = { λ run. run.keys.value.keys };
 }
 
-/// The keys of rows. Contracts see them as the list of the keys, in an order that nothing rests on.
+/// The keys of rows: runs that others may hold too, and the last keys, which nobody else holds. Contracts see them as the
+/// list of the keys, in an order that nothing rests on.
 #[derive(Drop)]
 pub struct KeyOrder {
     runs: Shared<Run>,
+    last: BTreeSet<Key>,
 }
 
 impl Model for KeyOrder {
-    ghost use Rattle.std.specs.Prelude.{List};
+    ghost use Rattle.std.specs.Prelude.{List, ◌++◌};
     ghost use Rattle.mq_ir.specs.Keys.{Tuple};
     ghost use Rattle.mq_tables.specs.KeyOrder.{all_keys};
 
     ghost Value = { List Tuple };
 
-    ghost view = { λ order. all_keys order.runs };
+    ghost view = { λ order. all_keys order.runs ++ order.last.keys };
 }
 
 impl KeyOrder {
     /// No key. It takes no memory.
-    pub fn empty() -> KeyOrder
+    pub fn empty(alloc: Global) -> KeyOrder
         ensures { result ≡ [] }
     {
         KeyOrder {
             runs: Shared::empty(),
+            last: BTreeSet::new(alloc),
         }
     }
 
-    /// The same keys once more. None of them is copied.
-    pub fn copy(&self) -> Result<KeyOrder, Memory>
+    /// The same keys once more, to be held beside these.
+    pub fn copy(&self, alloc: Global) -> Result<KeyOrder, Memory>
         ensures { IfOk result (λ order. order ≡ self.now) }
     {
         Ok(KeyOrder {
-            runs: self.runs.copy()?,
+            runs: Shared::new(alloc, self.shared_runs(alloc)?)?,
+            last: BTreeSet::new(alloc),
         })
     }
 
@@ -71,7 +75,7 @@ impl KeyOrder {
     pub fn contains(&self, key: &Key) -> bool
         ensures { result ≡ is_among self.now key.now }
     {
-        is_in_runs(self.runs.as_slice(), key)
+        is_in_runs(self.runs.as_slice(), key) || self.last.contains(key)
     }
 
     /// These keys and those of new rows. A key that is among these, or is that of an earlier new row, refuses the rows:
@@ -88,20 +92,60 @@ impl KeyOrder {
         Ok(self.with(alloc, keys)?)
     }
 
-    // These keys and others. Short runs at the end are joined with the new one, so that there are few.
+    /// Puts the keys of new rows to these, where none is refused as in `grown`; else nothing is changed. After `Memory`
+    /// some of them may be here.
+    pub fn grow(
+        &mut self,
+        alloc: Global,
+        schema: &Schema,
+        rows: &[Row],
+    ) -> Result<(), Fail<Refused>>
+        ensures { GrowsTo self.old (map (spec.row_key schema.now) rows.now) self.new result }
+    {
+        let mut keys = new_keys(alloc, schema, self, rows)?;
+        self.last.append(&mut keys)?;
+        Ok(())
+    }
+
+    /// Takes keys away, where nobody else may hold any of these. Whether it did; else nothing is changed. It takes no
+    /// memory.
+    pub fn lose(&mut self, keys: &[Key]) -> bool
+        ensures lost { result ≡ true → Loses self.old keys.now self.new }
+        ensures kept { result ≡ false → self.new ≡ self.old }
+    {
+        if !self.runs.as_slice().is_empty() {
+            return false;
+        }
+        take_away(&mut self.last, keys);
+        true
+    }
+
+    // These keys and others. Short runs at the end are joined with the new ones, so that there are few.
     fn with(&self, alloc: Global, keys: BTreeSet<Key>) -> Result<KeyOrder, Memory>
         ensures { IfOk result (HoldsBoth keys.keys self.now) }
     {
-        let runs = self.runs.as_slice();
-        let (stay, joined) = runs.split_at(staying(runs, keys.len()));
-        let keys = joined_keys(joined, keys)?;
-        let mut runs = run_copies(alloc, stay)?;
-        runs.push(Run {
-            keys: Arc::new(alloc, keys)?,
-        })?;
+        let runs = self.shared_runs(alloc)?;
+        let (stay, joined) = runs
+            .as_slice()
+            .split_at(staying(runs.as_slice(), keys.len()));
         Ok(KeyOrder {
-            runs: Shared::new(alloc, runs)?,
+            last: joined_keys(joined, keys)?,
+            runs: Shared::new(alloc, run_copies(alloc, stay)?)?,
         })
+    }
+
+    // All of these keys in runs.
+    fn shared_runs(&self, alloc: Global) -> Result<Items<Run>, Memory>
+        ensures { IfOk result (λ runs. all_keys runs ≡ self.now) }
+    {
+        let mut runs = run_copies(alloc, self.runs.as_slice())?;
+        if self.last.is_empty() {
+            return Ok(runs);
+        }
+        runs.push(Run {
+            keys: Arc::new(alloc, self.last.clone()?)?,
+        })?;
+        Ok(runs)
     }
 }
 
@@ -194,4 +238,13 @@ fn put_new(keys: &mut BTreeSet<Key>, order: &KeyOrder, key: &Key) -> Result<bool
         return Ok(false);
     }
     Ok(keys.insert(key.copy()?)?)
+}
+
+// Takes keys out of others.
+fn take_away(keys: &mut BTreeSet<Key>, others: &[Key])
+    ensures { Loses keys.old.keys others.now keys.new.keys }
+{
+    'keys: for key in others {
+        keys.remove(key);
+    }
 }

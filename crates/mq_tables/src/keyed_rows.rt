@@ -1,20 +1,22 @@
 //! Rows with their keys.
-ghost use Rattle.std.specs.Prelude.{◌≡◌, ◌≢◌, ◌≤◌, [], true, map, take, drop, length, IfOk};
-ghost use Rattle.mq_values.specs.Answers.{Gives};
+ghost use Rattle.std.specs.Prelude.{◌≡◌, ◌≢◌, ◌≤◌, ◌++◌, [], true, false, map, take, drop, length, IfOk, OnOk, OnErr};
+ghost use Rattle.mq_values.specs.Answers.{Gives, result_map};
 ghost use Rattle.mq_ir.specs.Changes as spec;
 ghost use Rattle.mq_ir.specs.Keys.{is_among};
+ghost use Rattle.mq_tables.specs.InPlace.{PutsBehind, put_at, rows_gone, rows_left};
 ghost use Rattle.mq_tables.specs.KeyOrder.{AreKeys, judged};
 
 use crate::key_order::KeyOrder;
+use crate::rows::{put_rows, row_copies, take_away};
 use mq_ir::{Row, Schema};
-use mq_values::{Fail, Items, Memory, Refused, Shared};
+use mq_values::{Fail, Items, Key, Memory, Refused, Shared};
 use std::alloc::Global;
 use std::marker::Model;
 
 /// The rows of a table, with their keys by the columns that were its key when they were judged. Contracts see the rows.
 #[derive(Drop)]
 pub struct KeyedRows {
-    rows: Shared<Row>,
+    rows: Vec<Row>,
     columns: Shared<u32>,
     order: KeyOrder,
 }
@@ -26,20 +28,20 @@ impl Model for KeyedRows {
 
     ghost Value = { List Tuple };
 
-    ghost view = { λ k. k.rows };
+    ghost view = { λ k. k.rows.items };
 
-    ghost invariant = { λ k. AreKept k.columns k.rows k.order };
+    ghost invariant = { λ k. AreKept k.columns k.rows.items k.order };
 }
 
 impl KeyedRows {
     /// No row. It takes no memory.
-    pub fn empty() -> KeyedRows
+    pub fn empty(alloc: Global) -> KeyedRows
         ensures { result ≡ [] }
     {
         KeyedRows {
-            rows: Shared::empty(),
+            rows: Vec::new(alloc),
             columns: Shared::empty(),
-            order: KeyOrder::empty(),
+            order: KeyOrder::empty(alloc),
         }
     }
 
@@ -54,9 +56,9 @@ impl KeyedRows {
         ensures { Gives result (judged schema.now rows) }
     {
         if schema.key.is_empty() {
-            return Ok(without_key(alloc, rows)?);
+            return Ok(without_key(alloc, rows));
         }
-        with_new_keys(alloc, schema, &KeyOrder::empty(), 0, rows)
+        with_new_keys(alloc, schema, &KeyOrder::empty(alloc), 0, rows)
     }
 
     /// The same for rows that begin with these here. The keys of these here are not looked at again, where they are
@@ -73,7 +75,7 @@ impl KeyedRows {
         if !is_key_of(self.columns.as_slice(), schema) {
             return KeyedRows::new(alloc, schema, rows);
         }
-        with_new_keys(alloc, schema, &self.order, self.rows.as_slice().len(), rows)
+        with_new_keys(alloc, schema, &self.order, self.rows.len(), rows)
     }
 
     /// The same for rows whose keys are those of the rows here. No key is looked at again, where they are kept by the
@@ -91,11 +93,131 @@ impl KeyedRows {
             return KeyedRows::new(alloc, schema, rows);
         }
         Ok(KeyedRows {
-            rows: Shared::new(alloc, rows)?,
+            rows: rows.into_vec(),
             columns: self.columns.copy()?,
-            order: self.order.copy()?,
+            order: self.order.copy(alloc)?,
         })
     }
+}
+
+/// Changes of the rows where they stand. After an error they are as before.
+impl KeyedRows {
+    /// Puts new rows behind these, or says which key at the least place repeats an earlier one.
+    pub fn grow(
+        &mut self,
+        alloc: Global,
+        schema: &Schema,
+        new: Items<Row>,
+    ) -> Result<(), Fail<Refused>>
+        ensures exact { Gives (result_map (λ _. self.new) result) (judged schema.now (self.old ++ new)) }
+        ensures err { OnErr result (self.new ≡ self.old) }
+    {
+        if schema.key.is_empty() {
+            self.columns = Shared::empty();
+            self.rows.append(&mut new.into_vec())?;
+            return Ok(());
+        }
+        if !is_key_of(self.columns.as_slice(), schema) {
+            let mut rows = row_copies(alloc, self.rows.as_slice(), new.len())?;
+            rows.append(&mut new.into_vec())?;
+            *self = KeyedRows::new(alloc, schema, Items::from_vec(rows))?;
+            return Ok(());
+        }
+        match put_behind(alloc, schema, &mut self.rows, &mut self.order, new) {
+            Ok(()) => Ok(()),
+            Err(Fail::Cause(refused)) => Err(Fail::Cause(refused)),
+            Err(Fail::Memory) => {
+                // The keys may be more than those of the rows: they are made anew when they are next asked for.
+                self.columns = Shared::empty();
+                self.order = KeyOrder::empty(alloc);
+                Err(Fail::Memory)
+            }
+        }
+    }
+
+    /// Puts rows in the place of some that stand here, and judges the keys.
+    pub fn put(
+        &mut self,
+        alloc: Global,
+        schema: &Schema,
+        puts: Items<(u32, Row)>,
+    ) -> Result<(), Fail<Refused>>
+        ensures exact { Gives (result_map (λ _. self.new) result) (judged schema.now (put_at puts self.old)) }
+        ensures err { OnErr result (self.new ≡ self.old) }
+    {
+        if schema.key.is_empty() {
+            self.columns = Shared::empty();
+            put_rows(&mut self.rows, puts);
+            return Ok(());
+        }
+        let mut rows = row_copies(alloc, self.rows.as_slice(), 0)?;
+        put_rows(&mut rows, puts);
+        *self = KeyedRows::new(alloc, schema, Items::from_vec(rows))?;
+        Ok(())
+    }
+
+    /// The same for rows that have the keys of those in whose place they come. No key is looked at again, where they
+    /// are kept by the columns that are the key.
+    pub fn put_same_keys(
+        &mut self,
+        alloc: Global,
+        schema: &Schema,
+        puts: Items<(u32, Row)>,
+    ) -> Result<(), Fail<Refused>>
+        requires { map (spec.row_key schema.now) (put_at puts self.old) ≡ map (spec.row_key schema.now) self.old }
+        ensures exact { Gives (result_map (λ _. self.new) result) (judged schema.now (put_at puts self.old)) }
+        ensures err { OnErr result (self.new ≡ self.old) }
+    {
+        if !is_key_of(self.columns.as_slice(), schema) {
+            return self.put(alloc, schema, puts);
+        }
+        put_rows(&mut self.rows, puts);
+        Ok(())
+    }
+
+    /// Takes away the rows that are gone, whose keys are `keys`.
+    pub fn lose(
+        &mut self,
+        alloc: Global,
+        schema: &Schema,
+        gone: &[bool],
+        keys: &[Key],
+    ) -> Result<(), Fail<Refused>>
+        requires told { length gone.now ≡ length self.old }
+        requires keyed { keys.now ≡ map (spec.row_key schema.now) (rows_gone self.old gone.now) }
+        ensures exact { Gives (result_map (λ _. self.new) result) (judged schema.now (rows_left self.old gone.now)) }
+        ensures err { OnErr result (self.new ≡ self.old) }
+    {
+        if schema.key.is_empty() {
+            self.columns = Shared::empty();
+            take_away(&mut self.rows, gone);
+            return Ok(());
+        }
+        if is_key_of(self.columns.as_slice(), schema) && self.order.lose(keys) {
+            take_away(&mut self.rows, gone);
+            return Ok(());
+        }
+        let mut rows = row_copies(alloc, self.rows.as_slice(), 0)?;
+        take_away(&mut rows, gone);
+        *self = KeyedRows::new(alloc, schema, Items::from_vec(rows))?;
+        Ok(())
+    }
+}
+
+// Puts new rows behind others, and their keys to those of the others.
+fn put_behind(
+    alloc: Global,
+    schema: &Schema,
+    rows: &mut Vec<Row>,
+    order: &mut KeyOrder,
+    new: Items<Row>,
+) -> Result<(), Fail<Refused>>
+    ensures { PutsBehind schema.now rows.old.items order.old new rows.new.items order.new result }
+{
+    rows.reserve(new.len())?;
+    order.grow(alloc, schema, new.as_slice())?;
+    rows.append(&mut new.into_vec())?;
+    Ok(())
 }
 
 // Whether keys are kept by these columns, and they are the key of the table.
@@ -106,14 +228,14 @@ fn is_key_of(columns: &[u32], schema: &Schema) -> bool
 }
 
 // Rows of a table without a key.
-fn without_key(alloc: Global, rows: Items<Row>) -> Result<KeyedRows, Memory>
-    ensures { IfOk result (λ keyed. keyed ≡ rows) }
+fn without_key(alloc: Global, rows: Items<Row>) -> KeyedRows
+    ensures { result ≡ rows }
 {
-    Ok(KeyedRows {
-        rows: Shared::new(alloc, rows)?,
+    KeyedRows {
+        rows: rows.into_vec(),
         columns: Shared::empty(),
-        order: KeyOrder::empty(),
-    })
+        order: KeyOrder::empty(alloc),
+    }
 }
 
 // Rows of which the keys of the first `old` ones are in `order`.
@@ -131,7 +253,7 @@ fn with_new_keys(
 {
     let order = order.grown(alloc, schema, rows_from(rows.as_slice(), old))?;
     Ok(KeyedRows {
-        rows: Shared::new(alloc, rows)?,
+        rows: rows.into_vec(),
         columns: copied_columns(alloc, schema.key.as_slice())?,
         order,
     })

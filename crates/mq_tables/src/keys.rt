@@ -1,9 +1,10 @@
 //! The keys of rows.
 ghost use Rattle.std.specs.Prelude.{◌≡◌, IfOk};
 ghost use Rattle.mq_ir.specs.Changes as spec;
+ghost use Rattle.mq_tables.specs.Drafts as drafts;
 
 use crate::scopes::value_at;
-use mq_ir::{Row, Schema};
+use mq_ir::{Expr, Row, Schema};
 use mq_values::{Items, Key, Memory, Shared};
 use std::alloc::Global;
 
@@ -16,4 +17,11 @@ pub fn row_key(alloc: Global, schema: &Schema, row: &Row) -> Result<Key, Memory>
         values.push(value_at(row, *column)?)?;
     }
     Shared::new(alloc, values)
+}
+
+/// Whether SET puts a value into no column of the key.
+pub fn spares_key(sets: &[(u32, Expr)], key: &[u32]) -> bool
+    ensures { result ≡ drafts.spares_key sets.now key.now }
+{
+    sets.iter().all(|set| !key.contains(&set.0))
 }

@@ -3,6 +3,7 @@
 //! It is exactly what mq_ir's `specs/Tables`, `specs/Changes` and `specs/Statement` say.
 #![tactic(auto)]
 
+mod apply;
 mod columns;
 mod drafts;
 mod key_order;
@@ -10,12 +11,14 @@ mod keyed_rows;
 mod keys;
 mod laws;
 mod row_view;
+mod rows;
 mod scopes;
 mod sizes;
 mod stage;
 mod staged;
 mod table;
 mod tables;
+mod visits;
 
 pub use laws::old_places_ascend;
 pub use row_view::RowView;

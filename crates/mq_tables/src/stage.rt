@@ -9,11 +9,12 @@ ghost use Rattle.mq_tables.specs.Staging as staging;
 
 use crate::drafts::{Draft, drafted};
 use crate::keyed_rows::KeyedRows;
+use crate::keys::spares_key;
 use crate::sizes::{judge_size, rows_added};
 use crate::staged::Staged;
 use crate::table::Table;
 use crate::tables::Tables;
-use mq_ir::{Change, Expr, Row};
+use mq_ir::{Change, Row};
 use mq_values::{Fail, Items, Refused, Words};
 use std::alloc::Global;
 
@@ -35,8 +36,8 @@ impl Tables {
     }
 }
 
-// The table that a change is of.
-fn table_of(c: &Change) -> &Words
+/// The table that a change is of.
+pub fn table_of(c: &Change) -> &Words
     ensures { result.now ≡ spec.table_of c.now }
 {
     match c {
@@ -85,11 +86,4 @@ fn keyed_rows(
         }
         Change::Delete { .. } => KeyedRows::new(alloc, schema, rows),
     }
-}
-
-// Whether SET puts a value into no column of the key.
-fn spares_key(sets: &[(u32, Expr)], key: &[u32]) -> bool
-    ensures { result ≡ drafts.spares_key sets.now key.now }
-{
-    sets.iter().all(|set| !key.contains(&set.0))
 }

@@ -2,18 +2,23 @@
 ghost use Rattle.std.specs.Prelude.{◌≡◌, [], ◌∷◌, ◌++◌, None, not, position, OnOk, OnErr};
 ghost use Rattle.std.specs.List.{filter};
 ghost use Rattle.std.specs.Option.{option_copied};
+ghost use Rattle.mq_values.specs.Answers.{Gives, result_map};
 ghost use Rattle.mq_ir.specs.Statement.{with_rows};
 ghost use Rattle.mq_ir.specs.Tables.{is_name, table_at};
 ghost use Rattle.mq_tables.specs.Held.{HaveOwnNames, RowsFit};
+ghost use Rattle.mq_tables.specs.InPlace.{applied};
 ghost use Rattle.mq_tables.specs.Rows.{row_at, rows_at};
-ghost use Rattle.mq_tables.specs.Staging.{StandsOn};
+ghost use Rattle.mq_tables.specs.Staging.{ChangeFits, StandsOn};
 
+use crate::apply::change_at;
 use crate::keyed_rows::KeyedRows;
 use crate::row_view::RowView;
+use crate::sizes::{judge_size, rows_added};
+use crate::stage::table_of;
 use crate::staged::Staged;
 use crate::table::Table;
-use mq_ir::{Row, TableDef};
-use mq_values::Memory;
+use mq_ir::{Change, Row, TableDef};
+use mq_values::{Fail, Memory, Refused};
 use std::alloc::Global;
 use std::marker::Model;
 
@@ -89,7 +94,7 @@ impl Tables {
         ensures err { OnErr result (self.new ≡ self.old) }
         ensures fit { RowsFit self.old → RowsFit self.new }
     {
-        self.tables.push(Table::new(t))?;
+        self.tables.push(Table::new(*self.tables.allocator(), t))?;
         Ok(())
     }
 
@@ -126,6 +131,23 @@ impl Tables {
         } = s;
         put_rows(&mut self.tables, table.as_str(), rows);
         counted as u64
+    }
+
+    /// Makes the change `c` where its rows stand, or says why it is refused (docs/MEANING.md, "Changes"), and answers
+    /// how many rows are counted: what `stage` and `commit` come to, one after another. No row that the change leaves
+    /// as it is is copied. After any error the tables are as before.
+    pub fn apply(&mut self, alloc: Global, c: &Change) -> Result<u64, Fail<Refused>>
+        ensures exact { Gives (result_map (λ count. (self.new, count)) result) (applied self.old c.now) }
+        ensures err { OnErr result (self.new ≡ self.old) }
+        ensures fit { RowsFit self.old → ChangeFits self.old c.now → RowsFit self.new }
+    {
+        let name = table_of(c);
+        let Some(place) = place_of(&self.tables, name.as_str()) else {
+            return Err(Fail::Cause(Refused::UnknownName(name.copy()?)));
+        };
+        judge_size(&self.tables, &self.tables[place], rows_added(c))?;
+        let counted = change_at(alloc, &mut self.tables, place, c)?;
+        Ok(counted as u64)
     }
 }
 

@@ -16,8 +16,8 @@ returns-in_err-order c =
 pub invariant_of-result : goal.invariant_of-result
 invariant_of-result c = λ n.
     let columns : c.in_ok-copied_columns.field-0 ≡ c.args.schema.now.key = c.in_ok-copied_columns.ensures ∙ c.as_slice-2.ensures in
-    subst (λ (cs : List ℕ). AreKeys (keys_by cs c.in_ok-new.field-0) c.in_ok-order.order) (sym columns)
-    (subst (λ (l : List Tuple). AreKeys (keys_by c.args.schema.now.key l) c.in_ok-order.order) (sym c.in_ok-new.ensures)
+    subst (λ (cs : List ℕ). AreKeys (keys_by cs c.into_vec.result.items) c.in_ok-order.order) (sym columns)
+    (subst (λ (l : List Tuple). AreKeys (keys_by c.args.schema.now.key l) c.in_ok-order.order) (sym c.into_vec.ensures)
     (grown_kept c.args.schema.now c.args.rows c.args.old c.args.order.now c.in_ok-order.order c.rows_from.result.now (c.rows_from.ensures ∙ ap (drop c.args.old) c.as_slice.ensures)
     c.requires.known c.in_ok-order.ensures))
 
@@ -27,4 +27,4 @@ returns c =
     (kept_apart c.args.schema.now c.args.rows c.in_ok-order.order c.requires.keyed
     (grown_kept c.args.schema.now c.args.rows c.args.old c.args.order.now c.in_ok-order.order c.rows_from.result.now (c.rows_from.ensures ∙ ap (drop c.args.old) c.as_slice.ensures)
     c.requires.known c.in_ok-order.ensures))
-    ∙ ap Ok (sym c.in_ok-new.ensures)
+    ∙ ap Ok (sym c.into_vec.ensures)

@@ -9,7 +9,7 @@ pub returns : goal.returns
 returns c =
     let key = c.is_key_of.ensures c.if-not-is_key_of.false in
     ap (λ o. unless_refused o (Ok c.args.rows))
-    (same_kept c.args.schema.now c.args.rows c.self.inside.rows c.self.inside.order c.as_slice.result.now key.0 key.1
-    (subst (λ (cs : List ℕ). AreKept cs c.self.inside.rows c.self.inside.order) (sym c.as_slice.ensures) c.self.invariant)
+    (same_kept c.args.schema.now c.args.rows c.self.inside.rows.items c.self.inside.order c.as_slice.result.now key.0 key.1
+    (subst (λ (cs : List ℕ). AreKept cs c.self.inside.rows.items c.self.inside.order) (sym c.as_slice.ensures) c.self.invariant)
     (c.requires ∙ ap (map (row_key c.args.schema.now)) (sym c.self.view_is)))
-    ∙ ap Ok (sym c.in_ok-new.ensures)
+    ∙ ap Ok (sym c.into_vec.ensures)

@@ -1,0 +1,90 @@
+-- Rows of which some are gone: those that are left come together at the front.
+use Rattle.std.proofs.Common.{◌≡◌, ℕ, ◌+◌, ◌<◌, ◌≤◌, List, [], ◌∷◌, ◌++◌, Bool, true, false, length, take, drop, get_or, set, refl, sym, ap, ◌∙◌, subst, arith, ⊎_elim, ◌⊎◌, inl, inr}
+use Rattle.std.specs.Prelude.{if◌then◌else◌}
+use Rattle.std.specs.List.{SwappedAt}
+use Rattle.std.proofs.lemmas.Bool.{cases_lt}
+use Rattle.std.proofs.lemmas.List.{append-nil, drop-drop, drop-set-lt, get_or-drop, get_or_default, length-set, length-take-le, set-set, take-set-le, take_all, take_more, take_more_set}
+use Rattle.mq_ir.specs.Keys.{Tuple}
+use Rattle.mq_tables.specs.InPlace.{rows_left}
+
+left_push : (rows : List Tuple) (gone : List Bool) (row : Tuple) (g : Bool) → length gone ≡ length rows → rows_left (rows ++ row ∷ []) (gone ++ g ∷ []) ≡ rows_left rows gone ++ (if g then [] else row ∷ [])
+left_push [] [] row true h = refl
+left_push [] [] row false h = refl
+left_push [] (g ∷ gone) row f h = absurd (cc)
+left_push (r ∷ rows) [] row g h = absurd (cc)
+left_push (r ∷ rows) (true ∷ gone) row g h = left_push rows gone row g (omega (arith, h))
+left_push (r ∷ rows) (false ∷ gone) row g h = ap (λ l. r ∷ l) (left_push rows gone row g (omega (arith, h)))
+
+-- the first `at` rows were looked at, and those of them that are left stand in the first `kept` places; the others are as they were
+pub record Leaving (rows : List Tuple) (gone : List Bool) (now : List Tuple) (kept at : ℕ) : Type 0 where
+  pub front : take kept now ≡ rows_left (take at rows) (take at gone)
+  pub rest : drop at now ≡ drop at rows
+  pub behind : kept ≤ at
+  pub long : length now ≡ length rows
+
+pub leaving_start : (rows now : List Tuple) (gone : List Bool) → now ≡ rows → Leaving rows gone now 0 0
+leaving_start rows now gone e = record { front = refl; rest = e; behind = omega arith; long = ap length e }
+
+module _ (rows : List Tuple) (gone : List Bool) (told : length gone ≡ length rows) (now : List Tuple) (kept at : ℕ) (l : Leaving rows gone now kept at) (here : at < length gone) where
+  within : at < length rows
+  within = omega (arith, told, here)
+
+  more : (row : Tuple) (g : Bool) → row ≡ get_or rows at row → get_or gone at false ≡ g → rows_left (take (at + 1) rows) (take (at + 1) gone) ≡ take kept now ++ (if g then [] else row ∷ [])
+  more row g r e =
+      ap (λ x. rows_left x (take (at + 1) gone)) (take_more rows at row within ∙ ap (λ x. take at rows ++ x ∷ []) (sym r))
+      ∙ ap (rows_left (take at rows ++ row ∷ [])) (take_more gone at false here ∙ ap (λ x. take at gone ++ x ∷ []) e)
+      ∙ left_push (take at rows) (take at gone) row g (length-take-le at gone (omega (arith, here)) ∙ sym (length-take-le at rows (omega (arith, within))))
+      ∙ ap (λ x. x ++ (if g then [] else row ∷ [])) (sym l.front)
+
+  same_here : (d : Tuple) → get_or now at d ≡ get_or rows at d
+  same_here d = at_start now ∙ ap (λ x. get_or x 0 d) l.rest ∙ sym (at_start rows)
+    where
+      at_start : (xs : List Tuple) → get_or xs at d ≡ get_or (drop at xs) 0 d
+      at_start xs = ap (λ n. get_or xs n d) (let e : at ≡ at + 0 = omega arith in e) ∙ sym (get_or-drop at xs 0 d)
+
+  one_less : drop (at + 1) now ≡ drop (at + 1) rows
+  one_less = sym (drop-drop 1 at now) ∙ ap (drop 1) l.rest ∙ drop-drop 1 at rows
+
+  pub leaving_gone : get_or gone at false ≡ true → Leaving rows gone now kept (at + 1)
+  leaving_gone e = record {
+    front = sym (more (get_or rows at []) true (get_or_default rows at [] (get_or rows at []) within) e ∙ append-nil (take kept now));
+    rest = one_less;
+    behind = let b = l.behind in omega (arith, b);
+    long = l.long;
+  }
+
+  inside : kept < length now
+  inside = let b = l.behind in let n = l.long in omega (arith, b, n, within)
+
+  module _ (after : List Tuple) (row other : Tuple) (r : row ≡ get_or rows at row) (o : other ≡ get_or now kept row) (s : after ≡ set (set now kept row) at other) where
+    put_there : (kept < at) ⊎ (at ≤ kept) → take (kept + 1) after ≡ take kept now ++ row ∷ []
+    put_there (inl h) = ap (take (kept + 1)) s ∙ take-set-le (kept + 1) (set now kept row) at other (omega (arith, h)) ∙ take_more_set now kept row inside
+    put_there (inr h) =
+        ap (take (kept + 1)) (s ∙ ap (λ n. set (set now kept row) n other) (sym e) ∙ set-set now kept row other ∙ ap (set now kept) same)
+        ∙ take_more_set now kept row inside
+      where
+        e : kept ≡ at
+        e = let b = l.behind in omega (arith, b, h)
+
+        same : other ≡ row
+        same = o ∙ ap (λ n. get_or now n row) e ∙ same_here row ∙ sym r
+    swapped : get_or gone at false ≡ false → Leaving rows gone after (kept + 1) (at + 1)
+    swapped e = record {
+      front = put_there (cases_lt kept at) ∙ sym (more row false r e);
+      rest =
+          ap (drop (at + 1)) s
+          ∙ drop-set-lt (at + 1) (set now kept row) at other (omega arith)
+          ∙ drop-set-lt (at + 1) now kept row (let b = l.behind in omega (arith, b))
+          ∙ one_less;
+      behind = let b = l.behind in omega (arith, b);
+      long = ap length s ∙ length-set (set now kept row) at other ∙ length-set now kept row ∙ l.long;
+    }
+
+  pub leaving_kept : (after : List Tuple) → SwappedAt now after kept at → get_or gone at false ≡ false → Leaving rows gone after (kept + 1) (at + 1)
+  leaving_kept after s =
+      let row = get_or now at [] in
+      swapped after row (get_or now kept []) (same_here [] ∙ get_or_default rows at [] row within) (get_or_default now kept [] row inside) (s.3 [])
+
+pub leaving_end : (rows : List Tuple) (gone : List Bool) (now : List Tuple) (kept at : ℕ) → length gone ≡ length rows → length gone ≤ at → Leaving rows gone now kept at → take kept now ≡ rows_left rows gone
+leaving_end rows gone now kept at t h l =
+    l.front ∙ ap (λ x. rows_left x (take at gone)) (take_all at rows (omega (arith, t, h))) ∙ ap (rows_left rows) (take_all at gone h)
