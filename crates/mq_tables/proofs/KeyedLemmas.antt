@@ -13,9 +13,11 @@ use Rattle.mq_ir.specs.declared.statement.Schema.{Schema}
 use Rattle.mq_ir.specs.Changes.{first_repeated, key_fault, row_key}
 use Rattle.mq_ir.specs.Keys.{Tuple, is_among, is_same}
 use Rattle.mq_ir.specs.Statement.{unless_refused}
-use Rattle.mq_tables.specs.KeyOrder.{AreKept, AreKeys, Grows, HoldsBoth, judged, keys_by}
+use Rattle.mq_tables.specs.InPlace.{rows_gone, rows_left}
+use Rattle.mq_tables.specs.KeyOrder.{AreKept, AreKeys, Grows, HoldsBoth, Loses, judged, keys_by}
 use Rattle.mq_tables.proofs.KeyLemmas.{keyed_fault, no_key, repeated_alike}
 use Rattle.mq_tables.proofs.KeyOrderLemmas.{among_both, moved, or_false}
+use Rattle.mq_tables.proofs.LoseLemmas.{left_kept}
 
 -- keys of which the first ones repeat none
 behind : (earlier other a b : List Tuple) → first_repeated earlier a ≡ None → ((q : Tuple) → is_among other q ≡ (is_among a q || is_among earlier q))
@@ -129,3 +131,16 @@ module _ (schema : Schema) (before order : List Tuple) (columns : List ℕ) (som
 
     pub put_refused : (e : Refused) → option_map refused.DuplicateKey (first_repeated order (map (row_key schema) new)) ≡ Some e → judged schema (before ++ new) ≡ Err e
     put_refused e h = grown_exit schema (before ++ new) (length before) order new (fail.Cause e) new_is keyed first_known h
+
+  -- some of them are gone
+  module _ (gone : List Bool) (told : length gone ≡ length before) (keys : List Tuple) (theirs : keys ≡ map (row_key schema) (rows_gone before gone)) where
+    left_known : (all : List Tuple) → Loses order keys all → AreKeys (map (row_key schema) (rows_left before gone)) all
+    left_known all lost =
+        left_kept (row_key schema) before gone order all told (subst (λ (cs : List ℕ). AreKeys (keys_by cs before) order) key (kept some))
+        (subst (λ (ks : List Tuple). Loses order ks all) theirs lost)
+
+    pub lost_kept : (after all : List Tuple) → after ≡ rows_left before gone → Loses order keys all → AreKept columns after all
+    lost_kept after all e lost = subst (λ (rows : List Tuple). AreKept columns rows all) (sym e) (of_key (rows_left before gone) all (left_known all lost))
+
+    pub lost_judged : (after all : List Tuple) → after ≡ rows_left before gone → Loses order keys all → judged schema (rows_left before gone) ≡ Ok after
+    lost_judged after all e lost = none_repeats (rows_left before gone) all (left_known all lost) ∙ ap Ok (sym e)

@@ -1,11 +1,17 @@
 -- Rows of which some are gone: those that are left come together at the front.
-use Rattle.std.proofs.Common.{◌≡◌, ℕ, ◌+◌, ◌<◌, ◌≤◌, List, [], ◌∷◌, ◌++◌, Bool, true, false, length, take, drop, get_or, set, refl, sym, ap, ◌∙◌, subst, arith, ⊎_elim, ◌⊎◌, inl, inr}
+use Rattle.std.proofs.Common.{◌≡◌, ℕ, ◌+◌, ◌<◌, ◌≤◌, List, [], ◌∷◌, ◌++◌, Bool, true, false, length, map, take, drop, get_or, set, Result, Ok, Err, refl, sym, ap, ◌∙◌, arith, ◌⊎◌, inl, inr}
 use Rattle.std.specs.Prelude.{if◌then◌else◌}
-use Rattle.std.specs.List.{SwappedAt}
+use Rattle.std.specs.List.{SwappedAt, enumerate_from}
 use Rattle.std.proofs.lemmas.Bool.{cases_lt}
-use Rattle.std.proofs.lemmas.List.{append-nil, drop-drop, drop-set-lt, get_or-drop, get_or_default, length-set, length-take-le, set-set, take-set-le, take_all, take_more, take_more_set}
+use Rattle.std.proofs.lemmas.List.{append-nil, drop-drop, drop-set-lt, get_or-drop, get_or_default, length-set, length-take-le, map_push, set-set, take-set-le, take_all, take_more, take_more_set}
+use Rattle.mq_values.specs.declared.faults.Refused.{Refused}
+use Rattle.mq_ir.specs.declared.statement.Schema.{Schema}
+use Rattle.mq_ir.specs.Changes.{Visited, row_key, visited_as}
 use Rattle.mq_ir.specs.Keys.{Tuple}
-use Rattle.mq_tables.specs.InPlace.{rows_left}
+use Rattle.mq_ir.specs.Results.{◌>>=◌, each}
+use Rattle.mq_tables.specs.InPlace.{gone, rows_left}
+use Rattle.mq_tables.proofs.VisitLemmas.{chosen_push, chosen_same}
+use Rattle.mq_tables.proofs.Walks.{Numbered, number_next, number_end, number_fault}
 
 left_push : (rows : List Tuple) (gone : List Bool) (row : Tuple) (g : Bool) → length gone ≡ length rows → rows_left (rows ++ row ∷ []) (gone ++ g ∷ []) ≡ rows_left rows gone ++ (if g then [] else row ∷ [])
 left_push [] [] row true h = refl
@@ -88,3 +94,44 @@ module _ (rows : List Tuple) (gone : List Bool) (told : length gone ≡ length r
 pub leaving_end : (rows : List Tuple) (gone : List Bool) (now : List Tuple) (kept at : ℕ) → length gone ≡ length rows → length gone ≤ at → Leaving rows gone now kept at → take kept now ≡ rows_left rows gone
 leaving_end rows gone now kept at t h l =
     l.front ∙ ap (λ x. rows_left x (take at gone)) (take_all at rows (omega (arith, t, h))) ∙ ap (rows_left rows) (take_all at gone h)
+
+-- ---- rows that DELETE visits as true
+module _ (schema : Schema) (f : ℕ × Tuple → Result Visited Refused) (xs : List Tuple) where
+  -- the first i rows were visited, and it is told which of them as true, and the keys of these
+  pub record Taking (i : ℕ) (flags : List Bool) (keys : List Tuple) : Type 0 where
+    pub visited : List Visited
+    pub walk : Numbered f xs i visited
+    pub flags_are : flags ≡ map (λ (row : Visited). row.1) visited
+    pub keys_are : keys ≡ map (row_key schema) (visited_as true visited)
+
+  module _ (i : ℕ) (flags after : List Bool) (keys : List Tuple) (x : Tuple) (h : i < length xs) (e : x ≡ get_or xs i x) (t : Taking i flags keys) where
+    next : (b : Bool) (more : List Tuple) → f (i + 1, x) ≡ Ok (x, b) → after ≡ flags ++ b ∷ [] → more ≡ map (row_key schema) (visited_as true (t.visited ++ (x, b) ∷ [])) → Taking (i + 1) after more
+    next b more g a k =
+        let vs = t.visited in
+        record {
+          visited = vs ++ (x, b) ∷ [];
+          walk = number_next f xs i vs (vs ++ (x, b) ∷ []) x (x, b) h e g refl t.walk;
+          flags_are = a ∙ ap (λ l. l ++ b ∷ []) t.flags_are ∙ sym (map_push (λ (row : Visited). row.1) vs (x, b));
+          keys_are = k;
+        }
+
+    pub taking_gone : (more : List Tuple) (key : Tuple) → f (i + 1, x) ≡ Ok (x, true) → after ≡ flags ++ true ∷ [] → key ≡ row_key schema x → more ≡ keys ++ key ∷ [] → Taking (i + 1) after more
+    taking_gone more key g a k m =
+        next true more g a
+        (m
+        ∙ ap (λ (l : List Tuple). l ++ key ∷ []) t.keys_are
+        ∙ ap (λ (q : Tuple). map (row_key schema) (visited_as true t.visited) ++ q ∷ []) k
+        ∙ sym (ap (map (row_key schema)) (chosen_push t.visited x) ∙ map_push (row_key schema) (visited_as true t.visited) x))
+
+    pub taking_left : f (i + 1, x) ≡ Ok (x, false) → after ≡ flags ++ false ∷ [] → Taking (i + 1) after keys
+    taking_left g a = next false keys g a (t.keys_are ∙ sym (ap (map (row_key schema)) (chosen_same t.visited x)))
+
+  pub taking_fault : (i : ℕ) (flags : List Bool) (keys : List Tuple) (x : Tuple) (fault : Refused) → i < length xs → x ≡ get_or xs i x → f (i + 1, x) ≡ Err fault → Taking i flags keys
+      → (each f (enumerate_from 1 xs) >>= (λ visited. Ok (gone schema visited))) ≡ Err fault
+  taking_fault i flags keys x fault h e g t = ap (λ r. r >>= (λ visited. Ok (gone schema visited))) (number_fault f xs i t.visited x fault h e g t.walk)
+
+  pub taking_end : (i : ℕ) (flags : List Bool) (keys : List Tuple) → length xs ≤ i → Taking i flags keys → (each f (enumerate_from 1 xs) >>= (λ visited. Ok (gone schema visited))) ≡ Ok (record { flags = flags; keys = keys })
+  taking_end i flags keys h t =
+      ap (λ r. r >>= (λ visited. Ok (gone schema visited))) (number_end f xs i t.visited h t.walk)
+      ∙ ap (λ l. Ok (record { flags = l; keys = map (row_key schema) (visited_as true t.visited) })) (sym t.flags_are)
+      ∙ ap (λ l. Ok (record { flags = flags; keys = l })) (sym t.keys_are)

@@ -1,8 +1,16 @@
 -- Rows that are put in the place of others.
-use Rattle.std.proofs.Common.{◌≡◌, ℕ, ◌+◌, ◌<◌, ◌≤◌, List, [], ◌∷◌, ◌++◌, Bool, true, false, length, map, Option, Some, None, Result, Ok, Err, refl, sym, ap, ◌∙◌, arith}
+use Rattle.std.proofs.Common.{◌≡◌, ℕ, ◌+◌, ◌<◌, ◌≤◌, get_or, List, [], ◌∷◌, ◌++◌, Bool, true, false, length, map, Option, Some, None, Result, Ok, Err, refl, sym, ap, ◌∙◌, arith, length-append}
 use Rattle.std.specs.Prelude.{if◌then◌else◌, slice_set}
+use Rattle.std.specs.List.{enumerate_from, filter}
+use Rattle.std.proofs.lemmas.List.Elements.{filter-append}
+use Rattle.std.proofs.lemmas.List.{append-nil, map_push}
+use Rattle.mq_values.specs.declared.faults.Refused.{Refused}
+use Rattle.mq_ir.specs.Changes.{Visited}
 use Rattle.mq_ir.specs.Keys.{Tuple}
-use Rattle.mq_tables.specs.InPlace.{put_at}
+use Rattle.mq_ir.specs.Results.{◌>>=◌, each}
+use Rattle.mq_tables.specs.InPlace.{if_true, put_at, replaced}
+use Rattle.mq_tables.proofs.VisitLemmas.{enumerate_push}
+use Rattle.mq_tables.proofs.Walks.{Numbered, number_start, number_next, number_end, number_fault}
 
 put_before : (puts : List (ℕ × Tuple)) (put : ℕ × Tuple) (rows : List Tuple) → put_at (puts ++ put ∷ []) rows ≡ put_at puts (slice_set rows put.0 put.1)
 put_before [] put rows = refl
@@ -13,3 +21,79 @@ pub put_next : (puts rest : List (ℕ × Tuple)) (place : ℕ) (row : Tuple) (ro
     → put_at puts rows ≡ all → put_at rest after ≡ all
 put_next puts rest place row rows after all p a h =
     ap (put_at rest) a ∙ sym (put_before rest (place, row) rows) ∙ ap (λ l. put_at l rows) (sym p) ∙ h
+
+-- ---- rows that UPDATE visits as true
+abbrev chosen_at : ℕ × Visited → Bool
+chosen_at row = row.1.1
+
+abbrev with_place : ℕ × Visited → ℕ × Tuple
+with_place row = (row.0, row.1.0)
+
+replaced_push : (vs : List Visited) (v : Visited) (n : ℕ) → length vs ≡ n → replaced (vs ++ v ∷ []) ≡ replaced vs ++ (if v.1 then (n, v.0) ∷ [] else [])
+replaced_push vs v n e =
+    ap (λ l. map with_place (filter chosen_at l)) (enumerate_push 0 vs v)
+    ∙ ap (map with_place) (filter-append chosen_at (enumerate_from 0 vs) ((0 + length vs, v) ∷ []))
+    ∙ by v.1 (omega (arith, e))
+  where
+    by : (b : Bool) → 0 + length vs ≡ n → map with_place (filter chosen_at (enumerate_from 0 vs) ++ (if b then (0 + length vs, v) ∷ [] else [])) ≡ replaced vs ++ (if b then (n, v.0) ∷ [] else [])
+    by true m = map_push with_place (filter chosen_at (enumerate_from 0 vs)) (0 + length vs, v) ∙ ap (λ k. replaced vs ++ (k, v.0) ∷ []) m
+    by false m = ap (map with_place) (append-nil (filter chosen_at (enumerate_from 0 vs))) ∙ sym (append-nil (replaced vs))
+
+module _ (f : ℕ × Tuple → Result Visited Refused) (xs : List Tuple) where
+  -- the first i rows were visited, and those that were visited as true are told with their places
+  pub record Replacing (i : ℕ) (puts : List (ℕ × Tuple)) : Type 0 where
+    pub visited : List Visited
+    pub walk : Numbered f xs i visited
+    pub count : length visited ≡ i
+    pub puts_are : puts ≡ replaced visited
+
+  pub replacing_start : (puts : List (ℕ × Tuple)) → puts ≡ [] → Replacing 0 puts
+  replacing_start puts e = record { visited = []; walk = number_start f xs [] refl; count = refl; puts_are = e }
+
+  -- what a visit comes to, where only a row that is visited as true is told
+  abbrev told : ℕ × Tuple → Result (Option Tuple) Refused
+  told row = f row >>= (λ v. Ok (if_true v))
+
+  module _ (i : ℕ) (puts : List (ℕ × Tuple)) (x : Tuple) (h : i < length xs) (e : x ≡ get_or xs i x) (r : Replacing i puts) where
+    next : (after : List (ℕ × Tuple)) (y : Tuple) (b : Bool) → f (i + 1, x) ≡ Ok (y, b) → after ≡ puts ++ (if b then (i, y) ∷ [] else []) → Replacing (i + 1) after
+    next after y b g a =
+        let vs = r.visited in
+        record {
+          visited = vs ++ (y, b) ∷ [];
+          walk = number_next f xs i vs (vs ++ (y, b) ∷ []) x (y, b) h e g refl r.walk;
+          count = length-append vs ((y, b) ∷ []) ∙ (let c = r.count in omega (arith, c));
+          puts_are = a ∙ ap (λ l. l ++ (if b then (i, y) ∷ [] else [])) r.puts_are ∙ sym (replaced_push vs (y, b) i r.count);
+        }
+
+    pub replacing_some : (after : List (ℕ × Tuple)) (row : Tuple) → told (i + 1, x) ≡ Ok (Some row) → after ≡ puts ++ (i, row) ∷ [] → Replacing (i + 1) after
+    replacing_some after row g a = by (f (i + 1, x)) refl g
+      where
+        chosen : (y : Tuple) (b : Bool) → f (i + 1, x) ≡ Ok (y, b) → if_true (y, b) ≡ Some row → Replacing (i + 1) after
+        chosen y true k m = next after y true k (a ∙ ap (λ z. puts ++ (i, z) ∷ []) (let q : row ≡ y = cc in q))
+        chosen y false k m = absurd (cc)
+
+        by : (s : Result Visited Refused) → f (i + 1, x) ≡ s → (s >>= (λ v. Ok (if_true v))) ≡ Ok (Some row) → Replacing (i + 1) after
+        by (Ok (y, b)) k m = chosen y b k (let q : if_true (y, b) ≡ Some row = cc in q)
+        by (Err d) k m = absurd (cc)
+
+    pub replacing_none : told (i + 1, x) ≡ Ok None → Replacing (i + 1) puts
+    replacing_none g = by (f (i + 1, x)) refl g
+      where
+        chosen : (y : Tuple) (b : Bool) → f (i + 1, x) ≡ Ok (y, b) → if_true (y, b) ≡ None → Replacing (i + 1) puts
+        chosen y true k m = absurd (cc)
+        chosen y false k m = next puts y false k (sym (append-nil puts))
+
+        by : (s : Result Visited Refused) → f (i + 1, x) ≡ s → (s >>= (λ v. Ok (if_true v))) ≡ Ok None → Replacing (i + 1) puts
+        by (Ok (y, b)) k m = chosen y b k (let q : if_true (y, b) ≡ None = cc in q)
+        by (Err d) k m = absurd (cc)
+
+    pub replacing_fault : (fault : Refused) → told (i + 1, x) ≡ Err fault → (each f (enumerate_from 1 xs) >>= (λ visited. Ok (replaced visited))) ≡ Err fault
+    replacing_fault fault g =
+        ap (λ s. s >>= (λ visited. Ok (replaced visited))) (number_fault f xs i r.visited x fault h e (by (f (i + 1, x)) refl g) r.walk)
+      where
+        by : (s : Result Visited Refused) → f (i + 1, x) ≡ s → (s >>= (λ v. Ok (if_true v))) ≡ Err fault → f (i + 1, x) ≡ Err fault
+        by (Ok v) k m = absurd (cc)
+        by (Err d) k m = k ∙ ap Err (let q : d ≡ fault = cc in q)
+
+  pub replacing_end : (i : ℕ) (puts : List (ℕ × Tuple)) → length xs ≤ i → Replacing i puts → (each f (enumerate_from 1 xs) >>= (λ visited. Ok (replaced visited))) ≡ Ok puts
+  replacing_end i puts h r = ap (λ s. s >>= (λ visited. Ok (replaced visited))) (number_end f xs i r.visited h r.walk) ∙ ap Ok (sym r.puts_are)

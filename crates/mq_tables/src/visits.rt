@@ -23,8 +23,9 @@ pub fn replaced_rows(
 {
     let mut replaced = Items::new(alloc);
     'rows: for (at, row) in rows.iter().enumerate() {
-        if let Some(row) = replaced_row(alloc, schema, sets, filter, at as u32 + 1, row)? {
-            replaced.push((at as u32, row))?;
+        match replaced_row(alloc, schema, sets, filter, at as u32 + 1, row)? {
+            Some(row) => replaced.push((at as u32, row))?,
+            None => {}
         }
     }
     Ok(replaced)
