@@ -1,3 +1,4 @@
+pub mod ApplyLemmas
 pub mod FitLemmas
 pub mod HeldLemmas
 pub mod JudgeLemmas

@@ -62,7 +62,7 @@ columns_set p f (set ∷ sets) values h e =
     both_true (p y.0) (list_all (λ set. p set.0) ys) (ap p (column_is (f set) set.0 y a) ∙ and_left (p set.0) (list_all (λ set. p set.0) sets) h)
     (columns_set p f sets ys (and_right (p set.0) (list_all (λ set. p set.0) sets) h) b))
 
-row_spared : (schema : Schema) (sets : List (ℕ × Expr)) (filter : Option Expr) → spares_key sets schema.key ≡ true
+pub row_spared : (schema : Schema) (sets : List (ℕ × Expr)) (filter : Option Expr) → spares_key sets schema.key ≡ true
     → (n : ℕ) (row : Tuple) (v : Visited) → updated_row schema sets filter (n, row) ≡ Ok v → row_key schema v.0 ≡ row_key schema row
 row_spared schema sets filter s n row v h = by (is_chosen filter (n, row)) h
   where
@@ -81,7 +81,7 @@ row_spared schema sets filter s n row v h = by (is_chosen filter (n, row)) h
     by (Ok false) g = let q : (row, false) ≡ v = cc in ap (λ (w : Visited). row_key schema w.0) (sym q)
     by (Err d) g = absurd (cc)
 
-rows_spared : (key : Tuple → Tuple) (f : ℕ × Tuple → Result Visited Refused) → ((n : ℕ) (row : Tuple) (v : Visited) → f (n, row) ≡ Ok v → key v.0 ≡ key row)
+pub rows_spared : (key : Tuple → Tuple) (f : ℕ × Tuple → Result Visited Refused) → ((n : ℕ) (row : Tuple) (v : Visited) → f (n, row) ≡ Ok v → key v.0 ≡ key row)
     → (n : ℕ) (xs : List Tuple) (vs : List Visited) → each f (enumerate_from n xs) ≡ Ok vs → map key (map (λ row. row.0) vs) ≡ map key xs
 rows_spared key f s n [] vs h = each_nil f vs (λ vs. map key (map (λ row. row.0) vs) ≡ []) h refl
 rows_spared key f s n (x ∷ xs) vs h =

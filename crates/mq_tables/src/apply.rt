@@ -79,9 +79,9 @@ fn update(
     let count = puts.len();
     if spares_key(sets, schema.key.as_slice()) {
         table.put_same_keys(alloc, puts)?;
-    } else {
-        table.put(alloc, puts)?;
+        return Ok(count);
     }
+    table.put(alloc, puts)?;
     Ok(count)
 }
 
