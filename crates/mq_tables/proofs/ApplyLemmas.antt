@@ -21,7 +21,7 @@ use Rattle.mq_tables.proofs.FitLemmas.{deleted_is, each_cons, each_length, each_
 use Rattle.mq_tables.proofs.SparedLemmas.{row_spared, rows_spared}
 use Rattle.mq_tables.proofs.Walks.{exit}
 
-some_is : {A B E : Type 0} (r : Result A E) (g : A → B) (y : B) → (r >>= (λ x. Ok (g x))) ≡ Ok y → (x : A) × (r ≡ Ok x) × (g x ≡ y)
+pub some_is : {A B E : Type 0} (r : Result A E) (g : A → B) (y : B) → (r >>= (λ x. Ok (g x))) ≡ Ok y → (x : A) × (r ≡ Ok x) × (g x ≡ y)
 some_is (Ok x) g y h = (x, refl, (let q : g x ≡ y = cc in q))
 some_is (Err e) g y h = absurd (cc)
 

@@ -62,7 +62,7 @@ size_refused tables seen change name t added e n h q a s =
     ∙ ap (λ o. unless_refused o (drafted t change >>= keyed t))
     (ap (λ (ts : Tables). size_fault ts t (rows_added change)) (sym q) ∙ ap (size_fault seen t) (sym a) ∙ judged_some (size_fault seen t added) e s)
 
-after_size : (tables : Tables) (change : Change) (name : List ℕ) (t : Table) → name ≡ table_of change → table_at tables name ≡ Some t → size_fault tables t (rows_added change) ≡ None
+pub after_size : (tables : Tables) (change : Change) (name : List ℕ) (t : Table) → name ≡ table_of change → table_at tables name ≡ Some t → size_fault tables t (rows_added change) ≡ None
     → staging tables change ≡ (drafted t change >>= keyed t)
 after_size tables change name t n h s =
     of_table tables change t (ap (table_at tables) (sym n) ∙ h) ∙ ap (λ o. unless_refused o (drafted t change >>= keyed t)) s

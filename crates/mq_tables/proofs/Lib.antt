@@ -1,3 +1,4 @@
+pub mod AppliedLemmas
 pub mod ApplyLemmas
 pub mod FitLemmas
 pub mod HeldLemmas
