@@ -5,13 +5,12 @@
 
 mod rows;
 
-use mq_tables::Tables;
 use std::alloc::AllocError;
 use std::io::{self, Write};
 
 fn main(rt: HostRuntime) -> io::Result<()> {
     let mut out = io::writer(&rt);
-    let mut tables = Tables::new(rt.alloc());
+    let mut tables = rows::Ways::new(rt.alloc());
     for line in rt.lines(rt.alloc()) {
         let Ok(mut row) = rows::answered(rt.alloc(), &mut tables, line?.as_str()) else {
             return Err(AllocError.into());

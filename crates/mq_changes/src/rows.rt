@@ -1,5 +1,6 @@
 //! A row of the table: what is asked, and of what, with tabs between them.
 
+use mq_ir::Change;
 use mq_notation::answers::{add, add_number};
 use mq_notation::changes::change;
 use mq_notation::lists::add_keys;
@@ -8,12 +9,33 @@ use mq_notation::notation::{Read, no_tree};
 use mq_notation::schemas::table;
 use mq_render::refusal_text;
 use mq_tables::{Staged, TableSet, Tables};
-use mq_values::{Fail, Memory, print};
+use mq_values::{Fail, Memory, Refused, print};
 use std::alloc::Global;
+
+/// The same tables, in each way in which a change is made: staged and committed, made in place, and the one and the
+/// other in turn.
+#[derive(Drop)]
+pub(crate) struct Ways {
+    staged: Tables,
+    in_place: Tables,
+    in_turn: Tables,
+    is_turned: bool,
+}
+
+impl Ways {
+    pub(crate) fn new(alloc: Global) -> Ways {
+        Ways {
+            staged: Tables::new(alloc),
+            in_place: Tables::new(alloc),
+            in_turn: Tables::new(alloc),
+            is_turned: false,
+        }
+    }
+}
 
 /// The row, and behind a tab what came of it. A row without a tab stays as it is, and so does one that creates or
 /// removes a table.
-pub(crate) fn answered(alloc: Global, tables: &mut Tables, row: &str) -> Result<Vec<u8>, Memory> {
+pub(crate) fn answered(alloc: Global, tables: &mut Ways, row: &str) -> Result<Vec<u8>, Memory> {
     let mut answer = Vec::new(alloc);
     add(row, &mut answer)?;
     let Some((asked, text)) = row.split_once('\t') else {
@@ -31,22 +53,28 @@ pub(crate) fn answered(alloc: Global, tables: &mut Tables, row: &str) -> Result<
 
 fn add_answer(
     alloc: Global,
-    tables: &mut Tables,
+    tables: &mut Ways,
     asked: &str,
     text: &str,
     answer: &mut Vec<u8>,
 ) -> Read<()> {
     match asked {
-        "table" => add_table(alloc, tables, text),
+        "table" => {
+            add_table(alloc, &mut tables.staged, text)?;
+            add_table(alloc, &mut tables.in_place, text)?;
+            add_table(alloc, &mut tables.in_turn, text)
+        }
         "remove" => {
-            tables.remove(text);
+            tables.staged.remove(text);
+            tables.in_place.remove(text);
+            tables.in_turn.remove(text);
             Ok(())
         }
-        "rows" => Ok(add_rows(tables, text, answer)?),
-        "row" => add_row(tables, text, answer),
+        "rows" => Ok(add_rows(&tables.in_place, text, answer)?),
+        "row" => add_row(&tables.in_place, text, answer),
         "has" => {
             add(
-                if tables.table(text).is_some() {
+                if tables.in_place.table(text).is_some() {
                     "\tyes"
                 } else {
                     "\tno"
@@ -96,10 +124,10 @@ fn add_row(tables: &Tables, text: &str, answer: &mut Vec<u8>) -> Read<()> {
     Ok(())
 }
 
-// A change that is staged and, where it is not refused, committed: how many rows are counted, and where the rows come from.
+// A change, made in each way: where the rows come from, and how many are counted. It is said where the ways differ.
 fn add_changed(
     alloc: Global,
-    tables: &mut Tables,
+    tables: &mut Ways,
     asked: &str,
     text: &str,
     answer: &mut Vec<u8>,
@@ -109,17 +137,65 @@ fn add_changed(
     };
     let change = change(alloc, asked, name, rest)?;
     add("\t", answer)?;
-    match tables.stage(alloc, change.get()) {
-        Ok(staged) => {
-            add_origins(&staged, answer)?;
-            Ok(add_number(tables.commit(staged), answer)?)
-        }
+    let staged = outcome(
+        alloc,
+        committed(alloc, &mut tables.staged, change.get(), answer),
+    )?;
+    answer.extend_from_slice(&staged)?;
+    let in_place = outcome(alloc, tables.in_place.apply(alloc, change.get()))?;
+    if in_place != staged || !have_same_rows(&tables.staged, &tables.in_place, name) {
+        add(" IN PLACE ", answer)?;
+        answer.extend_from_slice(&in_place)?;
+    }
+    let in_turn = outcome(alloc, turned(alloc, tables, change.get()))?;
+    if in_turn != staged || !have_same_rows(&tables.staged, &tables.in_turn, name) {
+        add(" IN TURN ", answer)?;
+        answer.extend_from_slice(&in_turn)?;
+    }
+    Ok(())
+}
+
+// A change that is staged and, where it is not refused, committed; and the old places of the new rows.
+fn committed(
+    alloc: Global,
+    tables: &mut Tables,
+    change: &Change,
+    answer: &mut Vec<u8>,
+) -> Result<u64, Fail<Refused>> {
+    let staged = tables.stage(alloc, change)?;
+    add_origins(&staged, answer)?;
+    Ok(tables.commit(staged))
+}
+
+// A change that is staged and committed, or made in place, whatever was not done last.
+fn turned(alloc: Global, tables: &mut Ways, change: &Change) -> Result<u64, Fail<Refused>> {
+    tables.is_turned = !tables.is_turned;
+    if tables.is_turned {
+        return tables.in_turn.apply(alloc, change);
+    }
+    let staged = tables.in_turn.stage(alloc, change)?;
+    Ok(tables.in_turn.commit(staged))
+}
+
+// The number of rows that are counted, or the line of the refusal.
+fn outcome(alloc: Global, result: Result<u64, Fail<Refused>>) -> Read<Vec<u8>> {
+    let mut text = Vec::new(alloc);
+    match result {
+        Ok(count) => add_number(count, &mut text)?,
         Err(Fail::Cause(refused)) => {
-            refusal_text(1, &refused, answer)?;
-            answer.pop();
-            Ok(())
+            refusal_text(1, &refused, &mut text)?;
+            text.pop();
         }
-        Err(Fail::Memory) => Err(Fail::Memory),
+        Err(Fail::Memory) => return Err(Fail::Memory),
+    }
+    Ok(text)
+}
+
+fn have_same_rows(some: &Tables, others: &Tables, name: &str) -> bool {
+    match (some.rows(name), others.rows(name)) {
+        (Some(a), Some(b)) => a == b,
+        (None, None) => true,
+        _ => false,
     }
 }
 

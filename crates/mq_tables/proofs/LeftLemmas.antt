@@ -28,9 +28,6 @@ pub record Leaving (rows : List Tuple) (gone : List Bool) (now : List Tuple) (ke
   pub behind : kept ≤ at
   pub long : length now ≡ length rows
 
-pub leaving_start : (rows now : List Tuple) (gone : List Bool) → now ≡ rows → Leaving rows gone now 0 0
-leaving_start rows now gone e = record { front = refl; rest = e; behind = omega arith; long = ap length e }
-
 module _ (rows : List Tuple) (gone : List Bool) (told : length gone ≡ length rows) (now : List Tuple) (kept at : ℕ) (l : Leaving rows gone now kept at) (here : at < length gone) where
   within : at < length rows
   within = omega (arith, told, here)
@@ -74,6 +71,7 @@ module _ (rows : List Tuple) (gone : List Bool) (told : length gone ≡ length r
 
         same : other ≡ row
         same = o ∙ ap (λ n. get_or now n row) e ∙ same_here row ∙ sym r
+
     swapped : get_or gone at false ≡ false → Leaving rows gone after (kept + 1) (at + 1)
     swapped e = record {
       front = put_there (cases_lt kept at) ∙ sym (more row false r e);
@@ -90,10 +88,6 @@ module _ (rows : List Tuple) (gone : List Bool) (told : length gone ≡ length r
   leaving_kept after s =
       let row = get_or now at [] in
       swapped after row (get_or now kept []) (same_here [] ∙ get_or_default rows at [] row within) (get_or_default now kept [] row inside) (s.3 [])
-
-pub leaving_end : (rows : List Tuple) (gone : List Bool) (now : List Tuple) (kept at : ℕ) → length gone ≡ length rows → length gone ≤ at → Leaving rows gone now kept at → take kept now ≡ rows_left rows gone
-leaving_end rows gone now kept at t h l =
-    l.front ∙ ap (λ x. rows_left x (take at gone)) (take_all at rows (omega (arith, t, h))) ∙ ap (rows_left rows) (take_all at gone h)
 
 -- ---- rows that DELETE visits as true
 module _ (schema : Schema) (f : ℕ × Tuple → Result Visited Refused) (xs : List Tuple) where

@@ -35,13 +35,6 @@ turned a b = ap is_eq (key_total.antisymm a b) ∙ flipped (cmp_key b a)
 pub record Losing (all gone : List Tuple) (i : ℕ) (now : List Tuple) : Type 0 where
   pub left : Loses all (take i gone) now
 
-pub losing_start : (all gone now : List Tuple) → now ≡ all → Losing all gone 0 now
-losing_start all gone now e = record { left = λ q. ap (λ l. is_among l q) e ∙ with_true (is_among all q) }
-  where
-    with_true : (a : Bool) → a ≡ (a && true)
-    with_true true = refl
-    with_true false = refl
-
 pub losing_next : (all gone now after : List Tuple) (i : ℕ) (key : Tuple) → i < length gone → key ≡ get_or gone i key
     → ((q : Tuple) → is_among after q ≡ cond (is_same key q) false (is_among now q)) → Losing all gone i now → Losing all gone (i + 1) after
 losing_next all gone now after i key h e a l = record {
@@ -66,9 +59,6 @@ losing_next all gone now after i key h e a l = record {
         ∙ ap (λ k. is_among (take i gone ++ k ∷ []) q) (sym e)
         ∙ among_both (take i gone) (key ∷ []) q
         ∙ ap (λ b. is_among (take i gone) q || b) (or_false (is_same q key) ∙ turned q key)
-
-pub losing_end : (all gone now : List Tuple) (i : ℕ) → length gone ≤ i → Losing all gone i now → Loses all gone now
-losing_end all gone now i h l q = l.left q ∙ ap (λ (g : List Tuple). is_among all q && not (is_among g q)) (take_all i gone h)
 
 -- ---- rows of which some are gone: no two of them share a key
 module _ (key : Tuple → Tuple) where

@@ -47,9 +47,6 @@ module _ (f : ℕ × Tuple → Result Visited Refused) (xs : List Tuple) where
     pub count : length visited ≡ i
     pub puts_are : puts ≡ replaced visited
 
-  pub replacing_start : (puts : List (ℕ × Tuple)) → puts ≡ [] → Replacing 0 puts
-  replacing_start puts e = record { visited = []; walk = number_start f xs [] refl; count = refl; puts_are = e }
-
   -- what a visit comes to, where only a row that is visited as true is told
   abbrev told : ℕ × Tuple → Result (Option Tuple) Refused
   told row = f row >>= (λ v. Ok (if_true v))
