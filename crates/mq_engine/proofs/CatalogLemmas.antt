@@ -1,7 +1,7 @@
 -- The names of a state, and what holds of a name that is not there.
-use Rattle.std.proofs.Common.{◌≡◌, ℕ, List, [], ◌∷◌, ◌++◌, Bool, true, false, not, ◌||◌, cond, map, Option, Some, None, Result, Ok, Err, refl, sym, ap, ◌∙◌}
+use Rattle.std.proofs.Common.{◌≡◌, ℕ, List, [], ◌∷◌, ◌++◌, Bool, true, false, not, map, Option, Some, None, Result, Err, refl, sym, ap, ◌∙◌}
 use Rattle.std.specs.Prelude.{if◌then◌else◌}
-use Rattle.std.specs.List.{filter, find, list_any}
+use Rattle.std.specs.List.{filter, find}
 use Rattle.std.specs.Option.{option_map}
 use Rattle.std.proofs.lemmas.Cmp.{nat_list_eq_equiv}
 use Rattle.mq_values.specs.declared.faults.Refused.{Refused}
@@ -9,7 +9,6 @@ use Rattle.mq_values.specs.declared.faults.Refused.TheVariants as refused
 use Rattle.mq_ir.specs.declared.catalog.Catalog.{Catalog}
 use Rattle.mq_ir.specs.declared.catalog.TableEntry.{TableEntry}
 use Rattle.mq_ir.specs.declared.catalog.ViewEntry.{ViewEntry}
-use Rattle.mq_ir.specs.Names.{is_table, is_taken, is_view}
 use Rattle.mq_ir.specs.Partitions.{Tuple}
 use Rattle.mq_ir.specs.Statement.{Printed, View, first_reader, unless_refused, with_rows}
 use Rattle.mq_ir.specs.Tables.{Table, Tables, is_name, table_at}

@@ -1,8 +1,8 @@
--- What a staged change comes to once it is committed.
+-- What a change comes to where it is staged and committed.
 use Rattle.std.proofs.Common.{◌≡◌, ℕ, List, [], ◌∷◌, ◌++◌, true, false, map, Option, Some, None, Result, Ok, Err, length, refl, sym, ap, subst, ◌∙◌}
 use Rattle.std.specs.List.{enumerate_from}
 use Rattle.std.specs.Option.{ok_or}
-use Rattle.mq_values.specs.Answers.{Gives}
+use Rattle.mq_values.specs.Answers.{Gives, result_map}
 use Rattle.mq_values.specs.declared.faults.Refused.{Refused}
 use Rattle.mq_values.specs.declared.faults.Refused.TheVariants as refused
 use Rattle.mq_values.specs.declared.memory.Fail.{Fail}
@@ -14,6 +14,7 @@ use Rattle.mq_ir.specs.Lines.{Counted}
 use Rattle.mq_ir.specs.Results.{◌>>=◌, each}
 use Rattle.mq_ir.specs.Statement.{Printed, State, View, change_step, staged, unless_refused, with_rows}
 use Rattle.mq_ir.specs.Tables.{Table, Tables, table_at}
+use Rattle.mq_tables.specs.InPlace.{applied}
 use Rattle.mq_tables.specs.Staging.{Staged, new_places, origins_of, place_unless_true, places_left, staging, stays}
 
 -- ---- where the rows can be made, their old places are known
@@ -93,13 +94,46 @@ module _ (state : State) (change : Change) where
   change_refused (fail.Cause e) h = table_fault (table_at state.tables (table_of change)) e h
   change_refused fail.Memory h = tt
 
+-- ---- what is applied is what is staged and then committed
+module _ (put : Staged → Tables) where
+  abbrev after_staging : Result Staged Refused → Result (Tables × ℕ) Refused
+  after_staging r = r >>= (λ s. Ok (put s, s.counted))
+
+  was_staged : (r : Result Staged Refused) (after : Tables) (count : ℕ) → after_staging r ≡ Ok (after, count)
+      → (s : Staged) × (r ≡ Ok s) × (after ≡ put s) × (count ≡ s.counted)
+  was_staged (Ok s) after count h = let w : (put s, s.counted) ≡ (after, count) = cc in (s, refl, sym (ap (λ (it : Tables × ℕ). it.0) w), sym (ap (λ (it : Tables × ℕ). it.1) w))
+  was_staged (Err e) after count h = absurd (cc)
+
+  was_refused : (r : Result Staged Refused) (e : Fail Refused) → Gives {T = Tables × ℕ} (Err e) (after_staging r) → Gives {T = Staged} (Err e) r
+  was_refused (Ok s) (fail.Cause e) h = absurd (cc)
+  was_refused (Err f) (fail.Cause e) h = let q : f ≡ e = cc in ap Err q
+  was_refused r fail.Memory h = tt
+
+abbrev put_in : Tables → Staged → Tables
+put_in tables s = with_rows tables s.table s.rows
+
+pub rows_are_put : (tables : Tables) (change : Change) (after : Tables) (count : ℕ) → applied tables change ≡ Ok (after, count) → (s : Staged) × (after ≡ put_in tables s)
+rows_are_put tables change after count h = let w = was_staged (put_in tables) (staging tables change) after count h in (w.0, w.2)
+
 -- ---- the same where the state is told by its parts
 module _ (tables : Tables) (views : List View) (state : State) (is : whole tables views ≡ state) (change : Change) where
-  pub committed : (s : Staged) (after : Tables) (count : ℕ) → staging tables change ≡ Ok s → after ≡ with_rows tables s.table s.rows → count ≡ s.counted
+  committed : (s : Staged) (after : Tables) (count : ℕ) → staging tables change ≡ Ok s → after ≡ with_rows tables s.table s.rows → count ≡ s.counted
       → change_step state change ≡ counted after views count
   committed s after count h a k =
       subst (λ (st : State). change_step st change ≡ counted after views count) is
       (change_done (whole tables views) change s h ∙ ap (λ (ts : Tables). counted ts views s.counted) (sym a) ∙ ap (counted after views) (sym k))
 
-  pub refused_by : (e : Fail Refused) → Gives {T = Staged} (Err e) (staging tables change) → Gives {T = Printed} (Err e) (change_step state change)
+  applied_as : (after : Tables) (count : ℕ) → applied tables change ≡ Ok (after, count) → change_step state change ≡ counted after views count
+  applied_as after count h = let w = was_staged (put_in tables) (staging tables change) after count h in committed w.0 after count w.1 w.2 w.3
+
+  refused_by : (e : Fail Refused) → Gives {T = Staged} (Err e) (staging tables change) → Gives {T = Printed} (Err e) (change_step state change)
   refused_by e h = subst (λ (st : State). Gives {T = Printed} (Err e) (change_step st change)) is (change_refused (whole tables views) change e h)
+
+  refused_as : (e : Fail Refused) → Gives {T = Tables × ℕ} (Err e) (applied tables change) → Gives {T = Printed} (Err e) (change_step state change)
+  refused_as e h = refused_by e (was_refused (put_in tables) (staging tables change) e h)
+
+  -- so an applied change is the step of a session
+  pub step_is : (r : Result ℕ (Fail Refused)) (after : Tables) → Gives (result_map (λ count. (after, count)) r) (applied tables change)
+      → Gives {T = Printed} (result_map (λ count. (whole after views, Counted count ∷ [])) r) (change_step state change)
+  step_is (Ok count) after h = applied_as after count h
+  step_is (Err e) after h = refused_as e h

@@ -1,17 +1,23 @@
 -- The catalog of a session after each change of its tables and views, and what is asked of the views.
-use Rattle.std.proofs.Common.{◌≡◌, ℕ, List, [], ◌∷◌, ◌++◌, Bool, not, map, None, sym, ap, subst, ◌∙◌}
+use Rattle.std.proofs.Common.{◌≡◌, ℕ, List, [], ◌∷◌, ◌++◌, Bool, not, map, None, Result, Ok, Err, OnErr, sym, ap, subst, ◌∙◌}
 use Rattle.std.specs.List.{All, filter}
 use Rattle.std.proofs.lemmas.List.Elements.{All-filter, All-push}
+use Rattle.mq_values.specs.Answers.{Gives, result_map}
+use Rattle.mq_values.specs.declared.faults.Refused.{Refused}
+use Rattle.mq_values.specs.declared.memory.Fail.{Fail}
 use Rattle.mq_ir.specs.declared.catalog.Catalog.{Catalog}
 use Rattle.mq_ir.specs.declared.catalog.TableEntry.{TableEntry}
 use Rattle.mq_ir.specs.declared.catalog.ViewEntry.{ViewEntry}
 use Rattle.mq_ir.specs.declared.query.BoundQuery.{BoundQuery}
+use Rattle.mq_ir.specs.declared.statement.Change.{Change}
 use Rattle.mq_ir.specs.declared.statement.Schema.{Schema}
 use Rattle.mq_ir.specs.Partitions.{Tuple}
 use Rattle.mq_ir.specs.Statement.{View, tables_read, with_rows}
 use Rattle.mq_ir.specs.Tables.{Table, Tables, is_name, table_at}
+use Rattle.mq_tables.specs.InPlace.{applied}
 use Rattle.mq_engine.specs.Catalogs.{catalog_from, entry_of_table, entry_of_view}
 use Rattle.mq_engine.specs.Queries.{IsReady}
+use Rattle.mq_engine.proofs.ChangeLemmas.{rows_are_put}
 use Rattle.mq_engine.proofs.CatalogLemmas.{entries_changed, named, removed_again, same_names}
 use Rattle.mq_engine.proofs.ListLemmas.{mapped_kept, mapped_push}
 
@@ -57,9 +63,14 @@ module _ (k : Catalog) (tables : Tables) (views : List View) (same : k ≡ catal
   views_back after entries a e = ap (λ (es : List ViewEntry). named k.tables es) e ∙ same ∙ ap (λ (vs : List View). catalog_from tables vs) (sym a)
 
   -- rows are changed
-  pub rows_put : (name : List ℕ) (rows : List Tuple) (after : Tables) → after ≡ with_rows tables name rows → k ≡ catalog_from after views
+  rows_put : (name : List ℕ) (rows : List Tuple) (after : Tables) → after ≡ with_rows tables name rows → k ≡ catalog_from after views
   rows_put name rows after a =
       same ∙ ap (λ (es : List TableEntry). named es (map entry_of_view views)) (sym (ap (map entry_of_table) a ∙ entries_changed tables name rows))
+
+  pub rows_changed : (change : Change) (r : Result ℕ (Fail Refused)) (after : Tables) → Gives (result_map (λ count. (after, count)) r) (applied tables change)
+      → OnErr r (after ≡ tables) → k ≡ catalog_from after views
+  rows_changed change (Ok count) after h e = let w = rows_are_put tables change after count h in rows_put w.0.table w.0.rows after w.1
+  rows_changed change (Err cause) after h e = same ∙ ap (λ (ts : Tables). catalog_from ts views) (sym e)
 
 -- the entries that are put there
 pub table_entry_is : (name other : List ℕ) (schema : Schema) (entry : TableEntry) → entry ≡ record { name = other; schema = schema } → other ≡ name → entry ≡ entry_of_table (record { name = name; schema = schema; rows = [] })

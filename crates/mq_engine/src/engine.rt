@@ -154,8 +154,7 @@ impl Engine {
         ensures exact { Gives (result_map (λ count. (self.new, Counted count ∷ [])) result) (spec.change_step self.old c.now) }
         ensures err { OnErr result (self.new ≡ self.old) }
     {
-        let staged = self.tables.stage(alloc, c)?;
-        Ok(self.tables.commit(staged))
+        self.tables.apply(alloc, c)
     }
 
     /// What the view of this name answers over the tables as they stand: its rows as they are printed, or its first fault.
