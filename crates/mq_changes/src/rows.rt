@@ -178,9 +178,9 @@ fn turned(alloc: Global, tables: &mut Ways, change: &Change) -> Result<u64, Fail
 }
 
 // The number of rows that are counted, or the line of the refusal.
-fn outcome(alloc: Global, result: Result<u64, Fail<Refused>>) -> Read<Vec<u8>> {
+fn outcome(alloc: Global, made: Result<u64, Fail<Refused>>) -> Read<Vec<u8>> {
     let mut text = Vec::new(alloc);
-    match result {
+    match made {
         Ok(count) => add_number(count, &mut text)?,
         Err(Fail::Cause(refused)) => {
             refusal_text(1, &refused, &mut text)?;
