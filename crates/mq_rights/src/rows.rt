@@ -4,7 +4,7 @@ use crate::models::{arrays, cell, described, model, rule};
 use crate::scene::Scene;
 use crate::shows::{add_looks, add_slot};
 use crate::stores;
-use mq_ir::{Model, RefArray};
+use mq_ir::Model;
 use mq_notation::answers::add;
 use mq_notation::lists::key;
 use mq_notation::literals::number_of;
@@ -144,7 +144,11 @@ fn add_evaluated_in_order(
     };
     let target = key(alloc, target)?;
     let turn = number_of(turn)?;
-    let order = order_of(scene, model.refs);
+    let order = InOrder {
+        base: keys_ascend(scene.shape.base.as_slice()),
+        refs: arrays_ascend(model.refs),
+        cells: keys_ascend(scene.shape.cells.as_slice()),
+    };
     let slot = eval_cell_in(
         alloc,
         rule.get(),
@@ -159,24 +163,16 @@ fn add_evaluated_in_order(
     Ok(add_slot(&slot, answer)?)
 }
 
-fn order_of(scene: &Scene, refs: &[RefArray]) -> InOrder {
-    InOrder {
-        base: keys_ascend(scene.shape.base.as_slice()),
-        refs: arrays_ascend(refs),
-        cells: keys_ascend(scene.shape.cells.as_slice()),
-    }
-}
-
 // Whether the keys of the input are in order, those of the references, and those of all cells.
 fn add_order(alloc: Global, scene: &Scene, answer: &mut Vec<u8>) -> Read<()> {
     let refs = arrays(alloc, scene.references.as_slice())?;
-    let order = order_of(scene, refs.as_slice());
     add("\tinput:", answer)?;
-    add(yes_or_no(order.base), answer)?;
+    add(yes_or_no(keys_ascend(scene.shape.base.as_slice())), answer)?;
     add(" references:", answer)?;
-    add(yes_or_no(order.refs), answer)?;
+    add(yes_or_no(arrays_ascend(refs.as_slice())), answer)?;
     add(" cells:", answer)?;
-    Ok(add(yes_or_no(order.cells), answer)?)
+    let cells = scene.shape.cells.as_slice();
+    Ok(add(yes_or_no(keys_ascend(cells)), answer)?)
 }
 
 fn yes_or_no(holds: bool) -> &'static str {
@@ -216,7 +212,11 @@ fn add_looked_at_in_order(
     };
     let target = key(alloc, target)?;
     let turn = number_of(turn)?;
-    let order = order_of(scene, model.refs);
+    let order = InOrder {
+        base: keys_ascend(scene.shape.base.as_slice()),
+        refs: arrays_ascend(model.refs),
+        cells: keys_ascend(scene.shape.cells.as_slice()),
+    };
     let looks = looks_in(
         alloc,
         rule.get(),
