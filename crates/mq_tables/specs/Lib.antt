@@ -4,5 +4,6 @@ pub mod InPlace
 pub mod KeyOrder
 pub mod OldPlaces
 pub mod Rows
+pub mod Sieves
 pub mod Sizes
 pub mod Staging
