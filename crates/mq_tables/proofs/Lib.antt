@@ -12,7 +12,6 @@ pub mod OldPlaceLemmas
 pub mod OriginLemmas
 pub mod PutLemmas
 pub mod SetLemmas
-pub mod SieveLemmas
 pub mod SparedLemmas
 pub mod StageLemmas
 pub mod StandLemmas

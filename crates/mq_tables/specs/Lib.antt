@@ -4,6 +4,5 @@ pub mod InPlace
 pub mod KeyOrder
 pub mod OldPlaces
 pub mod Rows
-pub mod Sieves
 pub mod Sizes
 pub mod Staging

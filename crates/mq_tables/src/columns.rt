@@ -6,6 +6,7 @@ ghost use Rattle.mq_ir.specs.Changes as spec;
 ghost use Rattle.mq_ir.specs.Results.{marked};
 ghost use Rattle.mq_ir.specs.Unfolding.{converted as spec_converted};
 ghost use Rattle.mq_tables.specs.Drafts.{asked_for_null, column_found, row_set, set_value as spec_set_value};
+ghost use Rattle.mq_tables.specs.InPlace.{row_replaced};
 
 use crate::rows::put;
 use crate::scopes::{NoRow, OneRow};
@@ -124,8 +125,8 @@ fn set_value(
     }
 }
 
-/// The row with the columns that are set.
-pub fn row_with(
+// The row with the columns that are set.
+fn row_with(
     alloc: Global,
     schema: &Schema,
     sets: &[(u32, Expr)],
@@ -168,5 +169,23 @@ pub fn updated_row(
         Ok((row_with(alloc, schema, sets, number, row)?, true))
     } else {
         Ok((row.copy()?, false))
+    }
+}
+
+/// A row after UPDATE, where it is visited as true.
+pub fn replaced_row(
+    alloc: Global,
+    schema: &Schema,
+    sets: &[(u32, Expr)],
+    filter: &Option<Expr>,
+    number: u32,
+    row: &Row,
+) -> Result<Option<Row>, Fail<Refused>>
+    ensures { Gives result (row_replaced schema.now sets.now filter.now (number, row.now)) }
+{
+    if is_chosen(alloc, filter, number, row)? {
+        Ok(Some(row_with(alloc, schema, sets, number, row)?))
+    } else {
+        Ok(None)
     }
 }

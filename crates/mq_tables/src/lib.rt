@@ -13,7 +13,6 @@ mod laws;
 mod row_view;
 mod rows;
 mod scopes;
-mod sieve;
 mod sizes;
 mod stage;
 mod staged;
