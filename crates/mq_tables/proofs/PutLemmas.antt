@@ -62,6 +62,9 @@ module _ (f : ℕ × Tuple → Result Visited Refused) (xs : List Tuple) where
           puts_are = a ∙ ap (λ l. l ++ (if b then (i, y) ∷ [] else [])) r.puts_are ∙ sym (replaced_push vs (y, b) i r.count);
         }
 
+    pub replacing_left : f (i + 1, x) ≡ Ok (x, false) → Replacing (i + 1) puts
+    replacing_left g = next puts x false g (sym (append-nil puts))
+
     pub replacing_some : (after : List (ℕ × Tuple)) (row : Tuple) → told (i + 1, x) ≡ Ok (Some row) → after ≡ puts ++ (i, row) ∷ [] → Replacing (i + 1) after
     replacing_some after row g a = by (f (i + 1, x)) refl g
       where
