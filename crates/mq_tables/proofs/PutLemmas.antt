@@ -10,7 +10,7 @@ use Rattle.mq_ir.specs.Keys.{Tuple}
 use Rattle.mq_ir.specs.Results.{◌>>=◌, each}
 use Rattle.mq_tables.specs.InPlace.{if_true, put_at, replaced}
 use Rattle.mq_tables.proofs.VisitLemmas.{enumerate_push}
-use Rattle.mq_tables.proofs.Walks.{Numbered, number_start, number_next, number_end, number_fault}
+use Rattle.mq_tables.proofs.Walks.{Numbered, number_next, number_end, number_fault}
 
 put_before : (puts : List (ℕ × Tuple)) (put : ℕ × Tuple) (rows : List Tuple) → put_at (puts ++ put ∷ []) rows ≡ put_at puts (slice_set rows put.0 put.1)
 put_before [] put rows = refl

@@ -1,12 +1,12 @@
 -- Conditions that begin with comparisons of columns with values.
 use Rattle.std.proofs.Common.{◌≡◌, ◌≢◌, ℕ, zero, suc, ◌+◌, ◌<◌, List, [], ◌∷◌, map, drop, length, get_or, Bool, true, false, not, ◌&&◌, ◌||◌, Option, Some, None, Ok, refl, sym, ap, ◌∙◌, eqb, is_eq, Ordering, Less, Equal, Greater, arith}
 use Rattle.std.specs.Prelude.{IfSome, nat_eq, slice_get, slice_index_or}
-use Rattle.std.specs.Ordering.{nat_cmp, ordering_then, int_cmp}
+use Rattle.std.specs.Ordering.{nat_cmp, ordering_then}
 use Rattle.std.specs.Cmp.{nat_cmp_total, tied_itself}
-use Rattle.mq_values.specs.Number.{Number, cmp_number, cmp_worth}
-use Rattle.mq_values.specs.Order.{cmp_text, compared}
+use Rattle.mq_values.specs.Number.{Number, cmp_worth}
+use Rattle.mq_values.specs.Order.{cmp_text}
 use Rattle.mq_values.specs.OrderTells.{same_number, same_text}
-use Rattle.mq_values.specs.Truth.{Truth, both, comparison, is_true, opposite}
+use Rattle.mq_values.specs.Truth.{Truth, comparison, is_true}
 use Rattle.mq_values.specs.declared.faults.Refused.TheVariants as refused
 use Rattle.mq_values.specs.declared.operators.CmpOp.{CmpOp}
 use Rattle.mq_values.specs.declared.operators.CmpOp.TheVariants.{Eq}
@@ -26,13 +26,10 @@ use Rattle.mq_ir.specs.Expression.{worth_of}
 use Rattle.mq_ir.specs.ExpressionLaws.{worth_leaf, worth_lit}
 use Rattle.mq_ir.specs.Keys.{Tuple}
 use Rattle.mq_ir.specs.Results.{◌>>=◌, marked}
-use Rattle.mq_ir.specs.Worth.{Found, Outcome, Verdict, a_truth, a_value, as_truth, as_value}
+use Rattle.mq_ir.specs.Worth.{Found, Outcome, a_truth, a_value, as_truth, as_value}
 use Rattle.mq_tables.specs.declared.marks.Mark.{Mark}
-use Rattle.mq_tables.specs.declared.marks.Mark.TheVariants as mark
-use Rattle.mq_tables.specs.declared.marks.RowMark.{RowMark}
-use Rattle.mq_tables.specs.declared.sieve.Sieve.{Sieve}
-use Rattle.mq_tables.specs.Marks.{differ, mark_of, row_mark, number_mark, text_mark}
-use Rattle.mq_tables.specs.Sieves.{HasValue, IsWanted, NeverFaults, Refutes, Sieves, StandsBeside, is_other, passes_over}
+use Rattle.mq_tables.specs.Marks.{differ, mark_of, number_mark, text_mark}
+use Rattle.mq_tables.specs.Sieves.{HasValue, IsWanted, NeverFaults, Refutes, Sieves, StandsBeside, is_other}
 use Rattle.mq_tables.proofs.Walks.{next_item}
 
 -- ---- marks that differ

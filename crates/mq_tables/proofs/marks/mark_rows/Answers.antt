@@ -1,4 +1,4 @@
-use Rattle.std.proofs.Common.{◌≡◌, ◌<◌, ◌++◌, ◌∷◌, [], List, Bool, length, get_or, sym, ap, ◌∙◌, arith, not, rules, vec_len}
+use Rattle.std.proofs.Common.{◌≡◌, ◌++◌, ◌∷◌, [], List, Bool, length, get_or, ap, ◌∙◌, arith, not, rules, vec_len}
 use Rattle.std.specs.Prelude.{if◌then◌else◌}
 use Rattle.mq_tables.specs.declared.marks.RowMark.{RowMark}
 use Rattle.mq_tables.proofs.MarkLemmas.{marked_more}

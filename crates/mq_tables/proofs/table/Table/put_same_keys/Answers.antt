@@ -1,4 +1,4 @@
-use Rattle.std.proofs.Common.{◌≡◌, map, sym, ap, ◌∙◌, subst}
+use Rattle.std.proofs.Common.{◌≡◌, map, sym, subst}
 use Rattle.mq_ir.specs.Changes.{row_key}
 use Rattle.mq_ir.specs.Tables.{Table}
 use Rattle.mq_tables.specs.InPlace.{put_at}
