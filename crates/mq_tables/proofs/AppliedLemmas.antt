@@ -1,5 +1,5 @@
 -- A change among the tables, made where the rows stand.
-use Rattle.std.proofs.Common.{◌≡◌, ℕ, ◌<◌, List, Bool, true, false, Option, Some, None, length, get_or, set, Result, Ok, Err, refl, sym, ap, ◌∙◌, subst}
+use Rattle.std.proofs.Common.{◌≡◌, ℕ, List, Bool, true, false, Option, Some, None, length, get_or, set, Result, Ok, Err, refl, sym, ap, ◌∙◌, subst}
 use Rattle.std.specs.Prelude.{if◌then◌else◌, nat_lt, position, slice_get}
 use Rattle.std.specs.List.{position_or_len}
 use Rattle.std.proofs.lemmas.Bool.{ltb-false}
@@ -23,7 +23,7 @@ use Rattle.mq_tables.specs.InPlace.{applied, changed_at, come_to}
 use Rattle.mq_tables.specs.Staging.{ChangeFits, Staged, staging}
 use Rattle.mq_tables.proofs.ApplyLemmas.{some_is}
 use Rattle.mq_tables.proofs.HeldLemmas.{committed, names_changed, rows_put}
-use Rattle.mq_tables.proofs.JudgeLemmas.{after_size, no_table, size_refused, sized}
+use Rattle.mq_tables.proofs.JudgeLemmas.{after_size, no_table, size_refused}
 use Rattle.mq_tables.proofs.StandLemmas.{name_is, staging_stands}
 use Rattle.mq_tables.proofs.Walks.{exit}
 

@@ -1,5 +1,5 @@
 -- The rows that a change makes are rows of its table.
-use Rattle.std.proofs.Common.{◌≡◌, ℕ, zero, suc, ◌+◌, ◌==◌, ℤ, List, [], ◌∷◌, ◌++◌, Bool, true, false, not, ◌&&◌, ◌||◌, Option, Some, None, length, map, Result, Ok, Err, refl, sym, ap, ◌∙◌, subst, arith}
+use Rattle.std.proofs.Common.{◌≡◌, ℕ, zero, suc, ◌+◌, ◌==◌, ℤ, List, [], ◌∷◌, Bool, true, false, not, ◌&&◌, ◌||◌, Option, Some, length, Result, Ok, Err, refl, sym, ap, ◌∙◌, subst, arith}
 use Rattle.std.specs.Prelude.{if◌then◌else◌, slice_get, slice_set, ◌^◌, ◌-◌, pos, nat_eq, nat_le}
 use Rattle.std.specs.List.{enumerate_from, filter, list_all, zip}
 use Rattle.std.specs.Option.{option_map_or}
@@ -8,13 +8,12 @@ use Rattle.std.proofs.lemmas.Bool.Decides.{nat_tests}
 use Rattle.std.proofs.lemmas.List.{length-set}
 use Rattle.mq_values.specs.Aggregate.{is_value}
 use Rattle.mq_values.specs.Answers.{result_map}
-use Rattle.mq_values.specs.Arithmetic.{in_range, rescaled, rounded}
+use Rattle.mq_values.specs.Arithmetic.{rescaled, rounded}
 use Rattle.mq_values.specs.Convert.{cast_of, number_at}
 use Rattle.mq_values.specs.Laws.{is_of}
 use Rattle.mq_values.specs.Number.{Number, is_mantissa, mant_at, text_of_number}
 use Rattle.mq_values.specs.declared.faults.Refused.{Refused}
 use Rattle.mq_values.specs.declared.faults.Refused.TheVariants as refused
-use Rattle.mq_values.specs.declared.faults.ValueFault.{ValueFault}
 use Rattle.mq_values.specs.declared.faults.ValueFault.TheVariants.{Overflow}
 use Rattle.mq_values.specs.declared.limits.TheConstants.{MAX_SCALE}
 use Rattle.mq_values.specs.declared.value.Kind.{Kind}
@@ -25,7 +24,7 @@ use Rattle.mq_ir.specs.declared.expression.Expr.{Expr}
 use Rattle.mq_ir.specs.declared.expression.Leaf.{Leaf}
 use Rattle.mq_ir.specs.declared.statement.Column.{Column}
 use Rattle.mq_ir.specs.declared.statement.Schema.{Schema}
-use Rattle.mq_ir.specs.Changes.{Visited, column_value, deleted_row, inserted_row, is_chosen, set_values, updated_row, visited_as, with_values}
+use Rattle.mq_ir.specs.Changes.{Visited, column_value, deleted_row, inserted_row, is_chosen, set_values, updated_row, with_values}
 use Rattle.mq_ir.specs.Expression.{Outcome, ev}
 use Rattle.mq_ir.specs.Fits.{row_scope}
 use Rattle.mq_ir.specs.FitsExpression.{expression_fits}
@@ -33,7 +32,6 @@ use Rattle.mq_ir.specs.FitsStatement.{inserts_fit, is_row_of, value_fits}
 use Rattle.mq_ir.specs.Items.{row_leaves}
 use Rattle.mq_ir.specs.Keys.{Tuple}
 use Rattle.mq_ir.specs.Results.{◌>>=◌, each, marked}
-use Rattle.mq_ir.specs.Unfolding.{converted}
 use Rattle.mq_tables.specs.Drafts.{asked_for_null, column_found, set_value}
 use Rattle.mq_tables.proofs.SetLemmas.{set_of}
 

@@ -1,5 +1,5 @@
 -- What a change comes to, judgement by judgement.
-use Rattle.std.proofs.Common.{◌≡◌, ℕ, ◌+◌, ◌≤◌, List, Option, Some, None, length, Result, Ok, Err, IfOk, refl, sym, ap, ◌∙◌, arith}
+use Rattle.std.proofs.Common.{◌≡◌, ℕ, ◌≤◌, List, Option, Some, None, length, Result, Ok, Err, IfOk, refl, sym, ap, ◌∙◌, arith}
 use Rattle.std.specs.Option.{ok_or}
 use Rattle.mq_values.specs.Answers.{Gives}
 use Rattle.mq_values.specs.declared.memory.Fail.{Fail}

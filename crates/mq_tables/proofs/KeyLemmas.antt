@@ -1,10 +1,9 @@
 -- The first key that repeats an earlier one, found with an ordered set of the keys so far.
-use Rattle.std.proofs.Common.{◌≡◌, ℕ, ◌+◌, ◌<◌, ◌≤◌, List, [], ◌∷◌, Bool, true, false, not, ◌||◌, length, map, drop, get_or, Ordering, Less, Equal, Greater, Option, Some, None, refl, sym, ap, ◌∙◌}
+use Rattle.std.proofs.Common.{◌≡◌, ℕ, ◌+◌, ◌<◌, List, [], ◌∷◌, Bool, true, false, not, ◌||◌, length, map, drop, get_or, Ordering, Less, Equal, Greater, Option, Some, None, refl, sym, ap, ◌∙◌}
 use Rattle.std.specs.Prelude.{if◌then◌else◌}
 use Rattle.std.specs.Ordering.{match_ordering}
 use Rattle.std.specs.BTreeSet.{insert_key}
 use Rattle.std.specs.Option.{option_map}
-use Rattle.std.proofs.lemmas.List.{drop_all}
 use Rattle.mq_values.specs.Order.{cmp_key}
 use Rattle.mq_values.specs.OrderTells.{same_key}
 use Rattle.mq_values.specs.declared.faults.Refused.TheVariants as refused

@@ -1,5 +1,5 @@
 -- Rows whose keys are kept, and new rows behind them.
-use Rattle.std.proofs.Common.{◌≡◌, ℕ, ◌+◌, ◌≤◌, List, [], ◌∷◌, ◌++◌, Bool, true, false, ◌||◌, length, map, take, drop, Option, Some, None, Result, Ok, Err, refl, sym, ap, ◌∙◌, subst}
+use Rattle.std.proofs.Common.{◌≡◌, ℕ, List, [], ◌∷◌, ◌++◌, Bool, true, false, ◌||◌, length, map, take, drop, Some, None, Ok, Err, refl, sym, ap, ◌∙◌, subst}
 use Rattle.std.specs.Prelude.{◌≢◌, if◌then◌else◌}
 use Rattle.std.specs.Option.{option_map}
 use Rattle.std.proofs.Math.Seq.{drop-append_seam, take-append_seam}
@@ -15,7 +15,7 @@ use Rattle.mq_ir.specs.Keys.{Tuple, is_among, is_same}
 use Rattle.mq_ir.specs.Statement.{unless_refused}
 use Rattle.mq_tables.specs.InPlace.{rows_gone, rows_left}
 use Rattle.mq_tables.specs.KeyOrder.{AreKept, AreKeys, Grows, HoldsBoth, Loses, judged, keys_by}
-use Rattle.mq_tables.proofs.KeyLemmas.{keyed_fault, no_key, repeated_alike}
+use Rattle.mq_tables.proofs.KeyLemmas.{keyed_fault, repeated_alike}
 use Rattle.mq_tables.proofs.KeyOrderLemmas.{among_both, moved, or_false}
 use Rattle.mq_tables.proofs.LoseLemmas.{left_kept}
 

@@ -3,17 +3,17 @@ use Rattle.std.proofs.Common.{◌≡◌, ℕ, ◌+◌, ◌<◌, ◌≤◌, List,
 use Rattle.std.specs.Prelude.{if◌then◌else◌}
 use Rattle.std.specs.List.{SwappedAt, enumerate_from}
 use Rattle.std.proofs.lemmas.Bool.{cases_lt}
-use Rattle.std.proofs.lemmas.List.{append-nil, drop-drop, drop-set-lt, get_or-drop, get_or_default, length-set, length-take-le, map_push, set-set, take-set-le, take_all, take_more, take_more_set}
+use Rattle.std.proofs.lemmas.List.{append-nil, drop-drop, drop-set-lt, get_or-drop, get_or_default, length-set, length-take-le, map_push, set-set, take-set-le, take_more, take_more_set}
 use Rattle.mq_values.specs.declared.faults.Refused.{Refused}
 use Rattle.mq_ir.specs.declared.statement.Schema.{Schema}
 use Rattle.mq_ir.specs.Changes.{Visited, row_key, visited_as}
 use Rattle.mq_ir.specs.Keys.{Tuple}
 use Rattle.mq_ir.specs.Results.{◌>>=◌, each}
-use Rattle.mq_tables.specs.InPlace.{gone, rows_left}
+use Rattle.mq_tables.specs.InPlace.{gone, items_left}
 use Rattle.mq_tables.proofs.VisitLemmas.{chosen_push, chosen_same}
 use Rattle.mq_tables.proofs.Walks.{Numbered, number_next, number_end, number_fault}
 
-left_push : (rows : List Tuple) (gone : List Bool) (row : Tuple) (g : Bool) → length gone ≡ length rows → rows_left (rows ++ row ∷ []) (gone ++ g ∷ []) ≡ rows_left rows gone ++ (if g then [] else row ∷ [])
+left_push : {A : Type 0} (rows : List A) (gone : List Bool) (row : A) (g : Bool) → length gone ≡ length rows → items_left (rows ++ row ∷ []) (gone ++ g ∷ []) ≡ items_left rows gone ++ (if g then [] else row ∷ [])
 left_push [] [] row true h = refl
 left_push [] [] row false h = refl
 left_push [] (g ∷ gone) row f h = absurd (cc)
@@ -22,27 +22,34 @@ left_push (r ∷ rows) (true ∷ gone) row g h = left_push rows gone row g (omeg
 left_push (r ∷ rows) (false ∷ gone) row g h = ap (λ l. r ∷ l) (left_push rows gone row g (omega (arith, h)))
 
 -- the first `at` rows were looked at, and those of them that are left stand in the first `kept` places; the others are as they were
-pub record Leaving (rows : List Tuple) (gone : List Bool) (now : List Tuple) (kept at : ℕ) : Type 0 where
-  pub front : take kept now ≡ rows_left (take at rows) (take at gone)
+pub record Leaving {A : Type 0} (rows : List A) (gone : List Bool) (now : List A) (kept at : ℕ) : Type 0 where
+  pub front : take kept now ≡ items_left (take at rows) (take at gone)
   pub rest : drop at now ≡ drop at rows
   pub behind : kept ≤ at
   pub long : length now ≡ length rows
 
-module _ (rows : List Tuple) (gone : List Bool) (told : length gone ≡ length rows) (now : List Tuple) (kept at : ℕ) (l : Leaving rows gone now kept at) (here : at < length gone) where
+some_item : {A : Type 0} (xs : List A) (i : ℕ) → i < length xs → A
+some_item [] i h = absurd (omega (arith, h))
+some_item (x ∷ xs) i h = x
+
+module _ {A : Type 0} (rows : List A) (gone : List Bool) (told : length gone ≡ length rows) (now : List A) (kept at : ℕ) (l : Leaving rows gone now kept at) (here : at < length gone) where
   within : at < length rows
   within = omega (arith, told, here)
 
-  more : (row : Tuple) (g : Bool) → row ≡ get_or rows at row → get_or gone at false ≡ g → rows_left (take (at + 1) rows) (take (at + 1) gone) ≡ take kept now ++ (if g then [] else row ∷ [])
+  item : A
+  item = some_item rows at within
+
+  more : (row : A) (g : Bool) → row ≡ get_or rows at row → get_or gone at false ≡ g → items_left (take (at + 1) rows) (take (at + 1) gone) ≡ take kept now ++ (if g then [] else row ∷ [])
   more row g r e =
-      ap (λ x. rows_left x (take (at + 1) gone)) (take_more rows at row within ∙ ap (λ x. take at rows ++ x ∷ []) (sym r))
-      ∙ ap (rows_left (take at rows ++ row ∷ [])) (take_more gone at false here ∙ ap (λ x. take at gone ++ x ∷ []) e)
+      ap (λ x. items_left x (take (at + 1) gone)) (take_more rows at row within ∙ ap (λ x. take at rows ++ x ∷ []) (sym r))
+      ∙ ap (items_left (take at rows ++ row ∷ [])) (take_more gone at false here ∙ ap (λ x. take at gone ++ x ∷ []) e)
       ∙ left_push (take at rows) (take at gone) row g (length-take-le at gone (omega (arith, here)) ∙ sym (length-take-le at rows (omega (arith, within))))
       ∙ ap (λ x. x ++ (if g then [] else row ∷ [])) (sym l.front)
 
-  same_here : (d : Tuple) → get_or now at d ≡ get_or rows at d
+  same_here : (d : A) → get_or now at d ≡ get_or rows at d
   same_here d = at_start now ∙ ap (λ x. get_or x 0 d) l.rest ∙ sym (at_start rows)
     where
-      at_start : (xs : List Tuple) → get_or xs at d ≡ get_or (drop at xs) 0 d
+      at_start : (xs : List A) → get_or xs at d ≡ get_or (drop at xs) 0 d
       at_start xs = ap (λ n. get_or xs n d) (let e : at ≡ at + 0 = omega arith in e) ∙ sym (get_or-drop at xs 0 d)
 
   one_less : drop (at + 1) now ≡ drop (at + 1) rows
@@ -50,7 +57,7 @@ module _ (rows : List Tuple) (gone : List Bool) (told : length gone ≡ length r
 
   pub leaving_gone : get_or gone at false ≡ true → Leaving rows gone now kept (at + 1)
   leaving_gone e = record {
-    front = sym (more (get_or rows at []) true (get_or_default rows at [] (get_or rows at []) within) e ∙ append-nil (take kept now));
+    front = sym (more (get_or rows at item) true (get_or_default rows at item (get_or rows at item) within) e ∙ append-nil (take kept now));
     rest = one_less;
     behind = let b = l.behind in omega (arith, b);
     long = l.long;
@@ -59,7 +66,7 @@ module _ (rows : List Tuple) (gone : List Bool) (told : length gone ≡ length r
   inside : kept < length now
   inside = let b = l.behind in let n = l.long in omega (arith, b, n, within)
 
-  module _ (after : List Tuple) (row other : Tuple) (r : row ≡ get_or rows at row) (o : other ≡ get_or now kept row) (s : after ≡ set (set now kept row) at other) where
+  module _ (after : List A) (row other : A) (r : row ≡ get_or rows at row) (o : other ≡ get_or now kept row) (s : after ≡ set (set now kept row) at other) where
     put_there : (kept < at) ⊎ (at ≤ kept) → take (kept + 1) after ≡ take kept now ++ row ∷ []
     put_there (inl h) = ap (take (kept + 1)) s ∙ take-set-le (kept + 1) (set now kept row) at other (omega (arith, h)) ∙ take_more_set now kept row inside
     put_there (inr h) =
@@ -84,10 +91,10 @@ module _ (rows : List Tuple) (gone : List Bool) (told : length gone ≡ length r
       long = ap length s ∙ length-set (set now kept row) at other ∙ length-set now kept row ∙ l.long;
     }
 
-  pub leaving_kept : (after : List Tuple) → SwappedAt now after kept at → get_or gone at false ≡ false → Leaving rows gone after (kept + 1) (at + 1)
+  pub leaving_kept : (after : List A) → SwappedAt now after kept at → get_or gone at false ≡ false → Leaving rows gone after (kept + 1) (at + 1)
   leaving_kept after s =
-      let row = get_or now at [] in
-      swapped after row (get_or now kept []) (same_here [] ∙ get_or_default rows at [] row within) (get_or_default now kept [] row inside) (s.3 [])
+      let row = get_or now at item in
+      swapped after row (get_or now kept item) (same_here item ∙ get_or_default rows at item row within) (get_or_default now kept item row inside) (s.3 item)
 
 -- ---- rows that DELETE visits as true
 module _ (schema : Schema) (f : ℕ × Tuple → Result Visited Refused) (xs : List Tuple) where

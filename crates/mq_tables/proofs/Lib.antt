@@ -8,10 +8,12 @@ pub mod KeyOrderLemmas
 pub mod KeyedLemmas
 pub mod LeftLemmas
 pub mod LoseLemmas
+pub mod MarkLemmas
 pub mod OldPlaceLemmas
 pub mod OriginLemmas
 pub mod PutLemmas
 pub mod SetLemmas
+pub mod SieveLemmas
 pub mod SparedLemmas
 pub mod StageLemmas
 pub mod StandLemmas

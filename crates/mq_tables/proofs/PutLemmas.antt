@@ -10,7 +10,7 @@ use Rattle.mq_ir.specs.Keys.{Tuple}
 use Rattle.mq_ir.specs.Results.{◌>>=◌, each}
 use Rattle.mq_tables.specs.InPlace.{if_true, put_at, replaced}
 use Rattle.mq_tables.proofs.VisitLemmas.{enumerate_push}
-use Rattle.mq_tables.proofs.Walks.{Numbered, number_start, number_next, number_end, number_fault}
+use Rattle.mq_tables.proofs.Walks.{Numbered, number_next, number_end, number_fault}
 
 put_before : (puts : List (ℕ × Tuple)) (put : ℕ × Tuple) (rows : List Tuple) → put_at (puts ++ put ∷ []) rows ≡ put_at puts (slice_set rows put.0 put.1)
 put_before [] put rows = refl
@@ -61,6 +61,9 @@ module _ (f : ℕ × Tuple → Result Visited Refused) (xs : List Tuple) where
           count = length-append vs ((y, b) ∷ []) ∙ (let c = r.count in omega (arith, c));
           puts_are = a ∙ ap (λ l. l ++ (if b then (i, y) ∷ [] else [])) r.puts_are ∙ sym (replaced_push vs (y, b) i r.count);
         }
+
+    pub replacing_left : f (i + 1, x) ≡ Ok (x, false) → Replacing (i + 1) puts
+    replacing_left g = next puts x false g (sym (append-nil puts))
 
     pub replacing_some : (after : List (ℕ × Tuple)) (row : Tuple) → told (i + 1, x) ≡ Ok (Some row) → after ≡ puts ++ (i, row) ∷ [] → Replacing (i + 1) after
     replacing_some after row g a = by (f (i + 1, x)) refl g

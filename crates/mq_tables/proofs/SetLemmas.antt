@@ -8,7 +8,7 @@ use Rattle.mq_ir.specs.declared.expression.Expr.{Expr}
 use Rattle.mq_ir.specs.declared.statement.Schema.{Schema}
 use Rattle.mq_ir.specs.Changes.{with_values}
 use Rattle.mq_ir.specs.Keys.{Tuple}
-use Rattle.mq_ir.specs.Results.{◌>>=◌, each}
+use Rattle.mq_ir.specs.Results.{◌>>=◌}
 use Rattle.mq_tables.specs.Drafts.{row_set, set_value}
 use Rattle.mq_tables.proofs.Walks.{Walked, walk_start, walk_next, walk_end, walk_fault}
 

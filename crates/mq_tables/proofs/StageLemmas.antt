@@ -1,14 +1,14 @@
 -- What a change comes to, from its draft.
-use Rattle.std.proofs.Common.{◌≡◌, ℕ, ◌+◌, List, [], ◌∷◌, ◌++◌, Option, Some, None, length, map, Result, Ok, Err, refl, sym, ap, ◌∙◌}
+use Rattle.std.proofs.Common.{◌≡◌, ℕ, ◌+◌, List, [], ◌∷◌, ◌++◌, Option, Some, None, length, Result, Ok, Err, refl, sym, ap, ◌∙◌}
 use Rattle.std.specs.List.{enumerate_from}
 use Rattle.mq_values.specs.declared.faults.Refused.{Refused}
 use Rattle.mq_ir.specs.declared.statement.Change.{Change}
 use Rattle.mq_ir.specs.declared.statement.Change.TheVariants.{Insert, Append, Update, Delete}
-use Rattle.mq_ir.specs.Changes.{Changed, Visited, deleted_row, inserted_row, key_fault, rows_changed, rows_added, size_fault, updated_row}
+use Rattle.mq_ir.specs.Changes.{Changed, deleted_row, inserted_row, key_fault, rows_changed, updated_row}
 use Rattle.mq_ir.specs.Keys.{Tuple}
 use Rattle.mq_ir.specs.Results.{◌>>=◌, each}
-use Rattle.mq_ir.specs.Statement.{staged, unless_refused}
-use Rattle.mq_ir.specs.Tables.{Table, Tables}
+use Rattle.mq_ir.specs.Statement.{unless_refused}
+use Rattle.mq_ir.specs.Tables.{Table}
 use Rattle.mq_tables.specs.declared.drafts.Draft.{Draft}
 use Rattle.mq_tables.specs.Drafts.{appended, deleted, drafted, keyed, staged_from, updated}
 use Rattle.mq_tables.specs.Staging.{Staged, new_places, origins_of, stays}

@@ -1,6 +1,6 @@
 -- What a change comes to stands on the tables that it was judged by.
-use Rattle.std.proofs.Common.{◌≡◌, ℕ, zero, suc, ◌+◌, ◌*◌, ◌≤◌, List, [], ◌∷◌, ◌++◌, Bool, true, false, not, ◌&&◌, Option, Some, None, length, map, Result, Ok, Err, refl, sym, ap, ◌∙◌, subst, arith, length-append, nat_eq}
-use Rattle.std.specs.Prelude.{if◌then◌else◌, slice_get, nat_lt, IfSome}
+use Rattle.std.proofs.Common.{◌≡◌, ℕ, suc, ◌+◌, ◌*◌, ◌≤◌, List, [], ◌∷◌, ◌++◌, Bool, true, false, not, ◌&&◌, Option, Some, None, length, map, Result, Ok, Err, refl, sym, ap, ◌∙◌, subst, arith, length-append, nat_eq}
+use Rattle.std.specs.Prelude.{if◌then◌else◌, slice_get, nat_lt}
 use Rattle.std.specs.Cmp.Lexicographic.{pointwise}
 use Rattle.std.specs.List.{AllZip, enumerate_from, filter, find, list_all, range_with_len}
 use Rattle.std.specs.Option.{ok_or, option_map_or}
@@ -17,7 +17,7 @@ use Rattle.mq_ir.specs.declared.expression.Expr.{Expr}
 use Rattle.mq_ir.specs.declared.statement.Change.{Change}
 use Rattle.mq_ir.specs.declared.statement.Change.TheVariants.{Insert, Append, Update, Delete}
 use Rattle.mq_ir.specs.declared.statement.Schema.{Schema}
-use Rattle.mq_ir.specs.Changes.{Changed, Visited, deleted_row, inserted_row, is_chosen, key_fault, rows_added, rows_changed, set_values, size_fault, table_of, updated_row, value_count, with_values}
+use Rattle.mq_ir.specs.Changes.{Visited, deleted_row, inserted_row, is_chosen, key_fault, rows_added, rows_changed, set_values, size_fault, table_of, updated_row, value_count, with_values}
 use Rattle.mq_ir.specs.FitsStatement.{change_fits_schema, inserts_fit, is_row_of}
 use Rattle.mq_ir.specs.Keys.{Tuple}
 use Rattle.mq_values.specs.declared.value.Value.{Value}
@@ -29,7 +29,7 @@ use Rattle.mq_tables.specs.Drafts.{appended, deleted, drafted, keyed, staged_fro
 use Rattle.mq_tables.specs.Held.{RowsFit}
 use Rattle.mq_tables.specs.Staging.{ChangeFits, Staged, StandsOn, StoodAt, new_places, origins_of, place_unless_true, staging, stays}
 use Rattle.mq_tables.proofs.FitLemmas.{all_filtered, all_pass, both_true, deleted_is, each_cons, each_length, each_nil, inserted_fits, updated_fits}
-use Rattle.mq_tables.proofs.StageLemmas.{from_draft, in_order, whole}
+use Rattle.mq_tables.proofs.StageLemmas.{from_draft, in_order}
 
 -- ---- the table of a name
 found_passes : {A : Type 0} (p : A → Bool) (xs : List A) (x : A) → find p xs ≡ Some x → p x ≡ true

@@ -1,5 +1,5 @@
 -- The rows that a change makes, row by row.
-use Rattle.std.specs.Prelude.{◌≡◌, ℕ, Bool, List, [], ◌∷◌, ◌++◌, length, map, true, false, not, ◌&&◌, if◌then◌else◌, Option, Some, None, Result, Ok, Err, slice_get, take, nat_eq}
+use Rattle.std.specs.Prelude.{◌≡◌, ℕ, Bool, List, [], ◌∷◌, ◌++◌, length, map, true, false, not, ◌&&◌, if◌then◌else◌, Option, Result, Ok, Err, slice_get, take, nat_eq}
 use Rattle.std.specs.List.{enumerate_from, list_all, list_any}
 use Rattle.std.specs.Option.{option_map_or}
 use Rattle.mq_values.specs.Aggregate.{is_value}

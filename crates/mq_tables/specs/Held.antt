@@ -1,5 +1,5 @@
 -- What holds of tables at all times.
-use Rattle.std.specs.Prelude.{◌≡◌, true, false, List, [], ◌∷◌}
+use Rattle.std.specs.Prelude.{◌≡◌, true, false, [], ◌∷◌}
 use Rattle.std.specs.List.{list_all, list_any}
 use Rattle.mq_ir.specs.FitsStatement.{is_row_of}
 use Rattle.mq_ir.specs.Tables.{Table, Tables, is_name}

@@ -1,5 +1,5 @@
 -- Changes that are made where the rows stand.
-use Rattle.std.specs.Prelude.{◌≡◌, ℕ, List, [], ◌∷◌, ◌++◌, Bool, true, false, if◌then◌else◌, map, Option, Some, None, Result, Ok, Err, slice_set}
+use Rattle.std.specs.Prelude.{◌≡◌, ℕ, List, [], ◌∷◌, ◌++◌, Bool, true, false, not, if◌then◌else◌, map, Option, Some, None, Result, Ok, Err, slice_set}
 use Rattle.std.specs.List.{enumerate_from, filter, zip}
 use Rattle.mq_values.specs.declared.faults.Refused.{Refused}
 use Rattle.mq_values.specs.declared.memory.Fail.{Fail}
@@ -62,6 +62,10 @@ if_true visited = if visited.1 then Some visited.0 else None
 
 abbrev pub row_replaced : Schema → List (ℕ × Expr) → Option Expr → ℕ × Tuple → Result (Option Tuple) Refused
 row_replaced schema sets filter row = updated_row schema sets filter row >>= (λ visited. Ok (if_true visited))
+
+-- those that are left of items that are told, place by place, whether they are gone
+abbrev pub items_left : {A : Type 0} → List A → List Bool → List A
+items_left items gone = map (λ item. item.0) (filter (λ item. not item.1) (zip items gone))
 
 -- rows that are told, place by place, whether they are gone
 abbrev pub rows_left : List Tuple → List Bool → List Tuple

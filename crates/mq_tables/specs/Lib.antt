@@ -2,7 +2,9 @@ pub mod Drafts
 pub mod Held
 pub mod InPlace
 pub mod KeyOrder
+pub mod Marks
 pub mod OldPlaces
 pub mod Rows
+pub mod Sieves
 pub mod Sizes
 pub mod Staging

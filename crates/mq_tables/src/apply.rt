@@ -48,8 +48,14 @@ fn change(alloc: Global, table: &mut Table, c: &Change) -> Result<usize, Fail<Re
             let new = row_copies(alloc, rows.as_slice(), 0)?;
             grow(alloc, table, Items::from_vec(new))
         }
-        Change::Update { sets, filter, .. } => update(alloc, table, sets.as_slice(), filter),
-        Change::Delete { filter, .. } => delete(alloc, table, filter),
+        Change::Update { sets, filter, .. } => {
+            table.mark_rows();
+            update(alloc, table, sets.as_slice(), filter)
+        }
+        Change::Delete { filter, .. } => {
+            table.mark_rows();
+            delete(alloc, table, filter)
+        }
     }
 }
 
@@ -75,7 +81,7 @@ fn update(
     ensures err { OnErr result (table.new ≡ table.old) }
 {
     let schema = table.schema();
-    let puts = replaced_rows(alloc, schema, sets, filter, table.rows())?;
+    let puts = replaced_rows(alloc, schema, sets, filter, table.rows(), table.marks())?;
     let count = puts.len();
     if spares_key(sets, schema.key.as_slice()) {
         table.put_same_keys(alloc, puts)?;
@@ -91,7 +97,7 @@ fn delete(alloc: Global, table: &mut Table, filter: &Option<Expr>) -> Result<usi
     ensures exact { Gives (result_map (λ count. (table.new, count)) result) (spec.table_deleted table.old filter.now) }
     ensures err { OnErr result (table.new ≡ table.old) }
 {
-    let gone = gone_rows(alloc, table.schema(), filter, table.rows())?;
+    let gone = gone_rows(alloc, table.schema(), filter, table.rows(), table.marks())?;
     table.lose(alloc, gone.flags.as_slice(), gone.keys.as_slice())?;
     Ok(gone.keys.len())
 }

@@ -1,5 +1,5 @@
 //! The values that a change puts into columns.
-ghost use Rattle.std.specs.Prelude.{◌≡◌, IfOk};
+ghost use Rattle.std.specs.Prelude.{◌≡◌, true, false, Ok, IfOk};
 ghost use Rattle.mq_values.specs.Answers.{Gives};
 ghost use Rattle.mq_values.specs.declared.faults.Refused.TheVariants as refused;
 ghost use Rattle.mq_ir.specs.Changes as spec;
@@ -106,6 +106,23 @@ pub fn is_chosen(
         Err(Fail::Cause(fault)) => Err(Fail::Cause(Refused::ChangeValue(number, fault))),
         Err(Fail::Memory) => Err(Fail::Memory),
     }
+}
+
+/// The same of a row that may be passed over, since it is known that it is not visited as true.
+pub fn is_chosen_unless(
+    passed: bool,
+    alloc: Global,
+    filter: &Option<Expr>,
+    number: u32,
+    row: &Row,
+) -> Result<bool, Fail<Refused>>
+    requires { passed ≡ true → spec.is_chosen filter.now (number, row.now) ≡ Ok false }
+    ensures { Gives result (spec.is_chosen filter.now (number, row.now)) }
+{
+    if passed {
+        return Ok(false);
+    }
+    is_chosen(alloc, filter, number, row)
 }
 
 // What SET puts into a column, over the row as it was.

@@ -1,6 +1,6 @@
 //! Lists of rows that are copied, and changed where they stand.
 ghost use Rattle.std.specs.Prelude.{◌≡◌, ◌++◌, length, slice_set, IfOk, OnOk};
-ghost use Rattle.mq_tables.specs.InPlace.{put_at, rows_left};
+ghost use Rattle.mq_tables.specs.InPlace.{items_left, put_at, rows_left};
 
 use mq_ir::Row;
 use mq_values::{Items, Memory};
@@ -49,12 +49,20 @@ pub fn take_away(rows: &mut Vec<Row>, gone: &[bool])
     requires { length gone.now ≡ length rows.old.items }
     ensures { rows.new.items ≡ rows_left rows.old.items gone.now }
 {
+    take_items(rows, gone);
+}
+
+/// The same for items of any kind.
+pub fn take_items<T: Drop>(items: &mut Vec<T>, gone: &[bool])
+    requires { length gone.now ≡ length items.old.items }
+    ensures { items.new.items ≡ items_left items.old.items gone.now }
+{
     let mut kept: usize = 0;
-    'rows: for (at, is_gone) in gone.iter().enumerate() {
+    'items: for (at, is_gone) in gone.iter().enumerate() {
         if !*is_gone {
-            rows.swap(kept, at);
+            items.swap(kept, at);
             kept += 1;
         }
     }
-    rows.truncate(kept);
+    items.truncate(kept);
 }

@@ -3,8 +3,10 @@ ghost use Rattle.std.specs.Prelude.{◌≡◌, ◌++◌, [], map, length, IfOk, 
 ghost use Rattle.mq_values.specs.Answers.{Gives, result_map};
 ghost use Rattle.mq_ir.specs.Changes.{row_key};
 ghost use Rattle.mq_tables.specs.InPlace.{put_at, rows_gone, rows_left, with_judged};
+ghost use Rattle.mq_tables.specs.Marks.{AreMarks};
 
 use crate::keyed_rows::KeyedRows;
+use crate::marks::{RowMark, lose_marks, mark_rows};
 use mq_ir::{Row, Schema, TableDef};
 use mq_values::{Fail, Items, Key, Memory, Refused, Words};
 use std::alloc::Global;
@@ -16,14 +18,18 @@ pub struct Table {
     name: Words,
     schema: Schema,
     rows: KeyedRows,
+    marks: Vec<RowMark>,
 }
 
 impl Model for Table {
     ghost use Rattle.mq_ir.specs.Tables.{Table as Seen};
+    ghost use Rattle.mq_tables.specs.Marks.{AreMarks};
 
     ghost Value = { Seen };
 
     ghost view = { λ t. record { name = t.name; schema = t.schema; rows = t.rows } };
+
+    ghost invariant = { λ t. AreMarks t.schema t.rows t.marks.items };
 }
 
 impl Table {
@@ -35,6 +41,7 @@ impl Table {
             name: def.name,
             schema: def.schema,
             rows: KeyedRows::empty(alloc),
+            marks: Vec::new(alloc),
         }
     }
 
@@ -70,10 +77,25 @@ impl Table {
         &self.rows
     }
 
+    /// The marks of the first rows, of all unless memory ran out. They are made by `mark_rows`.
+    pub fn marks(&self) -> &[RowMark]
+        ensures { AreMarks self.now.schema self.now.rows result.now }
+    {
+        self.marks.as_slice()
+    }
+
+    /// Marks the rows that have no mark.
+    pub fn mark_rows(&mut self)
+        ensures { self.new ≡ self.old }
+    {
+        mark_rows(&self.schema, self.rows.as_slice(), &mut self.marks);
+    }
+
     // Puts these rows in the place of those that stand here.
     pub fn set_rows(&mut self, rows: KeyedRows)
         ensures { self.new ≡ record self.old { rows = rows } }
     {
+        self.marks.clear();
         self.rows = rows;
     }
 }
@@ -93,6 +115,7 @@ impl Table {
         ensures exact { Gives (result_map (λ _. self.new) result) (with_judged self.old (put_at puts self.old.rows)) }
         ensures err { OnErr result (self.new ≡ self.old) }
     {
+        self.marks.clear();
         self.rows.put(alloc, &self.schema, puts)
     }
 
@@ -116,6 +139,8 @@ impl Table {
         ensures exact { Gives (result_map (λ _. self.new) result) (with_judged self.old (rows_left self.old.rows gone.now)) }
         ensures err { OnErr result (self.new ≡ self.old) }
     {
-        self.rows.lose(alloc, &self.schema, gone, keys)
+        self.rows.lose(alloc, &self.schema, gone, keys)?;
+        lose_marks(&mut self.marks, gone);
+        Ok(())
     }
 }

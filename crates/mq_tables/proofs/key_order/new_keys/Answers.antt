@@ -1,4 +1,4 @@
-use Rattle.mq_tables.proofs.KeyOrderLemmas.{adding_end, adding_next, adding_repeated, adding_start}
+use Rattle.mq_tables.proofs.KeyOrderLemmas.{adding_next}
 use Rattle.mq_tables.proofs.key_order.new_keys.Goals as goal
 
 pub rows-preserved : goal.rows-preserved

@@ -1,6 +1,6 @@
 use Rattle.std.specs.Map.Iter.{deref}
 use Rattle.std.proofs.lemmas.Map.Iter.{rest_more}
-use Rattle.mq_tables.proofs.KeyOrderLemmas.{joined_all, joining_key}
+use Rattle.mq_tables.proofs.KeyOrderLemmas.{joining_key}
 use Rattle.mq_tables.proofs.key_order.put_keys.Goals as goal
 
 pub keys-preserved : goal.keys-preserved

@@ -2,7 +2,8 @@ use Rattle.std.proofs.Common.{◌+◌, Ok, ap, sym, ◌∙◌}
 use Rattle.std.proofs.lemmas.Result.{err_from_is_err_and}
 use Rattle.mq_ir.specs.Changes.{updated_row}
 use Rattle.mq_tables.specs.InPlace.{row_replaced, rows_replaced}
-use Rattle.mq_tables.proofs.PutLemmas.{replacing_end, replacing_fault, replacing_none, replacing_some}
+use Rattle.mq_tables.proofs.MarkLemmas.{is_passed, unchanged}
+use Rattle.mq_tables.proofs.PutLemmas.{replacing_end, replacing_fault, replacing_left, replacing_none, replacing_some}
 use Rattle.mq_tables.proofs.Walks.{exit}
 use Rattle.mq_tables.proofs.visits.replaced_rows.Goals as goal
 use Rattle.mq_tables.proofs.visits.replaced_rows.Goals.{in-Some+in_ok-push-in-Some, in-None}
@@ -31,3 +32,12 @@ returns-in_err-row c =
 
 pub returns : goal.returns
 returns c = replacing_end (updated_row c.args.schema.now c.args.sets.now c.args.filter.now) c.args.rows.now c.rows.at c.rows.replaced c.rows-test.false c.rows.invariant
+
+pub rows-preserved-then-is_passed_over : goal.rows-preserved-then-is_passed_over
+rows-preserved-then-is_passed_over c =
+    let f = updated_row c.args.schema.now c.args.sets.now c.args.filter.now in
+    let x = c.index-rows-at.result in
+    replacing_left f c.args.rows.now c.rows.at c.rows.replaced x c.rows-test.true c.index-rows-at.is c.rows.invariant
+    (unchanged c.args.schema.now c.args.sets.now c.args.filter.now (c.rows.at + 1) x
+    (is_passed c.args.filter.now c.args.schema.now c.sieve_of-sieve.result c.args.rows.now c.args.marks.now c.rows.at x c.sieve_of-sieve.ensures c.requires.marked c.rows-test.true c.index-rows-at.is
+    (sym c.is_passed_over.ensures ∙ c.if-is_passed_over.true)))

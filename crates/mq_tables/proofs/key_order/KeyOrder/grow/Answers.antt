@@ -1,7 +1,7 @@
 use Rattle.std.proofs.Common.{ap, ◌∙◌, ◌||◌, map}
 use Rattle.mq_ir.specs.Changes.{row_key}
-use Rattle.mq_ir.specs.Keys.{Tuple, is_among}
-use Rattle.mq_tables.specs.KeyOrder.{HoldsBoth, all_keys}
+use Rattle.mq_ir.specs.Keys.{is_among}
+use Rattle.mq_tables.specs.KeyOrder.{all_keys}
 use Rattle.mq_tables.proofs.KeyOrderLemmas.{last_put}
 use Rattle.mq_tables.proofs.key_order.KeyOrder.grow.Goals as goal
 

@@ -1,4 +1,4 @@
-use Rattle.std.proofs.Common.{ℕ, List, Bool, length, map, sym, ap, ◌∙◌, subst}
+use Rattle.std.proofs.Common.{ℕ, List, length, map, sym, ap, ◌∙◌, subst}
 use Rattle.mq_ir.specs.Changes.{row_key}
 use Rattle.mq_ir.specs.Keys.{Tuple}
 use Rattle.mq_tables.specs.InPlace.{rows_gone, rows_left}

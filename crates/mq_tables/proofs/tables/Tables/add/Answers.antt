@@ -1,4 +1,4 @@
-use Rattle.std.proofs.Common.{[], ◌∷◌, ◌++◌, sym, ap, ◌∙◌, subst}
+use Rattle.std.proofs.Common.{sym, ap, ◌∙◌, subst}
 use Rattle.mq_ir.specs.Tables.{Table, Tables, table_at}
 use Rattle.mq_tables.specs.Held.{HaveOwnNames, RowsFit}
 use Rattle.mq_tables.proofs.HeldLemmas.{fits_added, names_added}

@@ -1,0 +1,52 @@
+-- The marks of rows.
+use Rattle.std.specs.Prelude.{◌≡◌, ℕ, ◌+◌, ◌*◌, ◌%◌, ℤ, unsigned_abs, List, length, map, take, Bool, false, not, ◌&&◌, nat_eq, slice_index_or}
+use Rattle.std.specs.List.{fold}
+use Rattle.mq_values.specs.declared.value.Value.{Value}
+use Rattle.mq_values.specs.declared.value.Value.TheVariants as value
+use Rattle.mq_ir.specs.declared.statement.Schema.{Schema}
+use Rattle.mq_ir.specs.Changes.{row_key}
+use Rattle.mq_ir.specs.Keys.{Tuple}
+use Rattle.mq_tables.specs.declared.marks.Mark.{Mark}
+use Rattle.mq_tables.specs.declared.marks.Mark.TheVariants as mark
+use Rattle.mq_tables.specs.declared.marks.RowMark.{RowMark}
+use Rattle.mq_tables.specs.declared.marks.TheConstants.{NUMBER_MARKS, TEXT_FACTOR, TEXT_MARKS}
+use Rattle.mq_tables.specs.InPlace.{items_left}
+
+abbrev pub number_mark : ℤ → ℕ
+number_mark mant = unsigned_abs mant % NUMBER_MARKS
+
+abbrev pub text_step : ℕ → ℕ → ℕ
+text_step so_far byte = (so_far * TEXT_FACTOR + byte) % TEXT_MARKS
+
+abbrev pub text_mark : List ℕ → ℕ
+text_mark bytes = fold text_step 0 bytes
+
+abbrev pub mark_of : Value → Mark
+mark_of (value.Num n) = mark.Number n.scale (number_mark n.mant)
+mark_of (value.Text text) = mark.Text (text_mark text)
+mark_of value.Null = mark.Null
+
+-- marks that tell that their values differ
+abbrev pub differ : Mark → Mark → Bool
+differ (mark.Text a) (mark.Text b) = not (nat_eq a b)
+differ (mark.Number scale a) (mark.Number other b) = nat_eq scale other && not (nat_eq a b)
+differ _ _ = false
+
+-- the mark of a row is told by its key
+abbrev pub key_mark : Tuple → RowMark
+key_mark key = record { first = mark_of (slice_index_or key 0 value.Null); second = mark_of (slice_index_or key 1 value.Null) }
+
+abbrev pub row_mark : Schema → Tuple → RowMark
+row_mark schema row = key_mark (row_key schema row)
+
+-- a list that stands in front of another
+abbrev pub IsFront : {A : Type 0} → List A → List A → Type 0
+IsFront front all = take (length front) all ≡ front
+
+-- the marks are those of the first rows
+abbrev pub AreMarks : Schema → List Tuple → List RowMark → Type 0
+AreMarks schema rows marks = IsFront marks (map (row_mark schema) rows)
+
+-- the marks of the first of those that are left
+abbrev pub LosesMarks : List RowMark → List Bool → List RowMark → Type 0
+LosesMarks marks gone left = (all : List RowMark) → length gone ≡ length all → IsFront marks all → IsFront left (items_left all gone)
