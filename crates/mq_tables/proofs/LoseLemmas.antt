@@ -1,13 +1,12 @@
 -- Keys that are taken away, and those that are left.
-use Rattle.std.proofs.Common.{◌≡◌, ℕ, ◌+◌, ◌<◌, ◌≤◌, List, [], ◌∷◌, ◌++◌, Bool, true, false, not, ◌&&◌, ◌||◌, length, map, take, get_or, Ordering, Less, Equal, Greater, Option, Some, None, refl, sym, ap, ◌∙◌, arith}
+use Rattle.std.proofs.Common.{◌≡◌, ℕ, ◌+◌, ◌<◌, List, [], ◌∷◌, ◌++◌, Bool, true, false, not, ◌&&◌, ◌||◌, length, map, take, get_or, Ordering, Less, Equal, Greater, Some, None, refl, sym, ap, ◌∙◌, arith}
 use Rattle.std.specs.Prelude.{if◌then◌else◌, cond}
-use Rattle.std.specs.List.{filter, list_any, zip}
 use Rattle.std.specs.Ordering.{is_eq, ordering_reverse}
-use Rattle.std.proofs.lemmas.List.{take_all, take_more}
+use Rattle.std.proofs.lemmas.List.{take_more}
 use Rattle.mq_values.specs.Order.{cmp_key}
 use Rattle.mq_values.specs.OrderLaws.{key_total}
 use Rattle.mq_values.specs.OrderTells.{same_key}
-use Rattle.mq_ir.specs.Changes.{Visited, first_repeated, visited_as}
+use Rattle.mq_ir.specs.Changes.{first_repeated}
 use Rattle.mq_ir.specs.Keys.{Tuple, is_among, is_same}
 use Rattle.mq_tables.specs.InPlace.{rows_gone, rows_left}
 use Rattle.mq_tables.specs.KeyOrder.{AreKeys, Loses}
@@ -20,7 +19,7 @@ tied Less e = absurd (cc)
 tied Equal e = refl
 tied Greater e = absurd (cc)
 
-is_equal : (a b : Tuple) → is_same a b ≡ true → a ≡ b
+pub is_equal : (a b : Tuple) → is_same a b ≡ true → a ≡ b
 is_equal a b h = same_key a b (tied (cmp_key a b) h)
 
 flipped : (r : Ordering) → is_eq (ordering_reverse r) ≡ is_eq r

@@ -4,12 +4,14 @@
 #![tactic(auto)]
 
 mod apply;
+mod ascending;
 mod columns;
 mod drafts;
 mod key_order;
 mod keyed_rows;
 mod keys;
 mod laws;
+mod own_keys;
 mod row_view;
 mod rows;
 mod scopes;
