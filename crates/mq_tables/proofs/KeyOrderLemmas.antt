@@ -1,17 +1,17 @@
 -- Keys that are kept in runs, and new keys behind them.
-use Rattle.std.proofs.Common.{◌≡◌, ℕ, ◌+◌, ◌<◌, ◌≤◌, List, [], ◌∷◌, ◌++◌, Bool, true, false, not, ◌||◌, length, map, drop, get_or, Some, None, refl, sym, ap, ◌∙◌}
+use Rattle.std.proofs.Common.{◌≡◌, ℕ, ◌+◌, ◌<◌, ◌≤◌, List, [], ◌∷◌, ◌++◌, Bool, true, false, not, ◌||◌, length, map, take, drop, get_or, Some, None, refl, sym, ap, ◌∙◌}
 use Rattle.std.specs.Prelude.{if◌then◌else◌}
 use Rattle.std.specs.BTreeSet.{insert_key}
 use Rattle.std.specs.Option.{option_map}
 use Rattle.std.proofs.lemmas.Grind.{flat_map-append}
-use Rattle.std.proofs.lemmas.List.{append-nil, drop_all}
+use Rattle.std.proofs.lemmas.List.{append-nil, drop_all, take-append-drop}
 use Rattle.std.proofs.lemmas.List.Folds.{list_any-append}
 use Rattle.mq_values.specs.Order.{cmp_key}
 use Rattle.mq_values.specs.declared.faults.Refused.TheVariants as refused
 use Rattle.mq_ir.specs.declared.statement.Schema.{Schema}
 use Rattle.mq_ir.specs.Changes.{first_repeated, row_key}
 use Rattle.mq_ir.specs.Keys.{Tuple, is_among, is_same}
-use Rattle.mq_tables.specs.KeyOrder.{HoldsBoth, all_keys}
+use Rattle.mq_tables.specs.KeyOrder.{HoldsBoth, PutsTo, all_keys}
 use Rattle.mq_tables.proofs.KeyLemmas.{among_inserted, next_key, repeated_alike, repeated_here, swapped, was_new, was_there}
 use Rattle.mq_tables.proofs.Walks.{next_item}
 
@@ -74,18 +74,20 @@ joining_key some others there after left rest key copy e c a j q =
 pub joined_all : (some others there left : List Tuple) → left ≡ [] → Joining some others left there → HoldsBoth some others there
 joined_all some others there left e j q = sym (ap (λ l. is_among l q || is_among there q) e) ∙ j q
 
--- the runs that stay, and a new one behind them
-pub run_put : (runs stay joined : List (List Tuple)) (keys new : List Tuple) → runs ≡ stay ++ joined → HoldsBoth (all_keys joined) keys new → HoldsBoth keys (all_keys runs) (all_keys (stay ++ new ∷ []))
-run_put runs stay joined keys new e b q =
-    ap (λ l. is_among l q) (all_behind stay (new ∷ []))
-    ∙ among_both (all_keys stay) (new ++ []) q
-    ∙ ap (λ l. s || is_among l q) (append-nil new)
+-- the runs that stay, and what the others come to with new keys
+pub own_with : (runs stay : List (List Tuple)) (n : ℕ) (keys own all : List Tuple) → stay ≡ take n runs → HoldsBoth (all_keys (drop n runs)) keys own → all_keys runs ≡ all → HoldsBoth keys all (all_keys stay ++ own)
+own_with runs stay n keys own all e b h q =
+    ap (λ l. is_among (all_keys l ++ own) q) e
+    ∙ among_both (all_keys (take n runs)) own q
     ∙ ap (λ t. s || t) (b q)
-    ∙ turned s (is_among (all_keys joined) q) (is_among keys q)
-    ∙ sym (ap (λ t. is_among keys q || t) (ap (λ l. is_among (all_keys l) q) e ∙ ap (λ l. is_among l q) (all_behind stay joined) ∙ among_both (all_keys stay) (all_keys joined) q))
+    ∙ turned s d (is_among keys q)
+    ∙ ap (λ t. is_among keys q || t) (sym (among_both (all_keys (take n runs)) (all_keys (drop n runs)) q) ∙ ap (λ l. is_among l q) (sym (all_behind (take n runs) (drop n runs)) ∙ ap all_keys (take-append-drop n runs) ∙ h))
   where
     s : Bool
-    s = is_among (all_keys stay) q
+    s = is_among (all_keys (take n runs)) q
+
+    d : Bool
+    d = is_among (all_keys (drop n runs)) q
 
     turned : (a b c : Bool) → (a || (b || c)) ≡ (c || (a || b))
     turned true b true = refl
@@ -94,36 +96,14 @@ run_put runs stay joined keys new e b q =
     turned false true false = refl
     turned false false c = sym (or_false c)
 
--- ---- runs, and the last keys behind them
-pub runs_alone : (runs before : List (List Tuple)) (last all : List Tuple) → runs ≡ before → length last ≡ 0 → all_keys before ++ last ≡ all → all_keys runs ≡ all
-runs_alone runs before last all e n h = ap all_keys e ∙ sym (append-nil (all_keys before)) ∙ ap (λ l. all_keys before ++ l) (sym (no_item last n)) ∙ h
-  where
-    no_item : (l : List Tuple) → length l ≡ 0 → l ≡ []
-    no_item [] e = refl
-    no_item (x ∷ xs) e = absurd (cc)
-
-pub run_behind : (runs before after : List (List Tuple)) (last copy all : List Tuple) → runs ≡ before → after ≡ runs ++ copy ∷ [] → copy ≡ last → all_keys before ++ last ≡ all → all_keys after ≡ all
-run_behind runs before after last copy all e a c h =
-    ap all_keys a
-    ∙ all_behind runs (copy ∷ [])
-    ∙ ap (λ l. all_keys runs ++ l) (append-nil copy ∙ c)
-    ∙ ap (λ l. all_keys l ++ last) e
-    ∙ h
-
-pub last_put : (before last new after keys : List Tuple) → ((q : Tuple) → is_among after q ≡ (is_among last q || is_among new q)) → ((q : Tuple) → is_among new q ≡ is_among keys q)
-    → HoldsBoth keys (before ++ last) (before ++ after)
-last_put before last new after keys u n q =
+-- ---- keys are put to those that nobody else holds
+pub own_put : (before own new after keys : List Tuple) → HoldsBoth new own after → ((q : Tuple) → is_among new q ≡ is_among keys q)
+    → HoldsBoth keys (before ++ own) (before ++ after)
+own_put before own new after keys u n q =
     among_both before after q
-    ∙ ap (λ b. is_among before q || b) (u q ∙ ap (λ b. is_among last q || b) (n q))
-    ∙ turned (is_among before q) (is_among last q) (is_among keys q)
-    ∙ ap (λ b. is_among keys q || b) (sym (among_both before last q))
-  where
-    turned : (a b c : Bool) → (a || (b || c)) ≡ (c || (a || b))
-    turned true b true = refl
-    turned true b false = refl
-    turned false true true = refl
-    turned false true false = refl
-    turned false false c = sym (or_false c)
+    ∙ ap (λ b. is_among before q || b) (u q ∙ ap (λ b. b || is_among own q) (n q))
+    ∙ swapped (is_among before q) (is_among keys q) (is_among own q)
+    ∙ ap (λ b. is_among keys q || b) (sym (among_both before own q))
 
 -- ---- new keys behind earlier ones, row by row
 pub record Adding (schema : Schema) (earlier : List Tuple) (rows : List Tuple) (i : ℕ) (keys : List Tuple) : Type 0 where
@@ -143,17 +123,15 @@ next_among schema rows i row key q h e k =
     ∙ ap (λ l. is_same q l || is_among (map (row_key schema) (drop (i + 1) rows)) q) (sym k)
 
 pub adding_next : (schema : Schema) (earlier rows keys after : List Tuple) (i : ℕ) (row key : Tuple) (added : Bool) → i < length rows → row ≡ get_or rows i row → key ≡ row_key schema row
-    → added ≡ not (is_among earlier key || is_among keys key) → added ≡ true → after ≡ insert_key cmp_key keys key → Adding schema earlier rows i keys → Adding schema earlier rows (i + 1) after
+    → added ≡ not (is_among earlier key || is_among keys key) → added ≡ true → PutsTo key keys after → Adding schema earlier rows i keys → Adding schema earlier rows (i + 1) after
 adding_next schema earlier rows keys after i row key added h e k a t n adding = record {
   is =
-      ap (λ l. first_repeated (earlier ++ l) rest) n
-      ∙ repeated_alike (earlier ++ insert_key cmp_key keys key) (key ∷ (earlier ++ keys)) alike rest
+      repeated_alike (earlier ++ after) (key ∷ (earlier ++ keys)) alike rest
       ∙ sym (ap (λ b. if b then Some key else first_repeated (key ∷ (earlier ++ keys)) rest) (among_both earlier keys key ∙ was_new added (is_among earlier key || is_among keys key) a t))
       ∙ sym (next_key schema rows (earlier ++ keys) i row key h e k)
       ∙ adding.is;
   among = λ q.
-      ap (λ l. is_among rest q || is_among l q) n
-      ∙ ap (λ b. is_among rest q || b) (among_inserted q key keys)
+      ap (λ b. is_among rest q || b) (n q)
       ∙ sym (moved (is_same q key) (is_among rest q) (is_among keys q))
       ∙ sym (ap (λ b. b || is_among keys q) (next_among schema rows i row key q h e k))
       ∙ adding.among q;
@@ -162,10 +140,10 @@ adding_next schema earlier rows keys after i row key added h e k a t n adding = 
     rest : List Tuple
     rest = map (row_key schema) (drop (i + 1) rows)
 
-    alike : (q : Tuple) → is_among (earlier ++ insert_key cmp_key keys key) q ≡ (is_same q key || is_among (earlier ++ keys) q)
+    alike : (q : Tuple) → is_among (earlier ++ after) q ≡ (is_same q key || is_among (earlier ++ keys) q)
     alike q =
-        among_both earlier (insert_key cmp_key keys key) q
-        ∙ ap (λ b. is_among earlier q || b) (among_inserted q key keys)
+        among_both earlier after q
+        ∙ ap (λ b. is_among earlier q || b) (n q)
         ∙ swapped (is_among earlier q) (is_same q key) (is_among keys q)
         ∙ sym (ap (λ b. is_same q key || b) (among_both earlier keys q))
 

@@ -1,5 +1,6 @@
 pub mod AppliedLemmas
 pub mod ApplyLemmas
+pub mod AscendingLemmas
 pub mod FitLemmas
 pub mod HeldLemmas
 pub mod JudgeLemmas
@@ -11,6 +12,7 @@ pub mod LoseLemmas
 pub mod MarkLemmas
 pub mod OldPlaceLemmas
 pub mod OriginLemmas
+pub mod OwnLemmas
 pub mod PutLemmas
 pub mod SetLemmas
 pub mod SieveLemmas

@@ -19,7 +19,7 @@ tied Less e = absurd (cc)
 tied Equal e = refl
 tied Greater e = absurd (cc)
 
-is_equal : (a b : Tuple) → is_same a b ≡ true → a ≡ b
+pub is_equal : (a b : Tuple) → is_same a b ≡ true → a ≡ b
 is_equal a b h = same_key a b (tied (cmp_key a b) h)
 
 flipped : (r : Ordering) → is_eq (ordering_reverse r) ≡ is_eq r

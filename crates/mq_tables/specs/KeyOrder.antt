@@ -2,7 +2,6 @@
 use Rattle.std.specs.Prelude.{◌≡◌, ◌≢◌, ℕ, List, [], ◌||◌, ◌&&◌, not, map, Some, None, Result, Ok, Err, slice_index_or}
 use Rattle.std.specs.List.{flat_map}
 use Rattle.std.specs.Option.{option_map}
-use Rattle.std.specs.BTreeSet.{BTreeSet}
 use Rattle.mq_values.specs.declared.faults.Refused.{Refused}
 use Rattle.mq_values.specs.declared.faults.Refused.TheVariants as refused
 use Rattle.mq_values.specs.declared.memory.Fail.{Fail}
@@ -10,7 +9,7 @@ use Rattle.mq_values.specs.declared.memory.Fail.TheVariants as fail
 use Rattle.mq_values.specs.declared.value.Value.TheVariants.{Null}
 use Rattle.mq_ir.specs.declared.statement.Schema.{Schema}
 use Rattle.mq_ir.specs.Changes.{first_repeated, key_fault}
-use Rattle.mq_ir.specs.Keys.{Tuple, is_among}
+use Rattle.mq_ir.specs.Keys.{Tuple, is_among, is_same}
 use Rattle.mq_ir.specs.Statement.{unless_refused}
 
 -- the keys of the runs, one run behind another
@@ -25,13 +24,21 @@ keys_by columns rows = map (λ row. map (λ c. slice_index_or row c Null) column
 abbrev pub HoldsBoth : List Tuple → List Tuple → List Tuple → Type 0
 HoldsBoth some others all = (key : Tuple) → is_among all key ≡ (is_among some key || is_among others key)
 
+-- what is among one list of keys is among the other, and nothing else
+abbrev pub HoldsSame : List Tuple → List Tuple → Type 0
+HoldsSame some all = (key : Tuple) → is_among all key ≡ is_among some key
+
+-- a key is put to others
+abbrev pub PutsTo : Tuple → List Tuple → List Tuple → Type 0
+PutsTo key others all = (other : Tuple) → is_among all other ≡ (is_same other key || is_among others other)
+
 -- What comes of new keys behind earlier ones: what is among them, or the first of them that repeats one before it.
 abbrev pub Repeats : List Tuple → List Tuple → Refused → Type 0
 Repeats earlier keys e = option_map refused.DuplicateKey (first_repeated earlier keys) ≡ Some e
 
 -- these are keys that repeat none before them
-abbrev pub Adds : List Tuple → List Tuple → Result (BTreeSet Tuple) (Fail Refused) → Type 0
-Adds earlier keys (Ok new) = (first_repeated earlier keys ≡ None) × ((key : Tuple) → is_among new.keys key ≡ is_among keys key)
+abbrev pub Adds : List Tuple → List Tuple → Result (List Tuple) (Fail Refused) → Type 0
+Adds earlier keys (Ok new) = (first_repeated earlier keys ≡ None) × ((key : Tuple) → is_among new key ≡ is_among keys key)
 Adds earlier keys (Err (fail.Cause e)) = Repeats earlier keys e
 Adds earlier keys (Err fail.Memory) = Unit {0}
 

@@ -1,12 +1,11 @@
 //! The keys of rows, kept in runs of which each is in order, so that one is found again.
-ghost use Rattle.std.specs.Prelude.{◌≡◌, ◌≤◌, [], ◌||◌, true, false, not, map, length, flat_map, IfOk, OnOk};
-ghost use Rattle.std.specs.BTreeSet.{insert_key};
-ghost use Rattle.mq_values.specs.Order.{cmp_key};
+ghost use Rattle.std.specs.Prelude.{◌≡◌, ◌≤◌, [], ◌++◌, ◌||◌, true, false, not, map, length, flat_map, IfOk, OnOk};
 ghost use Rattle.mq_ir.specs.Changes as spec;
 ghost use Rattle.mq_ir.specs.Keys.{is_among};
-ghost use Rattle.mq_tables.specs.KeyOrder.{Adds, Grows, GrowsTo, HoldsBoth, Loses, all_keys};
+ghost use Rattle.mq_tables.specs.KeyOrder.{Adds, Grows, GrowsTo, HoldsBoth, Loses, PutsTo, all_keys};
 
 use crate::keys::row_key;
+use crate::own_keys::OwnKeys;
 use mq_ir::{Row, Schema};
 use mq_values::{Fail, Items, Key, Memory, Refused, Shared};
 use std::alloc::Global;
@@ -32,12 +31,12 @@ impl Model for Run {
     ghost view = { λ run. run.keys.value.keys };
 }
 
-/// The keys of rows: runs that others may hold too, and the last keys, which nobody else holds. Contracts see them as the
+/// The keys of rows: runs that others may hold too, and behind them keys that nobody else holds. Contracts see them as the
 /// list of the keys, in an order that nothing rests on.
 #[derive(Drop)]
 pub struct KeyOrder {
     runs: Shared<Run>,
-    last: BTreeSet<Key>,
+    own: OwnKeys,
 }
 
 impl Model for KeyOrder {
@@ -47,7 +46,7 @@ impl Model for KeyOrder {
 
     ghost Value = { List Tuple };
 
-    ghost view = { λ order. all_keys order.runs ++ order.last.keys };
+    ghost view = { λ order. all_keys order.runs ++ order.own };
 }
 
 impl KeyOrder {
@@ -57,7 +56,7 @@ impl KeyOrder {
     {
         KeyOrder {
             runs: Shared::empty(),
-            last: BTreeSet::new(alloc),
+            own: OwnKeys::empty(alloc),
         }
     }
 
@@ -67,7 +66,7 @@ impl KeyOrder {
     {
         Ok(KeyOrder {
             runs: Shared::new(alloc, self.shared_runs(alloc)?)?,
-            last: BTreeSet::new(alloc),
+            own: OwnKeys::empty(alloc),
         })
     }
 
@@ -75,7 +74,7 @@ impl KeyOrder {
     pub fn contains(&self, key: &Key) -> bool
         ensures { result ≡ is_among self.now key.now }
     {
-        is_in_runs(self.runs.as_slice(), key) || self.last.contains(key)
+        is_in_runs(self.runs.as_slice(), key) || self.own.contains(key)
     }
 
     /// These keys and those of new rows. A key that is among these, or is that of an earlier new row, refuses the rows:
@@ -102,13 +101,12 @@ impl KeyOrder {
     ) -> Result<(), Fail<Refused>>
         ensures { GrowsTo self.old (map (spec.row_key schema.now) rows.now) self.new result }
     {
-        let mut keys = new_keys(alloc, schema, self, rows)?;
-        self.last.append(&mut keys)?;
+        let keys = new_keys(alloc, schema, self, rows)?;
+        self.own.join(alloc, keys)?;
         Ok(())
     }
 
-    /// Takes keys away, where nobody else may hold any of these. Whether it did; else nothing is changed. It takes no
-    /// memory.
+    /// Takes keys away, where nobody else may hold any of these. Whether it did; else nothing is changed.
     pub fn lose(&mut self, keys: &[Key]) -> bool
         ensures lost { result ≡ true → Loses self.old keys.now self.new }
         ensures kept { result ≡ false → self.new ≡ self.old }
@@ -116,20 +114,19 @@ impl KeyOrder {
         if !self.runs.as_slice().is_empty() {
             return false;
         }
-        take_away(&mut self.last, keys);
-        true
+        self.own.lose(keys)
     }
 
     // These keys and others. Short runs at the end are joined with the new ones, so that there are few.
-    fn with(&self, alloc: Global, keys: BTreeSet<Key>) -> Result<KeyOrder, Memory>
-        ensures { IfOk result (HoldsBoth keys.keys self.now) }
+    fn with(&self, alloc: Global, keys: OwnKeys) -> Result<KeyOrder, Memory>
+        ensures { IfOk result (HoldsBoth keys self.now) }
     {
         let runs = self.shared_runs(alloc)?;
         let (stay, joined) = runs
             .as_slice()
             .split_at(staying(runs.as_slice(), keys.len()));
         Ok(KeyOrder {
-            last: joined_keys(joined, keys)?,
+            own: joined_keys(joined, keys)?,
             runs: Shared::new(alloc, run_copies(alloc, stay)?)?,
         })
     }
@@ -139,12 +136,9 @@ impl KeyOrder {
         ensures { IfOk result (λ runs. all_keys runs ≡ self.now) }
     {
         let mut runs = run_copies(alloc, self.runs.as_slice())?;
-        if self.last.is_empty() {
-            return Ok(runs);
-        }
-        runs.push(Run {
-            keys: Arc::new(alloc, self.last.clone()?)?,
-        })?;
+        let (last, behind) = self.own.sets(alloc)?;
+        put_run(alloc, &mut runs, last)?;
+        put_run(alloc, &mut runs, behind)?;
         Ok(runs)
     }
 }
@@ -177,23 +171,26 @@ fn staying(runs: &[Run], more: usize) -> usize
 }
 
 // The keys, and those of the runs.
-fn joined_keys(runs: &[Run], keys: BTreeSet<Key>) -> Result<BTreeSet<Key>, Memory>
-    ensures { IfOk result (λ joined. HoldsBoth (all_keys runs.now) keys.keys joined.keys) }
+fn joined_keys(runs: &[Run], keys: OwnKeys) -> Result<OwnKeys, Memory>
+    ensures { IfOk result (HoldsBoth (all_keys runs.now) keys) }
 {
     let mut joined = keys;
     'runs: for run in runs {
-        put_keys(&mut joined, run)?;
+        joined.put_all(&run.keys)?;
     }
     Ok(joined)
 }
 
-// Puts the keys of a run to others.
-fn put_keys(keys: &mut BTreeSet<Key>, run: &Run) -> Result<(), Memory>
-    ensures { OnOk result (HoldsBoth run.now keys.old.keys keys.new.keys) }
+// Puts a run of keys behind others, where there is any key.
+fn put_run(alloc: Global, runs: &mut Items<Run>, keys: BTreeSet<Key>) -> Result<(), Memory>
+    ensures { OnOk result (all_keys runs.new ≡ all_keys runs.old ++ keys.keys) }
 {
-    'keys: for key in run.keys.iter() {
-        keys.insert(key.copy()?)?;
+    if keys.is_empty() {
+        return Ok(());
     }
+    runs.push(Run {
+        keys: Arc::new(alloc, keys)?,
+    })?;
     Ok(())
 }
 
@@ -216,10 +213,10 @@ fn new_keys(
     schema: &Schema,
     order: &KeyOrder,
     rows: &[Row],
-) -> Result<BTreeSet<Key>, Fail<Refused>>
+) -> Result<OwnKeys, Fail<Refused>>
     ensures { Adds order.now (map (spec.row_key schema.now) rows.now) result }
 {
-    let mut keys: BTreeSet<Key> = BTreeSet::new(alloc);
+    let mut keys = OwnKeys::empty(alloc);
     'rows: for row in rows {
         let key = row_key(alloc, schema, row)?;
         if !put_new(&mut keys, order, &key)? {
@@ -230,21 +227,12 @@ fn new_keys(
 }
 
 // Puts a key to the new ones, unless it is among them or among those of `order`. Whether it was put.
-fn put_new(keys: &mut BTreeSet<Key>, order: &KeyOrder, key: &Key) -> Result<bool, Memory>
-    ensures new { IfOk result (λ new. new ≡ not (is_among order.now key.now || is_among keys.old.keys key.now)) }
-    ensures put { IfOk result (λ new. new ≡ true → keys.new.keys ≡ insert_key cmp_key keys.old.keys key.now) }
+fn put_new(keys: &mut OwnKeys, order: &KeyOrder, key: &Key) -> Result<bool, Memory>
+    ensures new { IfOk result (λ new. new ≡ not (is_among order.now key.now || is_among keys.old key.now)) }
+    ensures put { IfOk result (λ new. new ≡ true → PutsTo key.now keys.old keys.new) }
 {
     if order.contains(key) {
         return Ok(false);
     }
-    Ok(keys.insert(key.copy()?)?)
-}
-
-// Takes keys out of others.
-fn take_away(keys: &mut BTreeSet<Key>, others: &[Key])
-    ensures { Loses keys.old.keys others.now keys.new.keys }
-{
-    'keys: for key in others {
-        keys.remove(key);
-    }
+    keys.put(key)
 }

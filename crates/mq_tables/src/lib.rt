@@ -4,6 +4,7 @@
 #![tactic(auto)]
 
 mod apply;
+mod ascending;
 mod columns;
 mod drafts;
 mod key_order;
@@ -11,6 +12,7 @@ mod keyed_rows;
 mod keys;
 mod laws;
 mod marks;
+mod own_keys;
 mod row_view;
 mod rows;
 mod scopes;

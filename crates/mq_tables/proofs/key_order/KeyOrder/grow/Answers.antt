@@ -2,7 +2,7 @@ use Rattle.std.proofs.Common.{ap, ◌∙◌, ◌||◌, map}
 use Rattle.mq_ir.specs.Changes.{row_key}
 use Rattle.mq_ir.specs.Keys.{is_among}
 use Rattle.mq_tables.specs.KeyOrder.{all_keys}
-use Rattle.mq_tables.proofs.KeyOrderLemmas.{last_put}
+use Rattle.mq_tables.proofs.KeyOrderLemmas.{own_put}
 use Rattle.mq_tables.proofs.key_order.KeyOrder.grow.Goals as goal
 
 pub returns : goal.returns
@@ -10,6 +10,6 @@ returns c =
     let keys = map (row_key c.args.schema.now) c.args.rows.now in (
       c.in_ok-keys.ensures.0,
       λ q.
-          last_put (all_keys c.self.inside.runs) c.self.inside.last.keys c.in_ok-keys.keys.keys c.append.new.self.keys keys c.in_ok-append.ensures.inserts_all.0 c.in_ok-keys.ensures.1 q
+          own_put (all_keys c.self.inside.runs) c.self.inside.own c.in_ok-keys.keys c.join.new.self keys c.in_ok-join.ensures c.in_ok-keys.ensures.1 q
           ∙ ap (λ l. is_among keys q || is_among l q) c.self.view_is,
     )

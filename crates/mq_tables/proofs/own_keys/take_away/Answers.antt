@@ -1,5 +1,5 @@
 use Rattle.mq_tables.proofs.LoseLemmas.{losing_next}
-use Rattle.mq_tables.proofs.key_order.take_away.Goals as goal
+use Rattle.mq_tables.proofs.own_keys.take_away.Goals as goal
 
 pub keys-preserved : goal.keys-preserved
 keys-preserved c =

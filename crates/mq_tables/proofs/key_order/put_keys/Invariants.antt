@@ -1,5 +1,0 @@
-use Rattle.mq_tables.proofs.KeyOrderLemmas.{Joining}
-use Rattle.mq_tables.proofs.key_order.put_keys.Given as goal
-
-abbrev pub invariant-keys : goal.invariant-keys
-invariant-keys l = Joining l.run l.initial.keys.keys l.key-iterator l.keys.keys

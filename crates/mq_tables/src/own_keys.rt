@@ -1,0 +1,138 @@
+//! Keys that nobody else holds.
+ghost use Rattle.std.specs.Prelude.{◌≡◌, ◌≤◌, ◌++◌, [], true, false, not, length, IfOk, OnOk};
+ghost use Rattle.mq_ir.specs.Keys.{is_among};
+ghost use Rattle.mq_tables.specs.KeyOrder.{HoldsBoth, Loses, PutsTo};
+
+use crate::ascending::Ascending;
+use mq_values::{Key, Memory};
+use std::alloc::Global;
+use std::collections::BTreeSet;
+use std::marker::Model;
+
+/// Keys that nobody else holds: those that came in ascending order, and the others. Contracts see them as the list of the
+/// keys, in an order that nothing rests on.
+#[derive(Drop)]
+pub struct OwnKeys {
+    last: BTreeSet<Key>,
+    behind: Ascending,
+}
+
+impl Model for OwnKeys {
+    ghost use Rattle.std.specs.Prelude.{List, ◌++◌};
+    ghost use Rattle.mq_ir.specs.Keys.{Tuple};
+
+    ghost Value = { List Tuple };
+
+    ghost view = { λ own. own.last.keys ++ own.behind };
+}
+
+impl OwnKeys {
+    /// No key. It takes no memory.
+    pub fn empty(alloc: Global) -> OwnKeys
+        ensures { result ≡ [] }
+    {
+        OwnKeys {
+            last: BTreeSet::new(alloc),
+            behind: Ascending::empty(alloc),
+        }
+    }
+
+    /// How many keys there are. It decides what later calls cost, and no answer.
+    pub fn len(&self) -> usize
+        ensures { result ≤ length self.now }
+    {
+        self.last.len().saturating_add(self.behind.as_slice().len())
+    }
+
+    /// Whether a key is among these. It takes no memory.
+    pub fn contains(&self, key: &Key) -> bool
+        ensures { result ≡ is_among self.now key.now }
+    {
+        self.last.contains(key) || self.behind.contains(key)
+    }
+
+    /// Puts a key to these, unless it is among them. Whether it was put.
+    pub fn put(&mut self, key: &Key) -> Result<bool, Memory>
+        ensures new { IfOk result (λ new. new ≡ not (is_among self.old key.now)) }
+        ensures put { IfOk result (λ new. new ≡ true → PutsTo key.now self.old self.new) }
+    {
+        if self.last.contains(key) {
+            return Ok(false);
+        }
+        if self.behind.is_below(key) {
+            self.behind.push(key.copy()?)?;
+            return Ok(true);
+        }
+        if self.behind.contains(key) {
+            return Ok(false);
+        }
+        self.last.insert(key.copy()?)?;
+        Ok(true)
+    }
+
+    /// Puts others to these. After `Memory` some of them may be here.
+    pub fn join(&mut self, alloc: Global, others: OwnKeys) -> Result<(), Memory>
+        ensures { OnOk result (HoldsBoth others self.old self.new) }
+    {
+        let (mut last, behind) = others.into_parts();
+        self.last.append(&mut last)?;
+        if self.behind.is_before(&behind) {
+            self.behind.append(behind)?;
+            return Ok(());
+        }
+        self.last.append(&mut behind.to_set(alloc)?)?;
+        Ok(())
+    }
+
+    /// Puts the keys of an ordered set to these. After `Memory` some of them may be here.
+    pub fn put_all(&mut self, keys: &BTreeSet<Key>) -> Result<(), Memory>
+        ensures { OnOk result (HoldsBoth keys.now.keys self.old self.new) }
+    {
+        put_keys(&mut self.last, keys)?;
+        Ok(())
+    }
+
+    /// Takes keys away. Whether it did; else nothing is changed.
+    pub fn lose(&mut self, keys: &[Key]) -> bool
+        ensures lost { result ≡ true → Loses self.old keys.now self.new }
+        ensures kept { result ≡ false → self.new ≡ self.old }
+    {
+        if !self.behind.lose(keys) {
+            return false;
+        }
+        take_away(&mut self.last, keys);
+        true
+    }
+
+    /// The keys that came in ascending order as an ordered set, behind the others.
+    pub fn sets(&self, alloc: Global) -> Result<(BTreeSet<Key>, BTreeSet<Key>), Memory>
+        ensures { IfOk result (λ sets. sets.0.keys ++ sets.1.keys ≡ self.now) }
+    {
+        Ok((self.last.clone()?, self.behind.to_set(alloc)?))
+    }
+
+    fn into_parts(self) -> (BTreeSet<Key>, Ascending)
+        ensures { result.0.keys ++ result.1 ≡ self }
+    {
+        (self.last, self.behind)
+    }
+}
+
+// Puts keys to others.
+fn put_keys(keys: &mut BTreeSet<Key>, others: &BTreeSet<Key>) -> Result<(), Memory>
+    ensures { OnOk result (HoldsBoth others.now.keys keys.old.keys keys.new.keys) }
+{
+    'keys: for key in others.iter() {
+        keys.insert(key.copy()?)?;
+    }
+    Ok(())
+}
+
+// Takes keys out of others.
+fn take_away(keys: &mut BTreeSet<Key>, others: &[Key])
+    ensures { Loses keys.old.keys others.now keys.new.keys }
+{
+    'keys: for key in others {
+        keys.remove(key);
+    }
+}
