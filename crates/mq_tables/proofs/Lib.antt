@@ -14,6 +14,7 @@ pub mod OldPlaceLemmas
 pub mod OriginLemmas
 pub mod OwnLemmas
 pub mod PutLemmas
+pub mod RemovalLemmas
 pub mod SetLemmas
 pub mod SieveLemmas
 pub mod SparedLemmas

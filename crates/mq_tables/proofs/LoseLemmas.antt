@@ -27,8 +27,8 @@ flipped Less = refl
 flipped Equal = refl
 flipped Greater = refl
 
-turned : (a b : Tuple) → is_same a b ≡ is_same b a
-turned a b = ap is_eq (key_total.antisymm a b) ∙ flipped (cmp_key b a)
+pub same_turned : (a b : Tuple) → is_same a b ≡ is_same b a
+same_turned a b = ap is_eq (key_total.antisymm a b) ∙ flipped (cmp_key b a)
 
 -- ---- keys are taken away, one after another
 pub record Losing (all gone : List Tuple) (i : ℕ) (now : List Tuple) : Type 0 where
@@ -57,7 +57,7 @@ losing_next all gone now after i key h e a l = record {
         ap (λ l. is_among l q) (take_more gone i key h)
         ∙ ap (λ k. is_among (take i gone ++ k ∷ []) q) (sym e)
         ∙ among_both (take i gone) (key ∷ []) q
-        ∙ ap (λ b. is_among (take i gone) q || b) (or_false (is_same q key) ∙ turned q key)
+        ∙ ap (λ b. is_among (take i gone) q || b) (or_false (is_same q key) ∙ same_turned q key)
 
 -- ---- rows of which some are gone: no two of them share a key
 module _ (key : Tuple → Tuple) where

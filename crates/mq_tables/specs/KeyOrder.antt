@@ -1,5 +1,5 @@
 -- The keys that are kept beside rows, so that one is found again.
-use Rattle.std.specs.Prelude.{◌≡◌, ◌≢◌, ℕ, List, [], ◌||◌, ◌&&◌, not, map, Some, None, Result, Ok, Err, slice_index_or}
+use Rattle.std.specs.Prelude.{◌≡◌, ◌≢◌, ℕ, List, [], ◌||◌, ◌&&◌, not, cond, false, map, Some, None, Result, Ok, Err, slice_index_or}
 use Rattle.std.specs.List.{flat_map}
 use Rattle.std.specs.Option.{option_map}
 use Rattle.mq_values.specs.declared.faults.Refused.{Refused}
@@ -57,6 +57,10 @@ GrowsTo earlier keys after (Err fail.Memory) = Unit {0}
 -- keys without some of them
 abbrev pub Loses : List Tuple → List Tuple → List Tuple → Type 0
 Loses all gone left = (key : Tuple) → is_among left key ≡ (is_among all key && not (is_among gone key))
+
+-- keys without one of them
+abbrev pub LosesOne : Tuple → List Tuple → List Tuple → Type 0
+LosesOne gone all left = (key : Tuple) → is_among left key ≡ cond (is_same gone key) false (is_among all key)
 
 -- the keys of rows, of which no two are the same, stand in this order
 pub record AreKeys (keys order : List Tuple) : Type 0 where

@@ -4,12 +4,15 @@ ghost use Rattle.std.specs.List.Sorted.{IsStrictlySortedBy};
 ghost use Rattle.std.specs.Ordering.{is_gt};
 ghost use Rattle.mq_values.specs.Order.{cmp_key};
 ghost use Rattle.mq_ir.specs.Keys.{is_among};
-ghost use Rattle.mq_tables.specs.KeyOrder.{HoldsSame, Loses};
+ghost use Rattle.mq_tables.specs.KeyOrder.{HoldsSame, Loses, LosesOne};
 
 use mq_values::{Key, Memory};
 use std::alloc::Global;
 use std::collections::BTreeSet;
 use std::marker::Model;
+
+// How many keys are taken away one by one at most, each at the cost of moving those behind it.
+const FEW: usize = 32;
 
 /// Keys, each greater than those before it. Contracts see them as their list.
 #[derive(Drop)]
@@ -94,12 +97,16 @@ impl Ascending {
         ordered(alloc, self.keys.as_slice())
     }
 
-    /// Takes keys away, in one pass, where there is memory for an ordered set of those. Whether it did; else nothing is
-    /// changed.
+    /// Takes keys away: a few of them one by one, more of them in one pass, where there is memory for an ordered set of
+    /// those. Whether it did; else nothing is changed.
     pub fn lose(&mut self, gone: &[Key]) -> bool
         ensures lost { result ≡ true → Loses self.old gone.now self.new }
         ensures kept { result ≡ false → self.new ≡ self.old }
     {
+        if gone.len() <= FEW {
+            take_each(&mut self.keys, gone);
+            return true;
+        }
         let Ok(gone) = set_of(*self.keys.allocator(), gone) else {
             return false;
         };
@@ -180,4 +187,26 @@ fn keep_others(keys: &mut Vec<Key>, gone: &BTreeSet<Key>)
     ensures ascending { IsStrictlySortedBy cmp_key keys.old.items → IsStrictlySortedBy cmp_key keys.new.items }
 {
     keys.retain(|key| !gone.contains(key));
+}
+
+// Takes a key out of ascending ones, where it is among them.
+fn take_out(keys: &mut Vec<Key>, key: &Key)
+    requires { IsStrictlySortedBy cmp_key keys.old.items }
+    ensures lost { LosesOne key.now keys.old.items keys.new.items }
+    ensures ascending { IsStrictlySortedBy cmp_key keys.new.items }
+{
+    if let Ok(at) = keys.binary_search(key) {
+        keys.remove(at);
+    }
+}
+
+// Takes keys out of ascending ones, one by one.
+fn take_each(keys: &mut Vec<Key>, gone: &[Key])
+    requires { IsStrictlySortedBy cmp_key keys.old.items }
+    ensures lost { Loses keys.old.items gone.now keys.new.items }
+    ensures ascending { IsStrictlySortedBy cmp_key keys.new.items }
+{
+    'gone: for key in gone {
+        take_out(keys, key);
+    }
 }
