@@ -1,15 +1,16 @@
 //! Tests of a dimension as tables write them, with values for their operands.
 
 use crate::literals;
-use crate::notation::{Notation, Read, no_tree, tree};
+use crate::notation::{Notation, Read, misplaced, no_tree, tree};
+use crate::parts::{Taken, all, next};
 use mq_values::{Boxed, CmpOp, DimTest, Items, Value};
 use std::alloc::Global;
 
 /// A part of a test.
 #[derive(Drop)]
 pub enum Part {
-    Value(Value),
-    Test(DimTest),
+    Value(Boxed<Value>),
+    Test(Boxed<DimTest>),
 }
 
 #[derive(Clone, Copy)]
@@ -19,29 +20,26 @@ impl Notation for OfTests {
     type Part = Part;
 
     fn word(&self, alloc: Global, word: &str) -> Read<Part> {
-        Ok(Part::Value(literals::value(alloc, word)?))
+        made_value(alloc, literals::value(alloc, word)?)
     }
 
     fn node(&self, alloc: Global, head: &str, parts: &mut Vec<Part>) -> Read<Part> {
-        Ok(Part::Test(test(alloc, head, parts)?))
+        node(alloc, head, parts)
     }
 }
 
-fn test(alloc: Global, head: &str, parts: &mut Vec<Part>) -> Read<DimTest> {
+fn node(alloc: Global, head: &str, parts: &mut Vec<Part>) -> Read<Part> {
     match head {
-        "any" => Ok(DimTest::Any),
-        "null" => Ok(DimTest::Null),
-        "at" => Ok(DimTest::At(value_of(parts)?)),
-        "between" => {
-            let low = value_of(parts)?;
-            Ok(DimTest::Between(low, value_of(parts)?))
-        }
-        "in" => Ok(DimTest::In(values_of(alloc, parts)?)),
-        "and" => Ok(DimTest::And(tests_of(alloc, parts)?)),
-        "or" => Ok(DimTest::Or(tests_of(alloc, parts)?)),
-        "not" => Ok(DimTest::Not(Boxed::new(alloc, test_of(parts)?)?)),
+        "any" => made(alloc, DimTest::Any),
+        "null" => made(alloc, DimTest::Null),
+        "at" => at(alloc, parts),
+        "between" => between(alloc, parts),
+        "in" => members(alloc, parts),
+        "and" => chain(alloc, true, parts),
+        "or" => chain(alloc, false, parts),
+        "not" => not(alloc, parts),
         _ => match comparison(head) {
-            Some(op) => Ok(DimTest::Cmp(op, value_of(parts)?)),
+            Some(op) => compared(alloc, op, parts),
             None => no_tree(),
         },
     }
@@ -62,39 +60,72 @@ pub fn comparison(sign: &str) -> Option<CmpOp> {
 
 /// The test that the text writes.
 pub fn dim_test(alloc: Global, text: &str) -> Read<Boxed<DimTest>> {
-    match tree(alloc, &OfTests, text)? {
-        Part::Test(test) => Ok(Boxed::new(alloc, test)?),
-        Part::Value(_) => no_tree(),
+    DimTest::taken(alloc, tree(alloc, &OfTests, text)?)
+}
+
+impl Taken for Value {
+    type Part = Part;
+
+    fn taken(_alloc: Global, part: Part) -> Read<Boxed<Value>> {
+        match part {
+            Part::Value(v) => Ok(v),
+            other => misplaced(other),
+        }
     }
 }
 
-fn value_of(parts: &mut Vec<Part>) -> Read<Value> {
-    match parts.pop() {
-        Some(Part::Value(v)) => Ok(v),
-        _ => no_tree(),
+impl Taken for DimTest {
+    type Part = Part;
+
+    fn taken(_alloc: Global, part: Part) -> Read<Boxed<DimTest>> {
+        match part {
+            Part::Test(test) => Ok(test),
+            other => misplaced(other),
+        }
     }
 }
 
-fn test_of(parts: &mut Vec<Part>) -> Read<DimTest> {
-    match parts.pop() {
-        Some(Part::Test(test)) => Ok(test),
-        _ => no_tree(),
+fn at(alloc: Global, parts: &mut Vec<Part>) -> Read<Part> {
+    let v: Boxed<Value> = next(alloc, parts)?;
+    made(alloc, DimTest::At(v.into_inner()))
+}
+
+fn compared(alloc: Global, op: CmpOp, parts: &mut Vec<Part>) -> Read<Part> {
+    let v: Boxed<Value> = next(alloc, parts)?;
+    made(alloc, DimTest::Cmp(op, v.into_inner()))
+}
+
+fn between(alloc: Global, parts: &mut Vec<Part>) -> Read<Part> {
+    let low: Boxed<Value> = next(alloc, parts)?;
+    let high: Boxed<Value> = next(alloc, parts)?;
+    made(alloc, DimTest::Between(low.into_inner(), high.into_inner()))
+}
+
+fn members(alloc: Global, parts: &mut Vec<Part>) -> Read<Part> {
+    made(alloc, DimTest::In(all(alloc, parts)?))
+}
+
+// Tests with AND or OR between them.
+fn chain(alloc: Global, is_and: bool, parts: &mut Vec<Part>) -> Read<Part> {
+    made(alloc, chained(is_and, all(alloc, parts)?))
+}
+
+fn chained(is_and: bool, tests: Items<DimTest>) -> DimTest {
+    if is_and {
+        DimTest::And(tests)
+    } else {
+        DimTest::Or(tests)
     }
 }
 
-// All parts that are left.
-fn values_of(alloc: Global, parts: &mut Vec<Part>) -> Read<Items<Value>> {
-    let mut values = Items::new(alloc);
-    for _ in 0..parts.len() {
-        values.push(value_of(parts)?)?;
-    }
-    Ok(values)
+fn not(alloc: Global, parts: &mut Vec<Part>) -> Read<Part> {
+    made(alloc, DimTest::Not(next(alloc, parts)?))
 }
 
-fn tests_of(alloc: Global, parts: &mut Vec<Part>) -> Read<Items<DimTest>> {
-    let mut tests = Items::new(alloc);
-    for _ in 0..parts.len() {
-        tests.push(test_of(parts)?)?;
-    }
-    Ok(tests)
+fn made(alloc: Global, test: DimTest) -> Read<Part> {
+    Ok(Part::Test(Boxed::new(alloc, test)?))
+}
+
+fn made_value(alloc: Global, v: Value) -> Read<Part> {
+    Ok(Part::Value(Boxed::new(alloc, v)?))
 }
