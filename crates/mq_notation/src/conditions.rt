@@ -2,7 +2,7 @@
 
 use crate::dimension::comparison;
 use crate::expressions::{Part, made};
-use crate::notation::Read;
+use crate::notation::{Parts, Read};
 use crate::operators::{OfMany, OfOne, many, one};
 use crate::parts::{all, next};
 use crate::{operators, place_tests};
@@ -11,7 +11,7 @@ use mq_values::{Boxed, CmpOp};
 use std::alloc::Global;
 
 // Each node is a function of its own: a function that reads the parts of several nodes takes far longer to prove.
-pub fn node(alloc: Global, head: &str, parts: &mut Vec<Part>) -> Read<Part> {
+pub fn node(alloc: Global, head: &str, parts: &mut Parts<Part>) -> Read<Part> {
     match head {
         "or" => many(alloc, OfMany::Or, parts),
         "and" => many(alloc, OfMany::And, parts),
@@ -28,7 +28,7 @@ pub fn node(alloc: Global, head: &str, parts: &mut Vec<Part>) -> Read<Part> {
     }
 }
 
-fn rest(alloc: Global, head: &str, parts: &mut Vec<Part>) -> Read<Part> {
+fn rest(alloc: Global, head: &str, parts: &mut Parts<Part>) -> Read<Part> {
     if let Some(head) = head.strip_prefix('?') {
         return place_tests::node(alloc, head, parts);
     }
@@ -38,25 +38,25 @@ fn rest(alloc: Global, head: &str, parts: &mut Vec<Part>) -> Read<Part> {
     }
 }
 
-fn between(alloc: Global, not: bool, parts: &mut Vec<Part>) -> Read<Part> {
+fn between(alloc: Global, not: bool, parts: &mut Parts<Part>) -> Read<Part> {
     let x = next(alloc, parts)?;
     let low = next(alloc, parts)?;
     let high = next(alloc, parts)?;
     made(alloc, Expr::Between(x, not, low, high))
 }
 
-fn in_list(alloc: Global, not: bool, parts: &mut Vec<Part>) -> Read<Part> {
+fn in_list(alloc: Global, not: bool, parts: &mut Parts<Part>) -> Read<Part> {
     let x = next(alloc, parts)?;
     let members = all(alloc, parts)?;
     made(alloc, Expr::InList(x, not, members))
 }
 
-fn present(alloc: Global, not: bool, parts: &mut Vec<Part>) -> Read<Part> {
+fn present(alloc: Global, not: bool, parts: &mut Parts<Part>) -> Read<Part> {
     let leaf: Boxed<Leaf> = next(alloc, parts)?;
     made(alloc, Expr::IsPresent(leaf.into_inner(), not))
 }
 
-fn compared(alloc: Global, op: CmpOp, parts: &mut Vec<Part>) -> Read<Part> {
+fn compared(alloc: Global, op: CmpOp, parts: &mut Parts<Part>) -> Read<Part> {
     let a = next(alloc, parts)?;
     let b = next(alloc, parts)?;
     made(alloc, Expr::Cmp(a, op, b))

@@ -1,8 +1,8 @@
 //! Tests of a dimension as tables write them, with values for their operands.
 
 use crate::literals;
-use crate::notation::{Notation, Read, misplaced, no_tree, tree};
-use crate::parts::{Taken, all, next};
+use crate::notation::{Notation, Parts, Read, misplaced, tree};
+use crate::parts::{Taken, all, boxed, next, pair, single};
 use mq_values::{Boxed, CmpOp, DimTest, Items, Value};
 use std::alloc::Global;
 
@@ -20,27 +20,32 @@ impl Notation for OfTests {
     type Part = Part;
 
     fn word(&self, alloc: Global, word: &str) -> Read<Part> {
-        made_value(alloc, literals::value(alloc, word)?)
+        Ok(Part::Value(boxed(alloc, literals::value(alloc, word)?)?))
     }
 
-    fn node(&self, alloc: Global, head: &str, parts: &mut Vec<Part>) -> Read<Part> {
-        node(alloc, head, parts)
+    fn node(&self, alloc: Global, head: &str, parts: &mut Parts<Part>) -> Read<Part> {
+        match head {
+            "any" => made(alloc, DimTest::Any),
+            "null" => made(alloc, DimTest::Null),
+            "and" => made(alloc, DimTest::And(all(alloc, parts)?)),
+            "or" => made(alloc, DimTest::Or(all(alloc, parts)?)),
+            "not" => made(alloc, DimTest::Not(next(alloc, parts)?)),
+            _ => made(alloc, of_operands(head, all(alloc, parts)?)?),
+        }
     }
 }
 
-fn node(alloc: Global, head: &str, parts: &mut Vec<Part>) -> Read<Part> {
+fn of_operands(head: &str, values: Items<Value>) -> Read<DimTest> {
     match head {
-        "any" => made(alloc, DimTest::Any),
-        "null" => made(alloc, DimTest::Null),
-        "at" => at(alloc, parts),
-        "between" => between(alloc, parts),
-        "in" => members(alloc, parts),
-        "and" => chain(alloc, true, parts),
-        "or" => chain(alloc, false, parts),
-        "not" => not(alloc, parts),
+        "at" => Ok(DimTest::At(single(values)?)),
+        "between" => {
+            let (low, high) = pair(values)?;
+            Ok(DimTest::Between(low, high))
+        }
+        "in" => Ok(DimTest::In(values)),
         _ => match comparison(head) {
-            Some(op) => compared(alloc, op, parts),
-            None => no_tree(),
+            Some(op) => Ok(DimTest::Cmp(op, single(values)?)),
+            None => misplaced(values),
         },
     }
 }
@@ -85,47 +90,6 @@ impl Taken for DimTest {
     }
 }
 
-fn at(alloc: Global, parts: &mut Vec<Part>) -> Read<Part> {
-    let v: Boxed<Value> = next(alloc, parts)?;
-    made(alloc, DimTest::At(v.into_inner()))
-}
-
-fn compared(alloc: Global, op: CmpOp, parts: &mut Vec<Part>) -> Read<Part> {
-    let v: Boxed<Value> = next(alloc, parts)?;
-    made(alloc, DimTest::Cmp(op, v.into_inner()))
-}
-
-fn between(alloc: Global, parts: &mut Vec<Part>) -> Read<Part> {
-    let low: Boxed<Value> = next(alloc, parts)?;
-    let high: Boxed<Value> = next(alloc, parts)?;
-    made(alloc, DimTest::Between(low.into_inner(), high.into_inner()))
-}
-
-fn members(alloc: Global, parts: &mut Vec<Part>) -> Read<Part> {
-    made(alloc, DimTest::In(all(alloc, parts)?))
-}
-
-// Tests with AND or OR between them.
-fn chain(alloc: Global, is_and: bool, parts: &mut Vec<Part>) -> Read<Part> {
-    made(alloc, chained(is_and, all(alloc, parts)?))
-}
-
-fn chained(is_and: bool, tests: Items<DimTest>) -> DimTest {
-    if is_and {
-        DimTest::And(tests)
-    } else {
-        DimTest::Or(tests)
-    }
-}
-
-fn not(alloc: Global, parts: &mut Vec<Part>) -> Read<Part> {
-    made(alloc, DimTest::Not(next(alloc, parts)?))
-}
-
 fn made(alloc: Global, test: DimTest) -> Read<Part> {
     Ok(Part::Test(Boxed::new(alloc, test)?))
-}
-
-fn made_value(alloc: Global, v: Value) -> Read<Part> {
-    Ok(Part::Value(Boxed::new(alloc, v)?))
 }

@@ -1,7 +1,7 @@
 //! Expressions as tables write them: values, leaves, and nodes.
 
 use crate::leaves::Leaves;
-use crate::notation::{Notation, Read, misplaced, tree};
+use crate::notation::{Notation, Parts, Read, misplaced, tree};
 use crate::parts::{Taken, boxed};
 use crate::{conditions, literals};
 use mq_ir::{BoundArm, BoundProd, BoundSum, Expr, Leaf, Test};
@@ -32,17 +32,13 @@ impl<'a, L: Leaves> Notation for OfExpressions<'a, L> {
     fn word(&self, alloc: Global, word: &str) -> Read<Part> {
         match self.leaves.leaf(word) {
             Some(leaf) => made_leaf(alloc, leaf),
-            None => literal(alloc, word),
+            None => made(alloc, Expr::Lit(literals::value(alloc, word)?)),
         }
     }
 
-    fn node(&self, alloc: Global, head: &str, parts: &mut Vec<Part>) -> Read<Part> {
+    fn node(&self, alloc: Global, head: &str, parts: &mut Parts<Part>) -> Read<Part> {
         conditions::node(alloc, head, parts)
     }
-}
-
-fn literal(alloc: Global, word: &str) -> Read<Part> {
-    made(alloc, Expr::Lit(literals::value(alloc, word)?))
 }
 
 /// The expression that the text writes.

@@ -2,8 +2,8 @@
 
 use crate::expressions::{Part, made_leaf};
 use crate::literals::number_of;
-use crate::notation::{Read, no_tree};
-use crate::parts::{all, next};
+use crate::notation::{Parts, Read, no_tree};
+use crate::parts::{all, is_at_end, next};
 use mq_ir::{Expr, Leaf};
 use mq_values::{Agg, Items};
 use std::alloc::Global;
@@ -21,17 +21,12 @@ pub struct Numbered;
 impl Leaves for Numbered {
     fn leaf(&self, word: &str) -> Option<Leaf> {
         match word.split_once(':') {
-            Some(("CV", number)) => current(number),
+            Some(("CV", number)) => Some(Leaf::Cv(number.parse::<u32>().ok()?)),
             Some(("COL", numbers)) => column(numbers),
             None if word == "TURN" => Some(Leaf::Turn),
             _ => None,
         }
     }
-}
-
-fn current(number: &str) -> Option<Leaf> {
-    let dimension = number.parse::<u32>().ok()?;
-    Some(Leaf::Cv(dimension))
 }
 
 fn column(numbers: &str) -> Option<Leaf> {
@@ -54,7 +49,7 @@ pub fn aggregate_named(name: &str) -> Option<Agg> {
 }
 
 // Nodes that are leaves, with their numbers and aggregates behind colons.
-pub(crate) fn node(alloc: Global, name: &str, rest: &str, parts: &mut Vec<Part>) -> Read<Part> {
+pub(crate) fn node(alloc: Global, name: &str, rest: &str, parts: &mut Parts<Part>) -> Read<Part> {
     match name {
         "cell" => cell(alloc, Asked::Cell, rest, parts),
         "set" => cell(alloc, Asked::NotNull, rest, parts),
@@ -67,10 +62,6 @@ pub(crate) fn node(alloc: Global, name: &str, rest: &str, parts: &mut Vec<Part>)
     }
 }
 
-pub(crate) fn in_input(alloc: Global, parts: &mut Vec<Part>) -> Read<Part> {
-    made_leaf(alloc, Leaf::Present(all(alloc, parts)?))
-}
-
 // What is asked of a measure of a cell.
 #[derive(Clone, Copy)]
 enum Asked {
@@ -79,7 +70,7 @@ enum Asked {
     Previous,
 }
 
-fn cell(alloc: Global, asked: Asked, digits: &str, parts: &mut Vec<Part>) -> Read<Part> {
+fn cell(alloc: Global, asked: Asked, digits: &str, parts: &mut Parts<Part>) -> Read<Part> {
     let measure = number_of(digits)?;
     made_leaf(alloc, of_cell(asked, measure, all(alloc, parts)?))
 }
@@ -97,7 +88,7 @@ fn with_two(
     name: &str,
     first: &str,
     second: &str,
-    parts: &mut Vec<Part>,
+    parts: &mut Parts<Part>,
 ) -> Read<Part> {
     let number = number_of(second)?;
     match name {
@@ -107,11 +98,11 @@ fn with_two(
     }
 }
 
-fn ref_cell(alloc: Global, reference: u32, measure: u32, parts: &mut Vec<Part>) -> Read<Part> {
+fn ref_cell(alloc: Global, reference: u32, measure: u32, parts: &mut Parts<Part>) -> Read<Part> {
     made_leaf(alloc, Leaf::RefCell(reference, measure, all(alloc, parts)?))
 }
 
-fn range(alloc: Global, name: &str, measure: u32, parts: &mut Vec<Part>) -> Read<Part> {
+fn range(alloc: Global, name: &str, measure: u32, parts: &mut Parts<Part>) -> Read<Part> {
     match aggregate_named(name) {
         Some(agg) => made_leaf(alloc, Leaf::Range(agg, measure, all(alloc, parts)?)),
         None => no_tree(),
@@ -119,11 +110,11 @@ fn range(alloc: Global, name: &str, measure: u32, parts: &mut Vec<Part>) -> Read
 }
 
 // An aggregate of a group; COUNT of all rows where it has no part.
-fn grouped(alloc: Global, name: &str, parts: &mut Vec<Part>) -> Read<Part> {
+fn grouped(alloc: Global, name: &str, parts: &mut Parts<Part>) -> Read<Part> {
     let Some(agg) = aggregate_named(name) else {
         return no_tree();
     };
-    if parts.is_empty() {
+    if is_at_end(parts) {
         return made_leaf(alloc, Leaf::GroupAgg(agg, None));
     }
     made_leaf(alloc, Leaf::GroupAgg(agg, Some(next(alloc, parts)?)))

@@ -51,7 +51,7 @@ impl Listed for Expr {
 
 impl Listed for Items<Expr> {
     fn read(alloc: Global, text: &str) -> Read<Items<Expr>> {
-        expressions(alloc, text)
+        list_or_dash(alloc, " , ", text)
     }
 }
 

@@ -1,15 +1,15 @@
 //! Nodes that have values.
 
-use crate::expressions::{Part, made};
+use crate::expressions::{Part, made, made_leaf};
 use crate::leaves;
 use crate::literals::{kind, scale};
-use crate::notation::{Read, misplaced, no_tree};
-use crate::parts::{all, boxed, next, opened};
+use crate::notation::{Parts, Read, misplaced, no_tree};
+use crate::parts::{all, boxed, is_at_end, next, opened};
 use mq_ir::{BoundArm, BoundProd, BoundSum, Expr, Leaf};
 use mq_values::{Boxed, Func, Items, Kind, ProdOp, SumOp};
 use std::alloc::Global;
 
-pub fn node(alloc: Global, head: &str, parts: &mut Vec<Part>) -> Read<Part> {
+pub fn node(alloc: Global, head: &str, parts: &mut Parts<Part>) -> Read<Part> {
     match head {
         "sum" => sum(alloc, parts),
         "+" => term(alloc, SumOp::Add, parts),
@@ -33,7 +33,7 @@ pub enum OfOne {
     Convert(Kind),
 }
 
-pub fn one(alloc: Global, form: OfOne, parts: &mut Vec<Part>) -> Read<Part> {
+pub fn one(alloc: Global, form: OfOne, parts: &mut Parts<Part>) -> Read<Part> {
     made(alloc, built_of_one(form, next(alloc, parts)?))
 }
 
@@ -55,7 +55,7 @@ pub enum OfMany {
     Call(Func),
 }
 
-pub fn many(alloc: Global, form: OfMany, parts: &mut Vec<Part>) -> Read<Part> {
+pub fn many(alloc: Global, form: OfMany, parts: &mut Parts<Part>) -> Read<Part> {
     made(alloc, built_of_many(form, all(alloc, parts)?))
 }
 
@@ -67,31 +67,31 @@ fn built_of_many(form: OfMany, es: Items<Expr>) -> Expr {
     }
 }
 
-fn sum(alloc: Global, parts: &mut Vec<Part>) -> Read<Part> {
+fn sum(alloc: Global, parts: &mut Parts<Part>) -> Read<Part> {
     let first = next(alloc, parts)?;
     let terms = all(alloc, parts)?;
     made(alloc, Expr::Sum(first, terms))
 }
 
-fn term(alloc: Global, op: SumOp, parts: &mut Vec<Part>) -> Read<Part> {
+fn term(alloc: Global, op: SumOp, parts: &mut Parts<Part>) -> Read<Part> {
     let e: Boxed<Expr> = next(alloc, parts)?;
     let e = e.into_inner();
     Ok(Part::Term(boxed(alloc, BoundSum { op, e })?))
 }
 
-fn product(alloc: Global, parts: &mut Vec<Part>) -> Read<Part> {
+fn product(alloc: Global, parts: &mut Parts<Part>) -> Read<Part> {
     let first = next(alloc, parts)?;
     let factors = all(alloc, parts)?;
     made(alloc, Expr::Prod(first, factors))
 }
 
-fn factor(alloc: Global, op: ProdOp, parts: &mut Vec<Part>) -> Read<Part> {
+fn factor(alloc: Global, op: ProdOp, parts: &mut Parts<Part>) -> Read<Part> {
     let e: Boxed<Expr> = next(alloc, parts)?;
     let e = e.into_inner();
     Ok(Part::Factor(boxed(alloc, BoundProd { op, e })?))
 }
 
-fn choice(alloc: Global, head: &str, parts: &mut Vec<Part>) -> Read<Part> {
+fn choice(alloc: Global, head: &str, parts: &mut Parts<Part>) -> Read<Part> {
     match head {
         "CASE" => case(alloc, parts),
         "when" => arm(alloc, parts),
@@ -105,7 +105,7 @@ fn choice(alloc: Global, head: &str, parts: &mut Vec<Part>) -> Read<Part> {
     }
 }
 
-fn case(alloc: Global, parts: &mut Vec<Part>) -> Read<Part> {
+fn case(alloc: Global, parts: &mut Parts<Part>) -> Read<Part> {
     let subject = subject(alloc, parts)?;
     let arms = arms(alloc, parts)?;
     let otherwise = otherwise(parts)?;
@@ -113,18 +113,18 @@ fn case(alloc: Global, parts: &mut Vec<Part>) -> Read<Part> {
 }
 
 // What all arms are compared with, where an expression stands before them.
-fn subject(alloc: Global, parts: &mut Vec<Part>) -> Read<Option<Boxed<Expr>>> {
+fn subject(alloc: Global, parts: &mut Parts<Part>) -> Read<Option<Boxed<Expr>>> {
     match parts.last() {
-        Some(Part::Tree(_) | Part::Leaf(_)) => Ok(Some(next(alloc, parts)?)),
+        Some(Some(Part::Tree(_) | Part::Leaf(_))) => Ok(Some(next(alloc, parts)?)),
         _ => Ok(None),
     }
 }
 
 // The arms of a CASE, up to what stands behind ELSE.
-fn arms(alloc: Global, parts: &mut Vec<Part>) -> Read<Items<BoundArm>> {
+fn arms(alloc: Global, parts: &mut Parts<Part>) -> Read<Items<BoundArm>> {
     let mut arms = Items::new(alloc);
     for _ in 0..parts.len() {
-        if is_at_else(parts) {
+        if !matches!(parts.last(), Some(Some(Part::Arm(_)))) {
             break;
         }
         arms.push(opened(next(alloc, parts))?)?;
@@ -132,32 +132,27 @@ fn arms(alloc: Global, parts: &mut Vec<Part>) -> Read<Items<BoundArm>> {
     Ok(arms)
 }
 
-fn is_at_else(parts: &[Part]) -> bool {
-    matches!(parts.last(), Some(Part::Else(_)))
-}
-
-fn otherwise(parts: &mut Vec<Part>) -> Read<Option<Boxed<Expr>>> {
+fn otherwise(parts: &mut Parts<Part>) -> Read<Option<Boxed<Expr>>> {
+    if is_at_end(parts) {
+        return Ok(None);
+    }
     match parts.pop() {
-        Some(Part::Else(e)) => Ok(Some(e)),
-        None => Ok(None),
+        Some(Some(Part::Else(e))) => Ok(Some(e)),
         other => misplaced(other),
     }
 }
 
-fn arm(alloc: Global, parts: &mut Vec<Part>) -> Read<Part> {
+fn arm(alloc: Global, parts: &mut Parts<Part>) -> Read<Part> {
     let test: Boxed<Expr> = next(alloc, parts)?;
     let value: Boxed<Expr> = next(alloc, parts)?;
-    Ok(Part::Arm(boxed(alloc, arm_of(test, value))?))
-}
-
-fn arm_of(test: Boxed<Expr>, value: Boxed<Expr>) -> BoundArm {
-    BoundArm {
+    let arm = BoundArm {
         test: test.into_inner(),
         value: value.into_inner(),
-    }
+    };
+    Ok(Part::Arm(boxed(alloc, arm)?))
 }
 
-fn present_v(alloc: Global, parts: &mut Vec<Part>) -> Read<Part> {
+fn present_v(alloc: Global, parts: &mut Parts<Part>) -> Read<Part> {
     let present: Boxed<Leaf> = next(alloc, parts)?;
     let yes = next(alloc, parts)?;
     let no = next(alloc, parts)?;
@@ -171,7 +166,7 @@ fn present_v(alloc: Global, parts: &mut Vec<Part>) -> Read<Part> {
     )
 }
 
-fn present_nnv(alloc: Global, parts: &mut Vec<Part>) -> Read<Part> {
+fn present_nnv(alloc: Global, parts: &mut Parts<Part>) -> Read<Part> {
     let present: Boxed<Leaf> = next(alloc, parts)?;
     let not_null: Boxed<Leaf> = next(alloc, parts)?;
     let yes = next(alloc, parts)?;
@@ -188,7 +183,7 @@ fn present_nnv(alloc: Global, parts: &mut Vec<Part>) -> Read<Part> {
 }
 
 // A node with a kind, a scale or numbers behind a colon.
-fn numbered(alloc: Global, name: &str, rest: &str, parts: &mut Vec<Part>) -> Read<Part> {
+fn numbered(alloc: Global, name: &str, rest: &str, parts: &mut Parts<Part>) -> Read<Part> {
     match name {
         "CAST" => one(alloc, OfOne::Cast(kind(rest)?), parts),
         "CONVERT" => one(alloc, OfOne::Convert(kind(rest)?), parts),
@@ -197,13 +192,13 @@ fn numbered(alloc: Global, name: &str, rest: &str, parts: &mut Vec<Part>) -> Rea
     }
 }
 
-fn plain(alloc: Global, head: &str, parts: &mut Vec<Part>) -> Read<Part> {
+fn plain(alloc: Global, head: &str, parts: &mut Parts<Part>) -> Read<Part> {
     match head {
         "ABS" => many(alloc, OfMany::Call(Func::Abs), parts),
         "FLOOR" => many(alloc, OfMany::Call(Func::Floor), parts),
         "LENGTH" => many(alloc, OfMany::Call(Func::Length), parts),
         "NVL" => many(alloc, OfMany::Call(Func::Nvl), parts),
-        "in-input" => leaves::in_input(alloc, parts),
+        "in-input" => made_leaf(alloc, Leaf::Present(all(alloc, parts)?)),
         _ => no_tree(),
     }
 }

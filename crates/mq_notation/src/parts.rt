@@ -1,6 +1,6 @@
 //! The parts of a node, each taken as what it has to be.
 
-use crate::notation::{Read, no_tree};
+use crate::notation::{Parts, Read, misplaced, no_tree};
 use mq_values::{Boxed, Items};
 use std::alloc::Global;
 
@@ -13,17 +13,25 @@ pub trait Taken: Drop {
 }
 
 /// The next part.
-pub fn next<T: Taken>(alloc: Global, parts: &mut Vec<T::Part>) -> Read<Boxed<T>> {
+pub fn next<T: Taken>(alloc: Global, parts: &mut Parts<T::Part>) -> Read<Boxed<T>> {
     match parts.pop() {
-        Some(part) => T::taken(alloc, part),
-        None => no_tree(),
+        Some(Some(part)) => T::taken(alloc, part),
+        other => misplaced(other),
     }
 }
 
-/// All parts that are left.
-pub fn all<T: Taken>(alloc: Global, parts: &mut Vec<T::Part>) -> Read<Items<T>> {
+/// Whether the node has no more parts.
+pub fn is_at_end<P>(parts: &[Option<P>]) -> bool {
+    !matches!(parts.last(), Some(Some(_)))
+}
+
+/// All parts that are left of the node.
+pub fn all<T: Taken>(alloc: Global, parts: &mut Parts<T::Part>) -> Read<Items<T>> {
     let mut found = Items::new(alloc);
     for _ in 0..parts.len() {
+        if is_at_end(parts) {
+            break;
+        }
         found.push(opened(next(alloc, parts))?)?;
     }
     Ok(found)
@@ -48,4 +56,28 @@ pub fn inner<T: Drop>(tree: Option<Boxed<T>>) -> Option<T> {
         Some(tree) => Some(tree.into_inner()),
         None => None,
     }
+}
+
+/// The item of a list of one.
+pub fn single<T: Drop>(items: Items<T>) -> Read<T> {
+    let mut items = items.into_vec();
+    match items.pop() {
+        Some(item) if items.is_empty() => Ok(item),
+        other => misplaced(other),
+    }
+}
+
+/// The items of a list of two.
+pub fn pair<T: Drop>(items: Items<T>) -> Read<(T, T)> {
+    if items.len() != 2 {
+        return misplaced(items);
+    }
+    let mut items = items.into_vec();
+    let Some(second) = items.pop() else {
+        return no_tree();
+    };
+    let Some(first) = items.pop() else {
+        return no_tree();
+    };
+    Ok((first, second))
 }

@@ -2,64 +2,36 @@
 
 use crate::dimension::comparison;
 use crate::expressions::Part;
-use crate::notation::{Read, no_tree};
-use crate::parts::{all, next};
+use crate::notation::{Parts, Read, misplaced};
+use crate::parts::{all, next, pair, single};
 use mq_ir::{Expr, Test};
-use mq_values::{Boxed, CmpOp, Items};
+use mq_values::{Boxed, Items};
 use std::alloc::Global;
 
-pub(crate) fn node(alloc: Global, head: &str, parts: &mut Vec<Part>) -> Read<Part> {
+pub(crate) fn node(alloc: Global, head: &str, parts: &mut Parts<Part>) -> Read<Part> {
     match head {
         "any" => made(alloc, Test::Any),
         "null" => made(alloc, Test::Null),
-        "at" => at(alloc, parts),
-        "between" => between(alloc, parts),
-        "in" => members(alloc, parts),
-        "and" => chain(alloc, true, parts),
-        "or" => chain(alloc, false, parts),
-        "not" => not(alloc, parts),
+        "and" => made(alloc, Test::And(all(alloc, parts)?)),
+        "or" => made(alloc, Test::Or(all(alloc, parts)?)),
+        "not" => made(alloc, Test::Not(next(alloc, parts)?)),
+        _ => made(alloc, of_operands(head, all(alloc, parts)?)?),
+    }
+}
+
+fn of_operands(head: &str, es: Items<Expr>) -> Read<Test> {
+    match head {
+        "at" => Ok(Test::At(single(es)?)),
+        "between" => {
+            let (low, high) = pair(es)?;
+            Ok(Test::Between(low, high))
+        }
+        "in" => Ok(Test::In(es)),
         _ => match comparison(head) {
-            Some(op) => compared(alloc, op, parts),
-            None => no_tree(),
+            Some(op) => Ok(Test::Cmp(op, single(es)?)),
+            None => misplaced(es),
         },
     }
-}
-
-fn at(alloc: Global, parts: &mut Vec<Part>) -> Read<Part> {
-    let e: Boxed<Expr> = next(alloc, parts)?;
-    made(alloc, Test::At(e.into_inner()))
-}
-
-fn compared(alloc: Global, op: CmpOp, parts: &mut Vec<Part>) -> Read<Part> {
-    let e: Boxed<Expr> = next(alloc, parts)?;
-    made(alloc, Test::Cmp(op, e.into_inner()))
-}
-
-fn between(alloc: Global, parts: &mut Vec<Part>) -> Read<Part> {
-    let low: Boxed<Expr> = next(alloc, parts)?;
-    let high: Boxed<Expr> = next(alloc, parts)?;
-    made(alloc, Test::Between(low.into_inner(), high.into_inner()))
-}
-
-fn members(alloc: Global, parts: &mut Vec<Part>) -> Read<Part> {
-    made(alloc, Test::In(all(alloc, parts)?))
-}
-
-// Tests with AND or OR between them.
-fn chain(alloc: Global, is_and: bool, parts: &mut Vec<Part>) -> Read<Part> {
-    made(alloc, chained(is_and, all(alloc, parts)?))
-}
-
-fn chained(is_and: bool, tests: Items<Test>) -> Test {
-    if is_and {
-        Test::And(tests)
-    } else {
-        Test::Or(tests)
-    }
-}
-
-fn not(alloc: Global, parts: &mut Vec<Part>) -> Read<Part> {
-    made(alloc, Test::Not(next(alloc, parts)?))
 }
 
 fn made(alloc: Global, test: Test) -> Read<Part> {
