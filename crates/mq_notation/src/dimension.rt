@@ -1,15 +1,16 @@
 //! Tests of a dimension as tables write them, with values for their operands.
 
 use crate::literals;
-use crate::notation::{Notation, Read, no_tree, tree};
+use crate::notation::{Notation, Parts, Read, misplaced, tree};
+use crate::parts::{Taken, all, boxed, next, pair, single};
 use mq_values::{Boxed, CmpOp, DimTest, Items, Value};
 use std::alloc::Global;
 
 /// A part of a test.
 #[derive(Drop)]
 pub enum Part {
-    Value(Value),
-    Test(DimTest),
+    Value(Boxed<Value>),
+    Test(Boxed<DimTest>),
 }
 
 #[derive(Clone, Copy)]
@@ -19,30 +20,32 @@ impl Notation for OfTests {
     type Part = Part;
 
     fn word(&self, alloc: Global, word: &str) -> Read<Part> {
-        Ok(Part::Value(literals::value(alloc, word)?))
+        Ok(Part::Value(boxed(alloc, literals::value(alloc, word)?)?))
     }
 
-    fn node(&self, alloc: Global, head: &str, parts: &mut Vec<Part>) -> Read<Part> {
-        Ok(Part::Test(test(alloc, head, parts)?))
+    fn node(&self, alloc: Global, head: &str, parts: &mut Parts<Part>) -> Read<Part> {
+        match head {
+            "any" => made(alloc, DimTest::Any),
+            "null" => made(alloc, DimTest::Null),
+            "and" => made(alloc, DimTest::And(all(alloc, parts)?)),
+            "or" => made(alloc, DimTest::Or(all(alloc, parts)?)),
+            "not" => made(alloc, DimTest::Not(next(alloc, parts)?)),
+            _ => made(alloc, of_operands(head, all(alloc, parts)?)?),
+        }
     }
 }
 
-fn test(alloc: Global, head: &str, parts: &mut Vec<Part>) -> Read<DimTest> {
+fn of_operands(head: &str, values: Items<Value>) -> Read<DimTest> {
     match head {
-        "any" => Ok(DimTest::Any),
-        "null" => Ok(DimTest::Null),
-        "at" => Ok(DimTest::At(value_of(parts)?)),
+        "at" => Ok(DimTest::At(single(values)?)),
         "between" => {
-            let low = value_of(parts)?;
-            Ok(DimTest::Between(low, value_of(parts)?))
+            let (low, high) = pair(values)?;
+            Ok(DimTest::Between(low, high))
         }
-        "in" => Ok(DimTest::In(values_of(alloc, parts)?)),
-        "and" => Ok(DimTest::And(tests_of(alloc, parts)?)),
-        "or" => Ok(DimTest::Or(tests_of(alloc, parts)?)),
-        "not" => Ok(DimTest::Not(Boxed::new(alloc, test_of(parts)?)?)),
+        "in" => Ok(DimTest::In(values)),
         _ => match comparison(head) {
-            Some(op) => Ok(DimTest::Cmp(op, value_of(parts)?)),
-            None => no_tree(),
+            Some(op) => Ok(DimTest::Cmp(op, single(values)?)),
+            None => misplaced(values),
         },
     }
 }
@@ -62,39 +65,31 @@ pub fn comparison(sign: &str) -> Option<CmpOp> {
 
 /// The test that the text writes.
 pub fn dim_test(alloc: Global, text: &str) -> Read<Boxed<DimTest>> {
-    match tree(alloc, &OfTests, text)? {
-        Part::Test(test) => Ok(Boxed::new(alloc, test)?),
-        Part::Value(_) => no_tree(),
+    DimTest::taken(alloc, tree(alloc, &OfTests, text)?)
+}
+
+impl Taken for Value {
+    type Part = Part;
+
+    fn taken(_alloc: Global, part: Part) -> Read<Boxed<Value>> {
+        match part {
+            Part::Value(v) => Ok(v),
+            other => misplaced(other),
+        }
     }
 }
 
-fn value_of(parts: &mut Vec<Part>) -> Read<Value> {
-    match parts.pop() {
-        Some(Part::Value(v)) => Ok(v),
-        _ => no_tree(),
+impl Taken for DimTest {
+    type Part = Part;
+
+    fn taken(_alloc: Global, part: Part) -> Read<Boxed<DimTest>> {
+        match part {
+            Part::Test(test) => Ok(test),
+            other => misplaced(other),
+        }
     }
 }
 
-fn test_of(parts: &mut Vec<Part>) -> Read<DimTest> {
-    match parts.pop() {
-        Some(Part::Test(test)) => Ok(test),
-        _ => no_tree(),
-    }
-}
-
-// All parts that are left.
-fn values_of(alloc: Global, parts: &mut Vec<Part>) -> Read<Items<Value>> {
-    let mut values = Items::new(alloc);
-    for _ in 0..parts.len() {
-        values.push(value_of(parts)?)?;
-    }
-    Ok(values)
-}
-
-fn tests_of(alloc: Global, parts: &mut Vec<Part>) -> Read<Items<DimTest>> {
-    let mut tests = Items::new(alloc);
-    for _ in 0..parts.len() {
-        tests.push(test_of(parts)?)?;
-    }
-    Ok(tests)
+fn made(alloc: Global, test: DimTest) -> Read<Part> {
+    Ok(Part::Test(Boxed::new(alloc, test)?))
 }

@@ -1,10 +1,11 @@
 //! Expressions as tables write them: values, leaves, and nodes.
 
 use crate::leaves::Leaves;
-use crate::notation::{Notation, Read, no_tree, tree as read_tree};
+use crate::notation::{Notation, Parts, Read, misplaced, tree};
+use crate::parts::{Taken, boxed};
 use crate::{conditions, literals};
-use mq_ir::{Expr, Leaf, Test};
-use mq_values::{Boxed, Items, ProdOp, SumOp};
+use mq_ir::{BoundArm, BoundProd, BoundSum, Expr, Leaf, Test};
+use mq_values::Boxed;
 use std::alloc::Global;
 
 /// A part of an expression.
@@ -12,9 +13,9 @@ use std::alloc::Global;
 pub enum Part {
     Tree(Boxed<Expr>),
     Leaf(Boxed<Leaf>),
-    Term(SumOp, Boxed<Expr>),
-    Factor(ProdOp, Boxed<Expr>),
-    Arm(Boxed<Expr>, Boxed<Expr>),
+    Term(Boxed<BoundSum>),
+    Factor(Boxed<BoundProd>),
+    Arm(Boxed<BoundArm>),
     Else(Boxed<Expr>),
     Test(Boxed<Test>),
 }
@@ -29,56 +30,91 @@ impl<'a, L: Leaves> Notation for OfExpressions<'a, L> {
     type Part = Part;
 
     fn word(&self, alloc: Global, word: &str) -> Read<Part> {
-        if let Some(leaf) = self.leaves.leaf(word) {
-            return Ok(Part::Leaf(Boxed::new(alloc, leaf)?));
+        match self.leaves.leaf(word) {
+            Some(leaf) => made_leaf(alloc, leaf),
+            None => made(alloc, Expr::Lit(literals::value(alloc, word)?)),
         }
-        let v = literals::value(alloc, word)?;
-        Ok(Part::Tree(Boxed::new(alloc, Expr::Lit(v))?))
     }
 
-    fn node(&self, alloc: Global, head: &str, parts: &mut Vec<Part>) -> Read<Part> {
+    fn node(&self, alloc: Global, head: &str, parts: &mut Parts<Part>) -> Read<Part> {
         conditions::node(alloc, head, parts)
     }
 }
 
 /// The expression that the text writes.
 pub fn expression<L: Leaves>(alloc: Global, leaves: &L, text: &str) -> Read<Boxed<Expr>> {
-    let mut parts = Vec::new(alloc);
-    parts.push(read_tree(alloc, &OfExpressions { leaves }, text)?)?;
-    tree(alloc, &mut parts)
+    Expr::taken(alloc, tree(alloc, &OfExpressions { leaves }, text)?)
 }
 
 /// The test of a dimension that the text writes, with expressions for its operands.
 pub fn place_test<L: Leaves>(alloc: Global, leaves: &L, text: &str) -> Read<Boxed<Test>> {
-    match read_tree(alloc, &OfExpressions { leaves }, text)? {
-        Part::Test(test) => Ok(test),
-        _ => no_tree(),
+    Test::taken(alloc, tree(alloc, &OfExpressions { leaves }, text)?)
+}
+
+impl Taken for Expr {
+    type Part = Part;
+
+    fn taken(alloc: Global, part: Part) -> Read<Boxed<Expr>> {
+        match part {
+            Part::Tree(e) => Ok(e),
+            Part::Leaf(leaf) => boxed(alloc, Expr::Leaf(leaf.into_inner())),
+            other => misplaced(other),
+        }
     }
 }
 
-/// The next part as an expression.
-pub fn tree(alloc: Global, parts: &mut Vec<Part>) -> Read<Boxed<Expr>> {
-    match parts.pop() {
-        Some(Part::Tree(e)) => Ok(e),
-        Some(Part::Leaf(leaf)) => Ok(Boxed::new(alloc, Expr::Leaf(leaf.into_inner()))?),
-        _ => no_tree(),
+impl Taken for Leaf {
+    type Part = Part;
+
+    fn taken(_alloc: Global, part: Part) -> Read<Boxed<Leaf>> {
+        match part {
+            Part::Leaf(leaf) => Ok(leaf),
+            other => misplaced(other),
+        }
     }
 }
 
-/// All parts that are left, as expressions.
-pub fn trees(alloc: Global, parts: &mut Vec<Part>) -> Read<Items<Expr>> {
-    let mut found = Items::new(alloc);
-    for _ in 0..parts.len() {
-        found.push(tree(alloc, parts)?.into_inner())?;
+impl Taken for BoundSum {
+    type Part = Part;
+
+    fn taken(_alloc: Global, part: Part) -> Read<Boxed<BoundSum>> {
+        match part {
+            Part::Term(term) => Ok(term),
+            other => misplaced(other),
+        }
     }
-    Ok(found)
 }
 
-/// The next part as a leaf.
-pub fn leaf(parts: &mut Vec<Part>) -> Read<Leaf> {
-    match parts.pop() {
-        Some(Part::Leaf(leaf)) => Ok(leaf.into_inner()),
-        _ => no_tree(),
+impl Taken for BoundProd {
+    type Part = Part;
+
+    fn taken(_alloc: Global, part: Part) -> Read<Boxed<BoundProd>> {
+        match part {
+            Part::Factor(factor) => Ok(factor),
+            other => misplaced(other),
+        }
+    }
+}
+
+impl Taken for BoundArm {
+    type Part = Part;
+
+    fn taken(_alloc: Global, part: Part) -> Read<Boxed<BoundArm>> {
+        match part {
+            Part::Arm(arm) => Ok(arm),
+            other => misplaced(other),
+        }
+    }
+}
+
+impl Taken for Test {
+    type Part = Part;
+
+    fn taken(_alloc: Global, part: Part) -> Read<Boxed<Test>> {
+        match part {
+            Part::Test(test) => Ok(test),
+            other => misplaced(other),
+        }
     }
 }
 

@@ -7,23 +7,16 @@ use mq_values::{CmpOp, DimTest, Memory, Value, print};
 #[cycle(forms)]
 pub fn add_test(test: &DimTest, answer: &mut Vec<u8>) -> Result<(), Memory> {
     match test {
-        DimTest::Any => add("(any", answer)?,
-        DimTest::Null => add("(null", answer)?,
-        DimTest::At(v) => add_operand("(at", v, answer)?,
-        DimTest::Cmp(op, v) => add_operand(opened(*op), v, answer)?,
-        DimTest::Between(low, high) => {
-            add_operand("(between", low, answer)?;
-            add_operand("", high, answer)?;
-        }
-        DimTest::In(members) => add_operands("(in", members.as_slice(), answer)?,
-        DimTest::And(tests) => add_tests("(and", tests.as_slice(), answer)?,
-        DimTest::Or(tests) => add_tests("(or", tests.as_slice(), answer)?,
-        DimTest::Not(test) => {
-            add("(not ", answer)?;
-            add_test(test.get(), answer)?;
-        }
+        DimTest::Any => add("(any)", answer),
+        DimTest::Null => add("(null)", answer),
+        DimTest::At(v) => add_operand("(at", v, ")", answer),
+        DimTest::Cmp(op, v) => add_operand(opened(*op), v, ")", answer),
+        DimTest::Between(low, high) => add_between(low, high, answer),
+        DimTest::In(members) => add_operands("(in", members.as_slice(), answer),
+        DimTest::And(tests) => add_tests("(and", tests.as_slice(), answer),
+        DimTest::Or(tests) => add_tests("(or", tests.as_slice(), answer),
+        DimTest::Not(test) => add_not(test.get(), answer),
     }
-    add(")", answer)
 }
 
 // The tests of a node, which begins with `head`.
@@ -34,22 +27,35 @@ fn add_tests(head: &str, tests: &[DimTest], answer: &mut Vec<u8>) -> Result<(), 
         add(" ", answer)?;
         add_test(test, answer)?;
     }
-    Ok(())
+    add(")", answer)
+}
+
+#[cycle(forms)]
+fn add_not(test: &DimTest, answer: &mut Vec<u8>) -> Result<(), Memory> {
+    add("(not ", answer)?;
+    add_test(test, answer)?;
+    add(")", answer)
+}
+
+fn add_between(low: &Value, high: &Value, answer: &mut Vec<u8>) -> Result<(), Memory> {
+    add_operand("(between", low, "", answer)?;
+    add_operand("", high, ")", answer)
 }
 
 fn add_operands(head: &str, values: &[Value], answer: &mut Vec<u8>) -> Result<(), Memory> {
     add(head, answer)?;
     for v in values {
-        add_operand("", v, answer)?;
+        add_operand("", v, "", answer)?;
     }
-    Ok(())
+    add(")", answer)
 }
 
-// A value behind what stands in front of it.
-fn add_operand(front: &str, v: &Value, answer: &mut Vec<u8>) -> Result<(), Memory> {
+// A value between what stands in front of it and behind it.
+fn add_operand(front: &str, v: &Value, end: &str, answer: &mut Vec<u8>) -> Result<(), Memory> {
     add(front, answer)?;
     add(" ", answer)?;
-    print(v, answer)
+    print(v, answer)?;
+    add(end, answer)
 }
 
 // The bracket and the sign of a comparison.

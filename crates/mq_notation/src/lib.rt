@@ -14,5 +14,6 @@ pub mod lists;
 pub mod literals;
 pub mod notation;
 mod operators;
+pub mod parts;
 mod place_tests;
 pub mod schemas;

@@ -2,11 +2,58 @@
 
 use crate::expressions::expression;
 use crate::leaves::Numbered;
-use crate::literals::values;
+use crate::literals::{value, values};
 use crate::notation::Read;
+use crate::parts::opened;
 use mq_ir::Expr;
 use mq_values::{Items, Key, Memory, Shared, Value, print};
 use std::alloc::Global;
+
+/// What stands in a list.
+pub trait Listed: Drop + Sized {
+    fn read(alloc: Global, text: &str) -> Read<Self>;
+}
+
+/// A list of one or more, with the separator between them.
+pub fn list<T: Listed>(alloc: Global, separator: &str, text: &str) -> Read<Items<T>> {
+    let mut found = Items::new(alloc);
+    for one in text.split(separator) {
+        found.push(T::read(alloc, one)?)?;
+    }
+    Ok(found)
+}
+
+/// A list that is empty where the text is a dash.
+pub fn list_or_dash<T: Listed>(alloc: Global, separator: &str, text: &str) -> Read<Items<T>> {
+    if text == "-" {
+        return Ok(Items::new(alloc));
+    }
+    list(alloc, separator, text)
+}
+
+impl Listed for Value {
+    fn read(alloc: Global, text: &str) -> Read<Value> {
+        value(alloc, text)
+    }
+}
+
+impl Listed for Key {
+    fn read(alloc: Global, text: &str) -> Read<Key> {
+        key(alloc, text)
+    }
+}
+
+impl Listed for Expr {
+    fn read(alloc: Global, text: &str) -> Read<Expr> {
+        opened(expression(alloc, &Numbered, text))
+    }
+}
+
+impl Listed for Items<Expr> {
+    fn read(alloc: Global, text: &str) -> Read<Items<Expr>> {
+        list_or_dash(alloc, " , ", text)
+    }
+}
 
 /// A key: values with blanks between them.
 pub fn key(alloc: Global, text: &str) -> Read<Key> {
@@ -16,35 +63,18 @@ pub fn key(alloc: Global, text: &str) -> Read<Key> {
 
 /// Keys; none where the text is a dash.
 pub fn keys(alloc: Global, text: &str) -> Read<Vec<Key>> {
-    let mut found = Vec::new(alloc);
-    if text == "-" {
-        return Ok(found);
-    }
-    for one in text.split(" ; ") {
-        found.push(key(alloc, one)?)?;
-    }
-    Ok(found)
+    let keys: Items<Key> = list_or_dash(alloc, " ; ", text)?;
+    Ok(keys.into_vec())
 }
 
 /// Expressions over numbered leaves; none where the text is a dash.
 pub fn expressions(alloc: Global, text: &str) -> Read<Items<Expr>> {
-    let mut found = Items::new(alloc);
-    if text == "-" {
-        return Ok(found);
-    }
-    for one in text.split(" , ") {
-        found.push(expression(alloc, &Numbered, one)?.into_inner())?;
-    }
-    Ok(found)
+    list_or_dash(alloc, " , ", text)
 }
 
 /// Rows of expressions.
 pub fn expression_rows(alloc: Global, text: &str) -> Read<Items<Items<Expr>>> {
-    let mut rows = Items::new(alloc);
-    for row in text.split(" ; ") {
-        rows.push(expressions(alloc, row)?)?;
-    }
-    Ok(rows)
+    list(alloc, " ; ", text)
 }
 
 /// Writes values with blanks between them.

@@ -1,7 +1,8 @@
 //! Values as they stand in tables: a number, a text between quotes with no quote in it, or NULL.
 
+use crate::lists::list;
 use crate::notation::{Read, no_tree};
-use mq_values::{Kind, MAX_SCALE, Num, Text, Value, ValueFault};
+use mq_values::{Items, Kind, MAX_SCALE, Num, Text, Value, ValueFault};
 use std::alloc::Global;
 
 pub fn value(alloc: Global, word: &str) -> Read<Value> {
@@ -81,12 +82,9 @@ pub fn number_of(digits: &str) -> Read<u32> {
 
 /// Values with a blank between them; none where the text is empty.
 pub fn values(alloc: Global, text: &str) -> Read<Vec<Value>> {
-    let mut found = Vec::new(alloc);
     if text.is_empty() {
-        return Ok(found);
+        return Ok(Vec::new(alloc));
     }
-    for word in text.split(' ') {
-        found.push(value(alloc, word)?)?;
-    }
-    Ok(found)
+    let found: Items<Value> = list(alloc, " ", text)?;
+    Ok(found.into_vec())
 }

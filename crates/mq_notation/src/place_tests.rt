@@ -1,52 +1,39 @@
 //! Tests of a dimension with expressions for their operands: the words of nodes begin with a question mark.
 
 use crate::dimension::comparison;
-use crate::expressions::{Part, tree, trees};
-use crate::notation::{Read, no_tree};
-use mq_ir::Test;
+use crate::expressions::Part;
+use crate::notation::{Parts, Read, misplaced};
+use crate::parts::{all, next, pair, single};
+use mq_ir::{Expr, Test};
 use mq_values::{Boxed, Items};
 use std::alloc::Global;
 
-pub(crate) fn node(alloc: Global, head: &str, parts: &mut Vec<Part>) -> Read<Part> {
+pub(crate) fn node(alloc: Global, head: &str, parts: &mut Parts<Part>) -> Read<Part> {
     match head {
         "any" => made(alloc, Test::Any),
         "null" => made(alloc, Test::Null),
-        "at" => made(alloc, Test::At(tree(alloc, parts)?.into_inner())),
-        "between" => between(alloc, parts),
-        "in" => made(alloc, Test::In(trees(alloc, parts)?)),
-        "and" => made(alloc, Test::And(tests(alloc, parts)?)),
-        "or" => made(alloc, Test::Or(tests(alloc, parts)?)),
-        "not" => made(alloc, Test::Not(test(parts)?)),
+        "and" => made(alloc, Test::And(all(alloc, parts)?)),
+        "or" => made(alloc, Test::Or(all(alloc, parts)?)),
+        "not" => made(alloc, Test::Not(next(alloc, parts)?)),
+        _ => made(alloc, of_operands(head, all(alloc, parts)?)?),
+    }
+}
+
+fn of_operands(head: &str, es: Items<Expr>) -> Read<Test> {
+    match head {
+        "at" => Ok(Test::At(single(es)?)),
+        "between" => {
+            let (low, high) = pair(es)?;
+            Ok(Test::Between(low, high))
+        }
+        "in" => Ok(Test::In(es)),
         _ => match comparison(head) {
-            Some(op) => made(alloc, Test::Cmp(op, tree(alloc, parts)?.into_inner())),
-            None => no_tree(),
+            Some(op) => Ok(Test::Cmp(op, single(es)?)),
+            None => misplaced(es),
         },
     }
 }
 
-fn between(alloc: Global, parts: &mut Vec<Part>) -> Read<Part> {
-    let low = tree(alloc, parts)?.into_inner();
-    let high = tree(alloc, parts)?.into_inner();
-    made(alloc, Test::Between(low, high))
-}
-
 fn made(alloc: Global, test: Test) -> Read<Part> {
     Ok(Part::Test(Boxed::new(alloc, test)?))
-}
-
-// The next part as a test.
-fn test(parts: &mut Vec<Part>) -> Read<Boxed<Test>> {
-    match parts.pop() {
-        Some(Part::Test(test)) => Ok(test),
-        _ => no_tree(),
-    }
-}
-
-/// All parts that are left, as tests.
-pub fn tests(alloc: Global, parts: &mut Vec<Part>) -> Read<Items<Test>> {
-    let mut found = Items::new(alloc);
-    for _ in 0..parts.len() {
-        found.push(test(parts)?.into_inner())?;
-    }
-    Ok(found)
 }

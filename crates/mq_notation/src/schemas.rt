@@ -1,9 +1,10 @@
 //! Tables to be created, as tables write them.
 
+use crate::lists::{Listed, list, list_or_dash};
 use crate::literals::{kind, number_of};
 use crate::notation::{Read, no_tree};
 use mq_ir::{Column, Schema, TableDef};
-use mq_values::{Items, Words};
+use mq_values::{Items, Kind, Words};
 use std::alloc::Global;
 
 /// The name, the columns of the key and all columns, with tabs between them. A column is its name and its kind; behind
@@ -12,48 +13,47 @@ pub fn table(alloc: Global, text: &str) -> Read<TableDef> {
     let Some((name, rest)) = text.split_once('\t') else {
         return no_tree();
     };
-    let Some((key, cols)) = rest.split_once('\t') else {
+    let schema = schema(alloc, rest)?;
+    let name = Words::new(alloc, name)?;
+    Ok(TableDef { name, schema })
+}
+
+fn schema(alloc: Global, text: &str) -> Read<Schema> {
+    let Some((key, cols)) = text.split_once('\t') else {
         return no_tree();
     };
-    let cols = columns(alloc, cols)?;
+    let cols = list(alloc, " , ", cols)?;
     let key = numbers(alloc, key)?;
-    Ok(TableDef {
-        name: Words::new(alloc, name)?,
-        schema: Schema { cols, key },
-    })
+    Ok(Schema { cols, key })
 }
 
-fn columns(alloc: Global, text: &str) -> Read<Items<Column>> {
-    let mut cols = Items::new(alloc);
-    for one in text.split(" , ") {
-        cols.push(column(alloc, one)?)?;
+impl Listed for Column {
+    fn read(alloc: Global, text: &str) -> Read<Column> {
+        let Some((name, rest)) = text.split_once(' ') else {
+            return no_tree();
+        };
+        match rest.strip_suffix('!') {
+            Some(word) => column(alloc, name, kind(word)?, true),
+            None => column(alloc, name, kind(rest)?, false),
+        }
     }
-    Ok(cols)
 }
 
-fn column(alloc: Global, text: &str) -> Read<Column> {
-    let Some((name, rest)) = text.split_once(' ') else {
-        return no_tree();
-    };
-    let (word, not_null) = match rest.strip_suffix('!') {
-        Some(word) => (word, true),
-        None => (rest, false),
-    };
+fn column(alloc: Global, name: &str, kind: Kind, not_null: bool) -> Read<Column> {
     Ok(Column {
         name: Words::new(alloc, name)?,
-        kind: kind(word)?,
+        kind,
         not_null,
     })
 }
 
+impl Listed for u32 {
+    fn read(_alloc: Global, text: &str) -> Read<u32> {
+        number_of(text)
+    }
+}
+
 /// Numbers with commas between them; none where the text is a dash.
 pub fn numbers(alloc: Global, text: &str) -> Read<Items<u32>> {
-    let mut found = Items::new(alloc);
-    if text == "-" {
-        return Ok(found);
-    }
-    for one in text.split(',') {
-        found.push(number_of(one)?)?;
-    }
-    Ok(found)
+    list_or_dash(alloc, ",", text)
 }
