@@ -17,7 +17,7 @@ use Rattle.mq_tables.specs.declared.marks.RowMark.{RowMark}
 use Rattle.mq_tables.specs.declared.sieve.Sieve.{Sieve}
 use Rattle.mq_tables.specs.InPlace.{items_left, rows_left}
 use Rattle.mq_tables.specs.KeyOrder.{judged}
-use Rattle.mq_tables.specs.Marks.{AreMarks, IsFront, LosesMarks, key_mark, row_mark}
+use Rattle.mq_tables.specs.Marks.{AreMarks, IsFront, LosesMarks, marks_of_key, row_mark}
 use Rattle.mq_tables.specs.Sieves.{Sieves, passes_over}
 
 pub marked_more : (schema : Schema) (rows : List Tuple) (marks after : List RowMark) (row : Tuple) (m : RowMark)
@@ -62,7 +62,7 @@ judged_rows schema rows after h = by (key_fault schema rows) h
     by None k = let q : rows ≡ after = cc in sym q
     by (Some e) k = absurd (cc)
 
-marks_by_keys : (schema : Schema) (rows : List Tuple) → map (row_mark schema) rows ≡ map key_mark (map (row_key schema) rows)
+marks_by_keys : (schema : Schema) (rows : List Tuple) → map (row_mark schema) rows ≡ map marks_of_key (map (row_key schema) rows)
 marks_by_keys schema [] = refl
 marks_by_keys schema (row ∷ rows) = ap (λ l. row_mark schema row ∷ l) (marks_by_keys schema rows)
 
@@ -71,7 +71,7 @@ pub marks_of_same_keys : (schema : Schema) (rows put after : List Tuple) (marks 
     → AreMarks schema rows marks → AreMarks schema after marks
 marks_of_same_keys schema rows put after marks (Ok done) g f k w =
     ap (λ (l : List Tuple). take (length marks) (map (row_mark schema) l)) (judged_rows schema put after g)
-    ∙ ap (take (length marks)) (marks_by_keys schema put ∙ ap (map key_mark) k ∙ sym (marks_by_keys schema rows))
+    ∙ ap (take (length marks)) (marks_by_keys schema put ∙ ap (map marks_of_key) k ∙ sym (marks_by_keys schema rows))
     ∙ w
 marks_of_same_keys schema rows put after marks (Err e) g f k w = ap (λ (l : List Tuple). take (length marks) (map (row_mark schema) l)) f ∙ w
 

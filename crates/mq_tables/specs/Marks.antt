@@ -12,6 +12,7 @@ use Rattle.mq_tables.specs.declared.marks.RowMark.{RowMark}
 use Rattle.mq_tables.specs.declared.marks.TheConstants.{NUMBER_MARKS, TEXT_FACTOR, TEXT_MARKS}
 use Rattle.mq_tables.specs.InPlace.{items_left}
 
+-- of a number the end of its mantissa, and of a text a sum over its bytes
 abbrev pub number_mark : ℤ → ℕ
 number_mark mant = unsigned_abs mant % NUMBER_MARKS
 
@@ -32,12 +33,12 @@ differ (mark.Text a) (mark.Text b) = not (nat_eq a b)
 differ (mark.Number scale a) (mark.Number other b) = nat_eq scale other && not (nat_eq a b)
 differ _ _ = false
 
--- the mark of a row is told by its key
-abbrev pub key_mark : Tuple → RowMark
-key_mark key = record { first = mark_of (slice_index_or key 0 value.Null); second = mark_of (slice_index_or key 1 value.Null) }
+-- the marks of a row are told by its key
+abbrev pub marks_of_key : Tuple → RowMark
+marks_of_key key = record { first = mark_of (slice_index_or key 0 value.Null); second = mark_of (slice_index_or key 1 value.Null) }
 
 abbrev pub row_mark : Schema → Tuple → RowMark
-row_mark schema row = key_mark (row_key schema row)
+row_mark schema row = marks_of_key (row_key schema row)
 
 -- a list that stands in front of another
 abbrev pub IsFront : {A : Type 0} → List A → List A → Type 0

@@ -110,8 +110,8 @@ pub fn is_chosen(
 
 /// The same of a row that may be passed over, since it is known that it is not visited as true.
 pub fn is_chosen_unless(
-    passed: bool,
     alloc: Global,
+    passed: bool,
     filter: &Option<Expr>,
     number: u32,
     row: &Row,

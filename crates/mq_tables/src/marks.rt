@@ -44,12 +44,14 @@ pub fn mark_of(v: &Value) -> Mark
     }
 }
 
+// The end of the mantissa without its sign.
 fn number_mark(mant: i128) -> u32
     ensures { result ≡ spec.number_mark mant }
 {
     (mant.unsigned_abs() % NUMBER_MARKS) as u32
 }
 
+// A sum over the bytes, each of which weighs more than those behind it.
 fn text_mark(bytes: &[u8]) -> u32
     ensures { result ≡ spec.text_mark bytes.now }
 {

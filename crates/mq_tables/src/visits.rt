@@ -64,7 +64,7 @@ pub fn gone_rows(
     let mut keys = Items::new(alloc);
     'rows: for (at, row) in rows.iter().enumerate() {
         let passed = is_passed_over(&sieve, marks, at);
-        let chosen = is_chosen_unless(passed, alloc, filter, at as u32 + 1, row)?;
+        let chosen = is_chosen_unless(alloc, passed, filter, at as u32 + 1, row)?;
         if chosen {
             keys.push(row_key(alloc, schema, row)?)?;
         }
