@@ -53,6 +53,10 @@ leaf_cell l = elim (out-Leaf l) [
   | _ ↦ Err (misuse MISUSE_OF_RULE_FORM)
 ]
 
+-- the misuse of a leaf that is none
+abbrev pub cell_fault : Leaf → ℕ
+cell_fault l = elim (out-Leaf l) [ layer.RefCell n m indices ↦ MISUSE_OF_REFERENCE_MEASURE | _ ↦ MISUSE_OF_RULE_FORM ]
+
 abbrev pub single_cell : Expr → Result (ℕ × List Expr) Refused
 single_cell e = elim (out-Expr e) [ layer.Leaf l ↦ leaf_cell l | _ ↦ Err (misuse MISUSE_OF_RULE_FORM) ]
 

@@ -7,7 +7,7 @@ ghost use Rattle.mq_ir.specs.declared.expression.Leaf.{Leaf};
 ghost use Rattle.mq_values.specs.Answers.{Gives};
 ghost use Rattle.mq_bind_expr.specs.CellNodes as spec;
 
-use crate::founds::{Held, expr_of};
+use crate::founds::{Held, expr_of, refused};
 use crate::values::a_value;
 use mq_ast::Path;
 use mq_bind_scopes::{
@@ -127,7 +127,7 @@ pub fn cell_node(
     let count = indices.len();
     let (cell, kind) = cell_called(alloc, scope, path, owner, indices)?;
     match cell_misuse(scope, at, owner, count) {
-        Some(number) => Err(misuse(number)),
+        Some(number) => refused(cell, misuse(number)),
         None => Ok(a_value(Expr::Leaf(cell), kind)),
     }
 }

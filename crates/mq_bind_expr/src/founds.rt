@@ -1,6 +1,6 @@
 //! Lists of what parts of an expression are bound to: their expressions, and how their kinds go together.
 
-ghost use Rattle.std.specs.Prelude.{◌≡◌, IfOk};
+ghost use Rattle.std.specs.Prelude.{◌≡◌, ◌∷◌, [], ◌++◌, IfOk, OnOk, Err};
 ghost use Rattle.mq_values.specs.Answers.{Gives};
 ghost use Rattle.mq_bind_expr.specs.FunctionNodes as result_of;
 ghost use Rattle.mq_bind_scopes.specs.Kinds as kinds;
@@ -34,15 +34,46 @@ pub fn converted_of(alloc: Global, kind: ExprKind, found: Held) -> Result<Boxed<
     Boxed::new(alloc, e)
 }
 
-/// The same operands, each on the heap.
-pub fn on_heap(alloc: Global, found: Items<Found>) -> Result<Items<Held>, Memory>
+fn push_on_heap<T: Drop>(alloc: Global, held: &mut Items<Boxed<T>>, next: T) -> Result<(), Memory>
+    ensures { OnOk result (held.new ≡ held.old ++ next ∷ []) }
+{
+    held.push(Boxed::new(alloc, next)?)
+}
+
+/// The same operands, each on the heap. Generic, since it only moves what it is given.
+pub fn on_heap<T: Drop>(alloc: Global, found: Items<T>) -> Result<Items<Boxed<T>>, Memory>
     ensures { IfOk result (λ held. held ≡ found) }
 {
     let mut held = Items::new(alloc);
     for f in found.into_vec() {
-        held.push(Boxed::new(alloc, f)?)?;
+        push_on_heap(alloc, &mut held, f)?;
     }
     Ok(held)
+}
+
+/// Puts an operand behind others. Generic, since it only moves what it is given.
+pub fn push_held<T: Drop>(found: &mut Items<T>, next: Boxed<T>) -> Result<(), Memory>
+    ensures { OnOk result (found.new ≡ found.old ++ next ∷ []) }
+{
+    found.push(next.into_inner())
+}
+
+/// The same with the operator before it.
+pub fn push_term<O: Drop, T: Drop>(
+    found: &mut Items<(O, T)>,
+    op: O,
+    next: Boxed<T>,
+) -> Result<(), Memory>
+    ensures { OnOk result (found.new ≡ found.old ++ (op, next) ∷ []) }
+{
+    found.push((op, next.into_inner()))
+}
+
+/// A refusal, where a tree is let go. Generic, since it only drops what it is given.
+pub fn refused<T: Drop, A: Drop>(_tree: T, fault: Fail<Refused>) -> Result<A, Fail<Refused>>
+    ensures { result ≡ Err fault }
+{
+    Err(fault)
 }
 
 /// Whether an operand is a condition.

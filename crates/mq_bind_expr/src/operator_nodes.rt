@@ -1,7 +1,8 @@
 //! The nodes of operators, from what their operands are bound to (docs/LANGUAGE.md, "Kinds").
 
-ghost use Rattle.std.specs.Prelude.{◌≡◌, IfOk};
+ghost use Rattle.std.specs.Prelude.{◌≡◌, ◌∷◌, IfOk};
 ghost use Rattle.mq_values.specs.Answers.{Gives};
+ghost use Rattle.mq_bind_scopes.specs.Kinds.{common};
 ghost use Rattle.mq_bind_expr.specs.OperatorNodes as spec;
 
 use crate::founds::{
@@ -85,6 +86,14 @@ pub fn between_node(
     Ok(a_condition(between(alloc, a, negated, low, high)?))
 }
 
+// Whether an operand goes with the members of its list.
+fn members_asked(a: &Found, members: &[Found]) -> Result<ExprKind, Fail<Refused>>
+    ensures { Gives result (common (a.now.kind ∷ spec.kinds_of members.now)) }
+{
+    let kind = wider(ExprKind::Null, a.kind)?;
+    common_from(kind, members)
+}
+
 /// IN.
 pub fn in_node(
     alloc: Global,
@@ -94,9 +103,7 @@ pub fn in_node(
 ) -> Result<Found, Fail<Refused>>
     ensures { Gives result (spec.in_node negated a members) }
 {
-    let kind = wider(ExprKind::Null, a.get().kind)?;
-    common_from(kind, members.as_slice())?;
-    let members = exprs_of(alloc, members)?;
+    members_asked(a.get(), members.as_slice())?;
     Ok(a_condition(membership(alloc, a, negated, members)?))
 }
 

@@ -1,7 +1,7 @@
 //! A place of a bracket: the test that a condition makes of its dimension, and the index of a single cell
 //! (docs/LANGUAGE.md, "Misuses").
 
-ghost use Rattle.std.specs.Prelude.{◌≡◌, ◌&&◌, ◌∷◌, [], ◌++◌, true, IfOk};
+ghost use Rattle.std.specs.Prelude.{◌≡◌, ◌&&◌, ◌∷◌, [], ◌++◌, true, None, IfOk};
 ghost use Rattle.std.specs.List.{list_all};
 ghost use Rattle.std.specs.Option.{option_map, option_map_or};
 ghost use Rattle.mq_ir.specs.declared.expression.Test.TheVariants as made;
@@ -12,7 +12,7 @@ ghost use Rattle.mq_bind_expr.specs.PlaceTests as spec;
 
 use crate::dimensions::{is_dimension, names_dimension};
 use crate::forms::{is_any_form, is_condition};
-use crate::founds::Held;
+use crate::founds::{Held, refused};
 use mq_ast::E;
 use mq_bind_scopes::{
     ExprKind, MISUSE_OF_CONDITION_IN_BRACKETS, MISUSE_OF_CONDITION_IN_CELL, Placed, is_index,
@@ -165,6 +165,13 @@ fn with_test<T: Drop>(tests: Option<Items<T>>, next: Option<T>) -> Result<Option
     }
 }
 
+// What makes no test. Generic, since it only drops what it is given.
+fn no_test<T: Drop, A: Drop>(_condition: T) -> Option<A>
+    ensures { result ≡ None }
+{
+    None
+}
+
 // The test that a condition makes of the dimension, where it is of the form of one.
 #[cycle(condition_tests)]
 #[tactic(auto, using(crate::specs::PlaceLaws::test_laws))]
@@ -179,10 +186,7 @@ fn test_of(alloc: Global, e: Expr) -> Result<Option<Test>, Memory>
         Expr::Between(d, negated, low, high) => between_test(alloc, d, negated, low, high),
         Expr::InList(d, negated, es) => in_test(alloc, d, negated, es),
         Expr::IsNull(d, negated) => null_test(alloc, d, negated),
-        Expr::IsPresent(_, _) | Expr::Sum(_, _) | Expr::Prod(_, _) | Expr::Neg(_) => Ok(None),
-        Expr::Lit(_) | Expr::Leaf(_) | Expr::Case(_, _, _) | Expr::Cast(_, _) => Ok(None),
-        Expr::Convert(_, _) | Expr::Call(_, _) => Ok(None),
-        Expr::PresentV { .. } | Expr::PresentNnv { .. } => Ok(None),
+        other => Ok(no_test(other)),
     }
 }
 
@@ -283,7 +287,7 @@ fn index_equal(
     match op {
         CmpOp::Eq => {
             if !equated_fits(dim, equated) {
-                return Err(mismatch());
+                return refused(e, mismatch());
             }
             Ok(e)
         }
@@ -303,9 +307,8 @@ fn no_index<T: Drop>(on_left: bool, _place: T) -> Result<Expr, Fail<Refused>>
     }
 }
 
-/// The index of a single cell in a place: a value, or what the dimension is equal to. Any other place is
-/// a misuse, but not where the cell stands on a left side and is one itself.
-pub fn index_of(on_left: bool, dim: Option<ExprKind>, place: Placed) -> Result<Expr, Fail<Refused>>
+// The same from a place that is taken apart.
+fn index_in(on_left: bool, dim: Option<ExprKind>, place: Placed) -> Result<Expr, Fail<Refused>>
     ensures { Gives result (spec.index_of on_left dim place) }
 {
     let Placed { test, equated } = place;
@@ -314,4 +317,25 @@ pub fn index_of(on_left: bool, dim: Option<ExprKind>, place: Placed) -> Result<E
         Test::Cmp(op, e) => index_equal(on_left, dim, op, e, equated),
         other => no_index(on_left, other),
     }
+}
+
+/// The index of a single cell in a place: a value, or what the dimension is equal to. Any other place is
+/// a misuse, but not where the cell stands on a left side and is one itself.
+pub fn index_of(
+    alloc: Global,
+    on_left: bool,
+    dim: Option<ExprKind>,
+    place: Placed,
+) -> Result<Boxed<Expr>, Fail<Refused>>
+    ensures { Gives result (spec.index_of on_left dim place) }
+{
+    let index = index_in(on_left, dim, place)?;
+    Ok(Boxed::new(alloc, index)?)
+}
+
+/// The test of a place.
+pub fn test_in(alloc: Global, place: Placed) -> Result<Boxed<Test>, Memory>
+    ensures { IfOk result (λ t. t ≡ place.test) }
+{
+    Boxed::new(alloc, place.test)
 }

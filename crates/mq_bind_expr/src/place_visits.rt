@@ -12,7 +12,8 @@ ghost use Rattle.mq_bind_expr.specs.PlaceTests as tests;
 ghost use Rattle.mq_bind_expr.specs.Steps.{each_from};
 
 use crate::forms::is_condition;
-use crate::place_tests::{index_of, place_of, placed};
+use crate::founds::push_held;
+use crate::place_tests::{index_of, place_of, placed, test_in};
 use crate::walk::bound;
 use mq_ast::{E, Place};
 use mq_bind_scopes::{
@@ -20,7 +21,7 @@ use mq_bind_scopes::{
     outside_rules, place_kind,
 };
 use mq_ir::{Expr, Test};
-use mq_values::{Fail, Items, Refused};
+use mq_values::{Boxed, Fail, Items, Refused};
 use std::alloc::Global;
 
 fn any_placed(at: Position) -> Result<Placed, Fail<Refused>>
@@ -95,11 +96,11 @@ fn bound_index(
     owner: Owner,
     n: u32,
     place: &Place,
-) -> Result<Expr, Fail<Refused>>
+) -> Result<Boxed<Expr>, Fail<Refused>>
     ensures { Gives result (parts.index_found scope.now at owner n place.now) }
 {
     let p = bound_place(alloc, scope, at, owner, n, place)?;
-    index_of(is_left(at.part), place_kind(scope, owner, n), p)
+    index_of(alloc, is_left(at.part), place_kind(scope, owner, n), p)
 }
 
 /// The indices of a single cell.
@@ -116,7 +117,7 @@ pub fn bound_indices(
     let mut indices = Items::new(alloc);
     'places: for (n, place) in places.iter().enumerate() {
         let index = bound_index(alloc, scope, at, owner, number(n)?, place)?;
-        indices.push(index)?;
+        push_held(&mut indices, index)?;
     }
     Ok(indices)
 }
@@ -129,11 +130,11 @@ fn bound_test(
     at: Position,
     n: u32,
     place: &Place,
-) -> Result<Test, Fail<Refused>>
+) -> Result<Boxed<Test>, Fail<Refused>>
     ensures { Gives result (parts.test_found scope.now at n place.now) }
 {
     let p = bound_place(alloc, scope, at, Owner::Main, n, place)?;
-    Ok(p.test)
+    Ok(test_in(alloc, p)?)
 }
 
 /// The tests of a range of cells.
@@ -149,7 +150,7 @@ pub fn bound_tests(
     let mut tests = Items::new(alloc);
     'places: for (n, place) in places.iter().enumerate() {
         let test = bound_test(alloc, scope, at, number(n)?, place)?;
-        tests.push(test)?;
+        push_held(&mut tests, test)?;
     }
     Ok(tests)
 }

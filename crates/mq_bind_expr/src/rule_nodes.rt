@@ -1,9 +1,11 @@
 //! CV, the turn, IS PRESENT and PREVIOUS, from what their parts are bound to (docs/LANGUAGE.md, "Misuses").
 
+ghost use Rattle.std.specs.Prelude.{◌≡◌, Err};
 ghost use Rattle.mq_values.specs.Answers.{Gives};
 ghost use Rattle.mq_bind_expr.specs.RuleNodes as spec;
+ghost use Rattle.mq_bind_scopes.specs.Refusals as refusals;
 
-use crate::founds::Held;
+use crate::founds::{Held, refused};
 use crate::values::{a_condition, a_value};
 use mq_bind_scopes::{
     Bracket, ExprKind, Found, MISUSE_OF_REFERENCE_MEASURE, MISUSE_OF_RULE_FORM, Owner, Position,
@@ -85,13 +87,29 @@ pub fn turn_node(scope: &Scope, at: Position) -> Result<Found, Fail<Refused>>
     Ok(a_value(Expr::Leaf(Leaf::Turn), ExprKind::Number(0)))
 }
 
+// The misuse of a leaf that is no cell of the main model.
+fn cell_fault(l: &Leaf) -> u32
+    ensures { result ≡ spec.cell_fault l.now }
+{
+    match l {
+        Leaf::RefCell(_, _, _) => MISUSE_OF_REFERENCE_MEASURE,
+        _ => MISUSE_OF_RULE_FORM,
+    }
+}
+
+fn no_cell(l: Leaf) -> Result<(u32, Items<Expr>), Fail<Refused>>
+    ensures { Gives result (Err (refusals.misuse (spec.cell_fault l))) }
+{
+    let fault = misuse(cell_fault(&l));
+    refused(l, fault)
+}
+
 fn leaf_cell(l: Leaf) -> Result<(u32, Items<Expr>), Fail<Refused>>
     ensures { Gives result (spec.leaf_cell l) }
 {
     match l {
         Leaf::Cell(measure, indices) => Ok((measure, indices)),
-        Leaf::RefCell(_, _, _) => Err(misuse(MISUSE_OF_REFERENCE_MEASURE)),
-        _ => Err(misuse(MISUSE_OF_RULE_FORM)),
+        other => no_cell(other),
     }
 }
 
@@ -101,7 +119,7 @@ pub fn single_cell(e: Expr) -> Result<(u32, Items<Expr>), Fail<Refused>>
 {
     match e {
         Expr::Leaf(l) => leaf_cell(l),
-        _ => Err(misuse(MISUSE_OF_RULE_FORM)),
+        other => refused(other, misuse(MISUSE_OF_RULE_FORM)),
     }
 }
 

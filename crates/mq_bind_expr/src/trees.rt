@@ -2,8 +2,11 @@
 
 ghost use Rattle.std.specs.Prelude.{◌≡◌, IfOk};
 ghost use Rattle.mq_ir.specs.declared.expression.Expr.{Expr};
+ghost use Rattle.mq_bind_expr.specs.OperatorNodes.{exprs_of};
 
+use crate::founds;
 use crate::founds::{Held, expr_of};
+use mq_bind_scopes::Found;
 use mq_ir::{BoundProd, BoundSum, Expr};
 use mq_values::{CmpOp, Items, Kind, Memory};
 use std::alloc::Global;
@@ -39,10 +42,11 @@ pub fn membership(
     alloc: Global,
     a: Held,
     negated: bool,
-    members: Items<Expr>,
+    members: Items<Found>,
 ) -> Result<Expr, Memory>
-    ensures { IfOk result (λ r. r ≡ Expr.InList a.e negated members) }
+    ensures { IfOk result (λ r. r ≡ Expr.InList a.e negated (exprs_of members)) }
 {
+    let members = founds::exprs_of(alloc, members)?;
     Ok(Expr::InList(expr_of(alloc, a)?, negated, members))
 }
 

@@ -6,7 +6,7 @@ ghost use Rattle.mq_bind_expr.specs.CaseLaws as cases;
 ghost use Rattle.mq_bind_expr.specs.ExpressionParts as parts;
 ghost use Rattle.mq_bind_expr.specs.ExpressionRolls as rolls;
 
-use crate::founds::Held;
+use crate::founds::{Held, push_held, push_term};
 use crate::walk::bound;
 use mq_ast::{Arm, E, ProdTerm, SumTerm};
 use mq_bind_scopes::{Found, Position, Scope};
@@ -25,8 +25,7 @@ pub fn found_each(
 {
     let mut found = Items::new(alloc);
     'es: for e in es {
-        let f = bound(alloc, scope, at, e)?;
-        found.push(f.into_inner())?;
+        push_held(&mut found, bound(alloc, scope, at, e)?)?;
     }
     Ok(found)
 }
@@ -43,8 +42,7 @@ pub fn found_terms(
 {
     let mut found = Items::new(alloc);
     'terms: for term in terms {
-        let f = bound(alloc, scope, at, &term.e)?;
-        found.push((term.op, f.into_inner()))?;
+        push_term(&mut found, term.op, bound(alloc, scope, at, &term.e)?)?;
     }
     Ok(found)
 }
@@ -61,8 +59,7 @@ pub fn found_factors(
 {
     let mut found = Items::new(alloc);
     'terms: for term in terms {
-        let f = bound(alloc, scope, at, &term.e)?;
-        found.push((term.op, f.into_inner()))?;
+        push_term(&mut found, term.op, bound(alloc, scope, at, &term.e)?)?;
     }
     Ok(found)
 }
