@@ -15,5 +15,5 @@ abbrev pub null_row : Schema → List Expr
 null_row schema = map null_of schema.cols
 
 -- an expression at the column of this place, where there is one
-abbrev pub put_at : List ℕ → ℕ → Expr → List Expr → List Expr
+abbrev pub put_at : {T : Type 0} → List ℕ → ℕ → T → List T → List T
 put_at numbers place e row = option_map_or (λ n. slice_set row n e) (slice_get numbers place) row

@@ -1,7 +1,7 @@
 //! The rows of a query: the ON conditions, WHERE and GROUP BY over its FROM items
 //! (docs/LANGUAGE.md, "The order of binding").
 
-ghost use Rattle.std.specs.Prelude.{◌≡◌};
+ghost use Rattle.std.specs.Prelude.{◌≡◌, IfOk};
 ghost use Rattle.mq_values.specs.Answers.{Gives};
 ghost use Rattle.mq_binder.specs.FromWalk as spec;
 ghost use Rattle.mq_bind_expr.specs.Steps.{each_from};
@@ -11,8 +11,8 @@ use crate::sources::{groupings, row_scope, sources_of};
 use mq_ast::{FromItem, Plain};
 use mq_bind_expr::bound_filter;
 use mq_bind_scopes::{Part, Scope, number, standing, standing_on};
-use mq_ir::{Catalog, ColRef, Expr, FromPart};
-use mq_values::{Boxed, Fail, Items, Refused, Words};
+use mq_ir::{Catalog, Expr, FromPart};
+use mq_values::{Boxed, Fail, Items, Memory, Refused, Words};
 use std::alloc::Global;
 
 /// The same expression, where there is one.
@@ -52,24 +52,22 @@ fn ons_bound(
     Ok(ons)
 }
 
-fn base_with(
+fn from_part(
+    alloc: Global,
     tables: Items<Words>,
     ons: Items<Option<Expr>>,
     filter: Option<Boxed<Expr>>,
-    scope: Scope,
-    cols: Items<ColRef>,
-) -> Base
-    ensures { result ≡ record { from = record { tables = tables; ons = ons; filter = filter }; scope = scope; cols = cols } }
+) -> Result<Boxed<FromPart>, Memory>
+    ensures { IfOk result (λ from. from ≡ record { tables = tables; ons = ons; filter = filter }) }
 {
-    Base {
-        from: FromPart {
+    Boxed::new(
+        alloc,
+        FromPart {
             tables,
             ons,
             filter: unboxed(filter),
         },
-        scope,
-        cols,
-    }
+    )
 }
 
 fn base_over(
@@ -82,8 +80,9 @@ fn base_over(
 {
     let ons = ons_bound(alloc, &scope, p.froms.as_slice())?;
     let filter = bound_filter(alloc, &scope, standing(Part::Row), &p.filter)?;
+    let from = from_part(alloc, tables, ons, filter)?;
     let cols = groupings(alloc, &scope, p.group.as_slice())?;
-    Ok(base_with(tables, ons, filter, scope, cols))
+    Ok(Base { from, scope, cols })
 }
 
 /// The rows of a query, what names mean over them, and the columns of GROUP BY.

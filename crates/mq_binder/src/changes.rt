@@ -71,8 +71,8 @@ fn null_row(alloc: Global, columns: &[Column]) -> Result<Items<Expr>, Memory>
     Ok(row)
 }
 
-// Puts an expression at a number, where there is one.
-fn put(row: &mut Vec<Expr>, n: u32, e: Expr)
+// Puts an item at a number, where there is one. Generic, as what follows, since it only moves and drops what it is given.
+fn put<T: Drop>(row: &mut Vec<T>, n: u32, e: T)
     ensures { row.new.items ≡ slice_set row.old.items n e }
 {
     if (n as usize) < row.len() {
@@ -80,8 +80,8 @@ fn put(row: &mut Vec<Expr>, n: u32, e: Expr)
     }
 }
 
-// Puts an expression at the column of this place.
-fn put_at(numbers: &[u32], place: usize, e: Expr, row: &mut Vec<Expr>)
+// Puts an item at the column of this place.
+fn put_at<T: Drop>(numbers: &[u32], place: usize, e: T, row: &mut Vec<T>)
     ensures { row.new.items ≡ places.put_at numbers.now place e row.old.items }
 {
     if let Some(n) = numbers.get(place) {

@@ -11,7 +11,7 @@ ghost use Rattle.mq_binder.specs.ForWalk as spec;
 ghost use Rattle.mq_bind_expr.specs.OperatorNodes as nodes;
 
 use crate::found::{ListFound, PlainFound};
-use crate::plain::plain_bound;
+use crate::plain::held_plain;
 use mq_ast::{E, ForList};
 use mq_bind_expr::{Held, bound, fits_dimension};
 use mq_bind_scopes::{
@@ -20,7 +20,7 @@ use mq_bind_scopes::{
 };
 use mq_ir::{Catalog, Expr, LeftItem, ListSource, PlainPart};
 use mq_lexer::folded;
-use mq_values::{Fail, Items, Memory, Refused, Words};
+use mq_values::{Boxed, Fail, Items, Memory, Refused, Words};
 use std::alloc::Global;
 
 fn value_row(alloc: Global, scope: &Scope, row: &[E]) -> Result<Items<Held>, Fail<Refused>>
@@ -130,12 +130,16 @@ fn with_part(lists: Items<PlainPart>, part: PlainPart) -> Result<Items<PlainPart
 }
 
 // The rows of a subquery, which is put behind the subqueries before it.
-fn rows_found(alloc: Global, lists: Items<PlainPart>, p: PlainFound) -> Result<ListFound, Memory>
+fn rows_found(
+    alloc: Global,
+    lists: Items<PlainPart>,
+    p: Boxed<PlainFound>,
+) -> Result<ListFound, Memory>
     ensures { IfOk result (λ found. found ≡ spec.rows_found lists p) }
 {
     let source = ListSource::Rows(number(lists.len())?);
-    let kinds = one_row(alloc, printed_kinds(alloc, p.printed.as_slice())?)?;
-    let lists = with_part(lists, p.part)?;
+    let kinds = one_row(alloc, printed_kinds(alloc, p.get().printed.as_slice())?)?;
+    let lists = with_part(lists, p.into_inner().part)?;
     Ok(ListFound {
         source,
         kinds,
@@ -159,7 +163,7 @@ pub fn list_bound(
             Ok(values_found(alloc, lists, found)?)
         }
         ForList::Rows(p) => {
-            let found = plain_bound(alloc, catalog, p)?;
+            let found = held_plain(alloc, catalog, p)?;
             Ok(rows_found(alloc, lists, found)?)
         }
     }

@@ -4,7 +4,7 @@ use mq_bind_scopes::{ExprKind, Named, Printed, ReferenceNames, RowColumn, Scope}
 use mq_ir::{
     ColRef, Expr, FromPart, Left, LeftItem, ListSource, ModelPart, PlainPart, RefPart, Rule,
 };
-use mq_values::{Items, Kind, Words};
+use mq_values::{Boxed, Items, Kind, Words};
 
 /// FROM items: their tables, their aliases, and all their columns in order.
 #[derive(Drop)]
@@ -14,10 +14,11 @@ pub struct Sources {
     pub columns: Items<RowColumn>,
 }
 
-/// What stands before the items of a query: its rows, what names mean over them, and the columns of GROUP BY.
+/// What stands before the items of a query: its rows, on the heap so that they are one word beside steps that may fail,
+/// what names mean over them, and the columns of GROUP BY.
 #[derive(Drop)]
 pub struct Base {
-    pub from: FromPart,
+    pub from: Boxed<FromPart>,
     pub scope: Scope,
     pub cols: Items<ColRef>,
 }

@@ -27,14 +27,7 @@ fn left_item(t: Test) -> LeftItem
 {
     match t {
         Test::At(e) => LeftItem::At(e),
-        Test::Any => LeftItem::Sym(Test::Any),
-        Test::Null => LeftItem::Sym(Test::Null),
-        Test::Cmp(op, e) => LeftItem::Sym(Test::Cmp(op, e)),
-        Test::Between(low, high) => LeftItem::Sym(Test::Between(low, high)),
-        Test::In(es) => LeftItem::Sym(Test::In(es)),
-        Test::And(tests) => LeftItem::Sym(Test::And(tests)),
-        Test::Or(tests) => LeftItem::Sym(Test::Or(tests)),
-        Test::Not(test) => LeftItem::Sym(Test::Not(test)),
+        other => LeftItem::Sym(other),
     }
 }
 

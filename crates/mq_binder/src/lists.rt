@@ -38,14 +38,14 @@ fn list_item_of(f: Found, name: Words, kind: Kind) -> ListItem
 }
 
 /// An item of a list that has a name, behind items of these names: its name is new, and it has a kind.
-pub fn item_named(taken: &[Words], name: Words, f: Found) -> Result<ListItem, Fail<Refused>>
+pub fn item_named(taken: &[Words], name: Words, f: Held) -> Result<ListItem, Fail<Refused>>
     ensures { Gives result (spec.item_checked taken.now (Some name) f) }
 {
     if has_name(taken, &name) {
         return Err(duplicate_name(name));
     }
-    let kind = item_kind(&f)?;
-    Ok(list_item_of(f, name, kind))
+    let kind = item_kind(f.get())?;
+    Ok(list_item_of(f.into_inner(), name, kind))
 }
 
 // An item without a name: the misuse, where it has a kind.
@@ -60,7 +60,7 @@ fn item_checked(taken: &[Words], name: Option<Words>, f: Held) -> Result<ListIte
     ensures { Gives result (spec.item_checked taken.now name f) }
 {
     match name {
-        Some(name) => item_named(taken, name, f.into_inner()),
+        Some(name) => item_named(taken, name, f),
         None => item_unnamed(taken, f.get()),
     }
 }

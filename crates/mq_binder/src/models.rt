@@ -48,6 +48,48 @@ fn items_limited(
     limited(most, number, items)
 }
 
+// The dimensions have other names than the partition columns.
+fn dims_bound(
+    alloc: Global,
+    scope: &Scope,
+    m: &ModelTree,
+    parts: &[ListItem],
+) -> Result<Items<ListItem>, Fail<Refused>>
+    ensures { Gives result (spec.items_limited scope.now MAX_DIMENSIONS LIMIT_OF_DIMENSIONS (listed.list_names parts.now) m.now.dims) }
+{
+    let taken = list_names(alloc, parts)?;
+    items_limited(
+        alloc,
+        scope,
+        taken.as_slice(),
+        m.dims.as_slice(),
+        MAX_DIMENSIONS,
+        LIMIT_OF_DIMENSIONS,
+    )
+}
+
+// The measures have other names than both.
+fn measures_bound(
+    alloc: Global,
+    scope: &Scope,
+    m: &ModelTree,
+    parts: &[ListItem],
+    dims: &[ListItem],
+) -> Result<Items<ListItem>, Fail<Refused>>
+    ensures { Gives result (spec.items_limited scope.now MAX_MEASURES LIMIT_OF_MEASURES (listed.list_names parts.now ++ listed.list_names dims.now) m.now.measures) }
+{
+    let mut taken = list_names(alloc, parts)?;
+    push_names(&mut taken, dims)?;
+    items_limited(
+        alloc,
+        scope,
+        taken.as_slice(),
+        m.measures.as_slice(),
+        MAX_MEASURES,
+        LIMIT_OF_MEASURES,
+    )
+}
+
 fn lists_bound(alloc: Global, scope: &Scope, m: &ModelTree) -> Result<Lists, Fail<Refused>>
     ensures { Gives result (spec.lists_bound scope.now m.now) }
 {
@@ -59,24 +101,8 @@ fn lists_bound(alloc: Global, scope: &Scope, m: &ModelTree) -> Result<Lists, Fai
         MAX_PARTITION_COLUMNS,
         LIMIT_OF_PARTITION_COLUMNS,
     )?;
-    let mut taken = list_names(alloc, parts.as_slice())?;
-    let dims = items_limited(
-        alloc,
-        scope,
-        taken.as_slice(),
-        m.dims.as_slice(),
-        MAX_DIMENSIONS,
-        LIMIT_OF_DIMENSIONS,
-    )?;
-    push_names(&mut taken, dims.as_slice())?;
-    let measures = items_limited(
-        alloc,
-        scope,
-        taken.as_slice(),
-        m.measures.as_slice(),
-        MAX_MEASURES,
-        LIMIT_OF_MEASURES,
-    )?;
+    let dims = dims_bound(alloc, scope, m, parts.as_slice())?;
+    let measures = measures_bound(alloc, scope, m, parts.as_slice(), dims.as_slice())?;
     Ok(Lists {
         parts,
         dims,

@@ -20,7 +20,7 @@ use mq_bind_scopes::{
     misuse, standing,
 };
 use mq_ir::{Catalog, ColRef, Expr, FromPart, ItemPart, LIMIT_OF_PRINTED_COLUMNS, PlainPart};
-use mq_values::{Fail, Items, MAX_PRINTED_COLUMNS, Memory, Refused, Words};
+use mq_values::{Boxed, Fail, Items, MAX_PRINTED_COLUMNS, Memory, Refused, Words};
 use std::alloc::Global;
 
 fn printed_item(e: Expr, name: Option<Words>, kind: ExprKind) -> (Expr, Printed)
@@ -143,7 +143,7 @@ fn parted(
 }
 
 fn plain_with(
-    from: FromPart,
+    from: Boxed<FromPart>,
     group: Option<Items<ColRef>>,
     parts: (Items<Expr>, Items<Printed>),
 ) -> PlainFound
@@ -151,7 +151,7 @@ fn plain_with(
 {
     PlainFound {
         part: PlainPart {
-            from,
+            from: from.into_inner(),
             items: ItemPart {
                 group,
                 items: parts.0,
@@ -177,7 +177,7 @@ fn items_over(
 fn plain_rows(
     alloc: Global,
     p: &Plain,
-    from: FromPart,
+    from: Boxed<FromPart>,
     scope: Scope,
 ) -> Result<PlainFound, Fail<Refused>>
     ensures { Gives result (spec.plain_rows p.now from scope) }
@@ -187,11 +187,23 @@ fn plain_rows(
     Ok(plain_with(from, scope.group, parts))
 }
 
-/// A query without MODEL and without an order.
-pub fn plain_bound(alloc: Global, catalog: &Catalog, p: &Plain) -> Result<PlainFound, Fail<Refused>>
+// A query without MODEL and without an order.
+fn plain_bound(alloc: Global, catalog: &Catalog, p: &Plain) -> Result<PlainFound, Fail<Refused>>
     ensures { Gives result (spec.plain_bound catalog.now p.now) }
 {
     let base = base_of(alloc, catalog, p)?;
     let group = group_of(base.cols, any_aggregate(p.sels.as_slice()));
     plain_rows(alloc, p, base.from, grouped_by(group, base.scope))
+}
+
+/// A query without MODEL and without an order: on the heap, so that it is one word beside the steps that may fail.
+pub fn held_plain(
+    alloc: Global,
+    catalog: &Catalog,
+    p: &Plain,
+) -> Result<Boxed<PlainFound>, Fail<Refused>>
+    ensures { Gives result (spec.plain_bound catalog.now p.now) }
+{
+    let found = plain_bound(alloc, catalog, p)?;
+    Ok(Boxed::new(alloc, found)?)
 }

@@ -13,7 +13,7 @@ use crate::bases::base_of;
 use crate::found::{ModelFound, PlainFound};
 use crate::lists::all_columns;
 use crate::models::{model_group, model_over};
-use crate::plain::{few_printed, plain_bound};
+use crate::plain::{few_printed, held_plain};
 use crate::sources::{grouped_by, no_model};
 use mq_ast::{ModelTree, OrderKey, Query, Sel};
 use mq_bind_expr::bound_value;
@@ -211,7 +211,7 @@ fn shown_scope(
 // A query with MODEL, of which is open what it prints: on the heap, as above.
 fn unprinted(
     alloc: Global,
-    from: FromPart,
+    from: Boxed<FromPart>,
     items: Items<Expr>,
     part: ModelPart,
 ) -> Result<Boxed<BoundQuery>, Memory>
@@ -220,7 +220,7 @@ fn unprinted(
     Boxed::new(
         alloc,
         BoundQuery {
-            from,
+            from: from.into_inner(),
             items: ItemPart { group: None, items },
             model: Some(part),
             print: Items::new(alloc),
@@ -270,7 +270,7 @@ fn model_printed(
 fn model_query(
     alloc: Global,
     q: &Query,
-    from: FromPart,
+    from: Boxed<FromPart>,
     scope: Scope,
     found: ModelFound,
 ) -> Result<BoundQuery, Fail<Refused>>
@@ -287,7 +287,7 @@ fn model_rows(
     catalog: &Catalog,
     q: &Query,
     m: &ModelTree,
-    from: FromPart,
+    from: Boxed<FromPart>,
     scope: Scope,
 ) -> Result<BoundQuery, Fail<Refused>>
     ensures { Gives result (spec.model_rows catalog.now q.now m.now from scope) }
@@ -299,8 +299,7 @@ fn model_rows(
 fn query_without(alloc: Global, catalog: &Catalog, q: &Query) -> Result<BoundQuery, Fail<Refused>>
     ensures { Gives result (spec.query_with catalog.now q.now None) }
 {
-    let found = plain_bound(alloc, catalog, &q.plain)?;
-    let found = Boxed::new(alloc, found)?;
+    let found = held_plain(alloc, catalog, &q.plain)?;
     plain_query(alloc, q, found)
 }
 

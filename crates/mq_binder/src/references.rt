@@ -10,7 +10,7 @@ ghost use Rattle.mq_bind_expr.specs.Steps.{each_behind};
 
 use crate::found::{ListItem, PlainFound, ReferenceFound};
 use crate::lists::{items_listed, limited, list_columns, list_exprs, list_names, push_kinds};
-use crate::plain::plain_bound;
+use crate::plain::held_plain;
 use crate::sources::row_scope;
 use crate::tables::has_name;
 use mq_ast::RefTree;
@@ -211,8 +211,7 @@ fn reference_bound(
     if has_name(earlier, &name) {
         return Err(duplicate_name(name));
     }
-    let source = plain_bound(alloc, catalog, &r.query)?;
-    let source = Boxed::new(alloc, source)?;
+    let source = held_plain(alloc, catalog, &r.query)?;
     reference_over(alloc, around, r, source)
 }
 

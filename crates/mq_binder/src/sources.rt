@@ -65,6 +65,20 @@ fn no_sources(alloc: Global) -> Sources
     }
 }
 
+// Puts a FROM item behind the others, which are lent: so what may fail has little in hand.
+fn push_item(seen: &mut Sources, table: Words, alias: Words, schema: &Schema) -> Result<(), Memory>
+    ensures { OnOk result (seen.new ≡ record {
+      tables = seen.old.tables ++ table ∷ [];
+      aliases = seen.old.aliases ++ alias ∷ [];
+      columns = seen.old.columns ++ spec.columns_of_item (length seen.old.tables) schema.now;
+    }) }
+{
+    let item = number(seen.tables.len())?;
+    seen.tables.push(table)?;
+    seen.aliases.push(alias)?;
+    push_columns(&mut seen.columns, item, schema.cols.as_slice())
+}
+
 fn with_item(seen: Sources, table: Words, alias: Words, schema: &Schema) -> Result<Sources, Memory>
     ensures { IfOk result (λ s. s ≡ record {
       tables = seen.tables ++ table ∷ [];
@@ -72,18 +86,9 @@ fn with_item(seen: Sources, table: Words, alias: Words, schema: &Schema) -> Resu
       columns = seen.columns ++ spec.columns_of_item (length seen.tables) schema.now;
     }) }
 {
-    let item = number(seen.tables.len())?;
-    let mut tables = seen.tables;
-    let mut aliases = seen.aliases;
-    let mut columns = seen.columns;
-    tables.push(table)?;
-    aliases.push(alias)?;
-    push_columns(&mut columns, item, schema.cols.as_slice())?;
-    Ok(Sources {
-        tables,
-        aliases,
-        columns,
-    })
+    let mut seen = seen;
+    push_item(&mut seen, table, alias, schema)?;
+    Ok(seen)
 }
 
 // A FROM item of this table behind the others: its alias is new.
