@@ -8,7 +8,7 @@ ghost use Rattle.mq_ir.specs.Unfolding.{converted as spec_converted};
 ghost use Rattle.mq_tables.specs.Drafts.{asked_for_null, column_found, row_set, set_value as spec_set_value};
 ghost use Rattle.mq_tables.specs.InPlace.{row_replaced};
 
-use crate::rows::{put, with_room};
+use crate::rows::put;
 use crate::scopes::{NoRow, OneRow};
 use mq_ir::{Column, Expr, Row, Schema};
 use mq_scalar::{Env, eval, holds};
@@ -78,7 +78,7 @@ pub fn inserted_row(
 ) -> Result<Row, Fail<Refused>>
     ensures { Gives result (spec.inserted_row schema.now (number, es.now)) }
 {
-    let mut values = with_room(alloc, es.len());
+    let mut values = Items::with_room(alloc, es.len());
     'columns: for (at, e) in es.iter().enumerate() {
         match schema.cols.get(at) {
             Some(col) => values.push(column_value(alloc, &mut NoRow, number, col, e)?)?,

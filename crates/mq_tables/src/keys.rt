@@ -3,17 +3,16 @@ ghost use Rattle.std.specs.Prelude.{◌≡◌, IfOk};
 ghost use Rattle.mq_ir.specs.Changes as spec;
 ghost use Rattle.mq_tables.specs.Drafts as drafts;
 
-use crate::rows::with_room;
 use crate::scopes::value_at;
 use mq_ir::{Expr, Row, Schema};
-use mq_values::{Key, Memory, Shared};
+use mq_values::{Items, Key, Memory, Shared};
 use std::alloc::Global;
 
 /// The key of a row, with the columns in the order of PRIMARY KEY.
 pub fn row_key(alloc: Global, schema: &Schema, row: &Row) -> Result<Key, Memory>
     ensures { IfOk result (λ key. key ≡ spec.row_key schema.now row.now) }
 {
-    let mut values = with_room(alloc, schema.key.len());
+    let mut values = Items::with_room(alloc, schema.key.len());
     'columns: for column in schema.key.as_slice() {
         values.push(value_at(row, *column)?)?;
     }

@@ -6,16 +6,6 @@ use mq_ir::Row;
 use mq_values::{Items, Memory};
 use std::alloc::Global;
 
-/// No items, with room for so many where there is memory for it, so that a row or a key takes no more than it needs.
-pub fn with_room<T: Drop>(alloc: Global, count: usize) -> Items<T>
-    ensures { result ≡ [] }
-{
-    match Vec::with_capacity(alloc, count) {
-        Ok(items) => Items::from_vec(items),
-        Err(_) => Items::new(alloc),
-    }
-}
-
 /// The same rows once more, with room for `more` behind them.
 pub fn row_copies(alloc: Global, rows: &[Row], more: usize) -> Result<Vec<Row>, Memory>
     ensures { IfOk result (λ copies. copies.items ≡ rows.now) }

@@ -76,6 +76,17 @@ impl<T> Items<T> {
 }
 
 impl<T: Drop> Items<T> {
+    /// The empty list, with room for so many items where there is memory for it, so that a short list takes no more
+    /// than it needs.
+    pub fn with_room(alloc: Global, count: usize) -> Items<T>
+        ensures { result ≡ [] }
+    {
+        match Vec::with_capacity(alloc, count) {
+            Ok(items) => Items { items },
+            Err(_) => Items::new(alloc),
+        }
+    }
+
     /// Puts `item` behind the others. After `Memory` the list is as before.
     pub fn push(&mut self, item: T) -> Result<(), Memory>
         ensures ok { OnOk result (self.new ≡ self.old ++ item ∷ []) }
