@@ -25,7 +25,7 @@ pub fn rows<C: Cells>(
     ensures same_results { C.results cells.new ≡ C.results cells.old }
 {
     let updated = updated_keys(alloc, s.assigned.as_slice())?;
-    let mut rows = Items::new(alloc);
+    let mut rows = Items::with_room(alloc, s.cells.len());
     'listing: for key in s.cells.as_slice() {
         let cell = out_cell(alloc, m, s, &updated, key, cells)?;
         rows.push(cell)?;
@@ -70,7 +70,7 @@ fn measures_at<C: Cells>(
     let Ok(count) = u32::try_from(count) else {
         return Err(Memory);
     };
-    let mut values = Items::new(alloc);
+    let mut values = Items::with_room(alloc, count as usize);
     'measures: for measure in 0..count {
         let slot = cells.get(alloc, key, measure)?;
         values.push(done_value(slot))?;

@@ -40,7 +40,7 @@ fn row_items<R: RowValues>(
 ) -> Result<Items<Key>, Fail<QueryFault>>
     ensures { Gives result (each (row_found R.values items.now) rows.now) }
 {
-    let mut found = Items::new(alloc);
+    let mut found = Items::with_room(alloc, rows.len());
     for row in rows {
         found.push(item_row(alloc, items, &mut RowPlace { row: Some(row) })?)?;
     }
@@ -56,7 +56,7 @@ fn group_items<R: RowValues>(
 ) -> Result<Items<Key>, Fail<QueryFault>>
     ensures { Gives result (each (group_found R.values cols.now rows.now items.now) groups.now) }
 {
-    let mut found = Items::new(alloc);
+    let mut found = Items::with_room(alloc, groups.len());
     for group in groups {
         let group = group.as_slice();
         let mut env = GroupPlace { cols, rows, group };
@@ -81,7 +81,7 @@ pub fn evaluated<V: Env>(alloc: Global, es: &[Expr], env: &mut V) -> Result<Key,
     ensures exact { Gives result (each (ev (V.gives env.old)) es.now) }
     ensures same { V.gives env.new ≡ V.gives env.old }
 {
-    let mut values = Items::new(alloc);
+    let mut values = Items::with_room(alloc, es.len());
     for e in es {
         values.push(eval(alloc, e, env)?)?;
     }

@@ -23,7 +23,7 @@ pub fn column_value<R: RowValues>(row: &R, item: u32, column: u32) -> Result<Val
 pub fn key_of<R: RowValues>(alloc: Global, cols: &[ColRef], row: &R) -> Result<Key, Memory>
     ensures { IfOk result (λ key. key ≡ group_key cols.now (R.values row.now)) }
 {
-    let mut values = Items::new(alloc);
+    let mut values = Items::with_room(alloc, cols.len());
     for col in cols {
         values.push(column_value(row, col.item, col.column)?)?;
     }

@@ -52,7 +52,7 @@ fn shown<R: Columns + Drop>(alloc: Global, print: &[u32], rows: &[R]) -> Result<
 fn columns_at<R: Columns + Drop>(alloc: Global, numbers: &[u32], row: &R) -> Result<Key, Memory>
     ensures { IfOk result (λ key. key ≡ spec.columns_at numbers.now (R.columns row.now)) }
 {
-    let mut values = Items::new(alloc);
+    let mut values = Items::with_room(alloc, numbers.len());
     for number in numbers {
         values.push(value_at(row, *number)?)?;
     }

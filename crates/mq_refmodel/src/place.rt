@@ -42,7 +42,7 @@ fn value_at(row: &Key, column: u32) -> Result<Value, Memory>
 pub fn evaluated(alloc: Global, es: &[Expr], row: &Key) -> Result<Key, Fail<ValueFault>>
     ensures { Gives result (each (ev (row_leaves (row.now ∷ []))) es.now) }
 {
-    let mut values = Items::new(alloc);
+    let mut values = Items::with_room(alloc, es.len());
     for e in es {
         values.push(eval(alloc, e, &mut SourceRow { row })?)?;
     }

@@ -25,7 +25,7 @@ pub fn cell_named(
 ) -> Result<Items<Value>, Fail<ValueFault>>
     ensures { Gives result (spec.cell_named (site_of at.now) kinds.now indices.now) }
 {
-    let mut values = Items::new(alloc);
+    let mut values = Items::with_room(alloc, kinds.len().min(indices.len()));
     for i in 0..kinds.len().min(indices.len()) {
         values.push(index_named(alloc, at, kinds[i], &indices[i])?)?;
     }
@@ -80,7 +80,7 @@ pub fn tests_named(
 ) -> Result<Items<DimTest>, Fail<ValueFault>>
     ensures { Gives result (sites.tests_named (site_of at.now) kinds.now places.now) }
 {
-    let mut tests = Items::new(alloc);
+    let mut tests = Items::with_room(alloc, kinds.len().min(places.len()));
     for i in 0..kinds.len().min(places.len()) {
         tests.push(place_tested(alloc, at, kinds[i], &places[i])?)?;
     }

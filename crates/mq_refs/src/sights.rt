@@ -23,7 +23,7 @@ pub fn seen_at<C: Cells>(
     ensures same_input { C.input cells.new ≡ C.input cells.old }
     ensures same_results { C.results cells.new ≡ C.results cells.old }
 {
-    let mut seen = Items::new(alloc);
+    let mut seen = Items::with_room(alloc, looks.len());
     for look in looks {
         if !see(alloc, look, &mut seen, cells)? {
             return Ok(None);

@@ -227,7 +227,7 @@ fn with_one(index: DimIndex, keys: Items<Key>, key: &Key) -> Result<(DimIndex, I
 fn out_cells(alloc: Global, cells: &CellMap, updated: &KeySet) -> Result<Items<OutCell>, Memory>
     ensures { IfOk result (λ rows. rows ≡ map (spec_out_cell updated.now) cells.now) }
 {
-    let mut rows = Items::new(alloc);
+    let mut rows = Items::with_room(alloc, cells.len());
     for (key, measures) in cells.iter() {
         rows.push(out_cell(updated, key, measures)?)?;
     }

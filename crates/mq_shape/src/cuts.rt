@@ -31,7 +31,7 @@ fn behind(values: &[Value], count: usize) -> &[Value]
 pub fn key_of(alloc: Global, values: &[Value]) -> Result<Key, Memory>
     ensures { IfOk result (λ key. key ≡ values.now) }
 {
-    let mut copies = Items::new(alloc);
+    let mut copies = Items::with_room(alloc, values.len());
     for v in values {
         copies.push(v.copy()?)?;
     }
@@ -53,7 +53,7 @@ fn cut_row(alloc: Global, q: &ModelPart, row: &Key) -> Result<(Key, Key), Memory
 pub fn cut_rows(alloc: Global, q: &ModelPart, rows: &[Key]) -> Result<Items<(Key, Key)>, Memory>
     ensures { IfOk result (λ cells. cells ≡ map (spec.cut_row q.now) rows.now) }
 {
-    let mut cells = Items::new(alloc);
+    let mut cells = Items::with_room(alloc, rows.len());
     for row in rows {
         cells.push(cut_row(alloc, q, row)?)?;
     }

@@ -69,7 +69,7 @@ fn symbol_of(alloc: Global, place: &SinglePlace) -> Result<DimTest, Memory>
 pub fn named(alloc: Global, places: &[SinglePlace]) -> Result<Key, Memory>
     ensures { IfOk result (λ key. key ≡ map value_of places.now) }
 {
-    let mut values = Items::new(alloc);
+    let mut values = Items::with_room(alloc, places.len());
     for place in places {
         values.push(value_in(place)?)?;
     }
@@ -89,7 +89,7 @@ fn value_in(place: &SinglePlace) -> Result<Value, Memory>
 pub fn projected(alloc: Global, places: &[SinglePlace], key: &[Value]) -> Result<Key, Memory>
     ensures { IfOk result (λ other. other ≡ with_places places.now key.now) }
 {
-    let mut values = Items::new(alloc);
+    let mut values = Items::with_room(alloc, places.len().min(key.len()));
     for at in 0..places.len().min(key.len()) {
         values.push(value_with(&places[at], &key[at])?)?;
     }

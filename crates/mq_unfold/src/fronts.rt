@@ -49,7 +49,7 @@ fn with_one(
 ) -> Result<Items<Items<SinglePlace>>, Memory>
     ensures { IfOk result (λ rows. rows ≡ flat_map (λ front. map (λ x. front ++ x ∷ []) (place.now ∷ [])) fronts) }
 {
-    let mut rows = Items::new(alloc);
+    let mut rows = Items::with_room(alloc, fronts.len());
     for front in fronts.into_vec() {
         let mut row = front;
         row.push(same_place(alloc, place)?)?;
