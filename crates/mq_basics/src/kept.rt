@@ -103,7 +103,7 @@ pub(crate) fn add_items(alloc: Global, text: &str, answer: &mut Vec<u8>) -> Read
     let Some((all, last)) = rest.split_once('\t') else {
         return no_tree();
     };
-    let mut items = Items::from_vec(values(alloc, all)?);
+    let mut items = moved(alloc, Items::from_vec(values(alloc, all)?))?;
     add_either(items.is_empty(), "\tempty", "\tfilled", answer)?;
     if first != "-" {
         items.put_first(value(alloc, first)?)?;
@@ -112,6 +112,15 @@ pub(crate) fn add_items(alloc: Global, text: &str, answer: &mut Vec<u8>) -> Read
         items.push(value(alloc, last)?)?;
     }
     Ok(add_held(items, answer)?)
+}
+
+// The same values in a list that was made with room for them.
+fn moved(alloc: Global, values: Items<Value>) -> Result<Items<Value>, Memory> {
+    let mut items = Items::with_room(alloc, values.len());
+    for v in values.into_vec() {
+        items.push(v)?;
+    }
+    Ok(items)
 }
 
 // How many there are, each by its place and what stands behind the last, whether a copy is the same, and all at once.
