@@ -5,7 +5,7 @@ ghost use Rattle.mq_ir.specs.Operators.{added as spec_added, multiplied as spec_
 ghost use Rattle.mq_ir.specs.PartLaws.{term_found, factor_found};
 
 use crate::environment::Env;
-use crate::evaluate::eval;
+use crate::evaluate::{anew, operand};
 use crate::operators::{added, multiplied};
 use mq_ir::{BoundProd, BoundSum};
 use mq_values::{Fail, Value, ValueFault};
@@ -22,9 +22,9 @@ pub fn sum<V: Env>(
     ensures exact { Gives result (chained spec_added first (map (term_found (V.gives env.old)) terms.now)) }
     ensures same { V.gives env.new ≡ V.gives env.old }
 {
-    let mut total = first;
+    let mut total = anew(first);
     for term in terms {
-        let right = eval(alloc, &term.e, env)?;
+        let right = anew(operand(alloc, &term.e, env)?);
         total = added(alloc, term.op, &total, &right)?;
     }
     Ok(total)
@@ -41,9 +41,9 @@ pub fn product<V: Env>(
     ensures exact { Gives result (chained spec_multiplied first (map (factor_found (V.gives env.old)) terms.now)) }
     ensures same { V.gives env.new ≡ V.gives env.old }
 {
-    let mut total = first;
+    let mut total = anew(first);
     for term in terms {
-        let right = eval(alloc, &term.e, env)?;
+        let right = anew(operand(alloc, &term.e, env)?);
         total = multiplied(term.op, &total, &right)?;
     }
     Ok(total)

@@ -7,7 +7,7 @@ ghost use Rattle.mq_ir.specs.Expression.{worth_of};
 ghost use Rattle.mq_ir.specs.Worth.{as_truth};
 
 use crate::environment::Env;
-use crate::evaluate::eval;
+use crate::evaluate::{anew, operand};
 use crate::truths::{is_false, is_true};
 use mq_ir::Expr;
 use mq_values::{CmpOp, Fail, Value, ValueFault, compare, truth_and, truth_or};
@@ -47,7 +47,7 @@ pub fn compared_to<V: Env>(
     ensures exact { Gives result (as_truth (spec.compared_to op v.now (worth_of (V.gives env.old) e.now))) }
     ensures same { V.gives env.new ≡ V.gives env.old }
 {
-    let w = eval(alloc, e, env)?;
+    let w = anew(operand(alloc, e, env)?);
     Ok(compare(op, v, &w))
 }
 

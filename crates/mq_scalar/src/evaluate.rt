@@ -14,7 +14,7 @@ use crate::leaves::{asked, both_asked};
 use crate::operators::{applied, negated};
 use crate::truths::negated_if;
 use mq_ir::{Expr, Worth};
-use mq_values::{CmpOp, Fail, Func, Value, ValueFault, cast, truth_not};
+use mq_values::{CmpOp, Fail, Func, Num, Value, ValueFault, cast, truth_not};
 use std::alloc::Global;
 
 /// The value of `e` where `env` is, or its first fault. A condition in the place of a value is null
@@ -42,14 +42,37 @@ fn computed<V: Env>(alloc: Global, e: &Expr, env: &mut V) -> Result<Value, Fail<
 {
     match e {
         Expr::Sum(first, terms) => {
-            let first = eval(alloc, first.get(), env)?;
+            let first = anew(operand(alloc, first.get(), env)?);
             sum(alloc, first, terms.as_slice(), env)
         }
         Expr::Prod(first, factors) => {
-            let first = eval(alloc, first.get(), env)?;
+            let first = anew(operand(alloc, first.get(), env)?);
             product(alloc, first, factors.as_slice(), env)
         }
         _ => Ok(value_of(worth(alloc, e, env)?)),
+    }
+}
+
+// The same of an operand. Most operands are leaves, which need no frame of `eval`.
+#[cycle(evaluation)]
+#[tactic(auto, using(crate::proofs::OutcomeLemmas::outcome_laws))]
+pub fn operand<V: Env>(alloc: Global, e: &Expr, env: &mut V) -> Result<Value, Fail<ValueFault>>
+    ensures exact { Gives result (ev (V.gives env.old) e.now) }
+    ensures same { V.gives env.new ≡ V.gives env.old }
+{
+    match e {
+        Expr::Leaf(leaf) => env.leaf(alloc, leaf),
+        _ => eval(alloc, e, env),
+    }
+}
+
+// The same value. A number is read by its parts: a copy of the whole would wait until each part of it is written.
+pub fn anew(v: Value) -> Value
+    ensures { result ≡ v }
+{
+    match v {
+        Value::Num(n) => Value::Num(Num::new(n.mant(), n.scale())),
+        v => v,
     }
 }
 
@@ -73,7 +96,7 @@ pub fn holds<V: Env>(alloc: Global, e: &Expr, env: &mut V) -> Result<Option<bool
 {
     match e {
         Expr::Cmp(a, op, b) => {
-            let v = eval(alloc, a.get(), env)?;
+            let v = anew(operand(alloc, a.get(), env)?);
             compared_to(alloc, &v, *op, b.get(), env)
         }
         _ => Ok(truth_of(worth(alloc, e, env)?)),

@@ -45,10 +45,11 @@ static TENS: [i128; MAX_POWER as usize + 1] = [
 
 /// An exact decimal number: a mantissa and a scale from 0 to `MAX_SCALE`, worth mantissa / 10^scale
 /// (docs/LANGUAGE.md, "Values"). Equality, order and hash tell `1.0` from `1.00`.
+// The scale fills a whole word: bytes between it and the end would be copied apart from the rest, and slowly.
 #[derive(Clone, Copy, Debug, PartialEq, Eq, Hash)]
 pub struct Num {
     mant: i128,
-    scale: u8,
+    scale: u64,
 }
 
 impl Model for Num {
@@ -71,7 +72,10 @@ impl Num {
         requires { scale ≤ MAX_SCALE }
         ensures { result ≡ record { mant = mant; scale = scale } }
     {
-        Num { mant, scale }
+        Num {
+            mant,
+            scale: scale as u64,
+        }
     }
 
     /// The mantissa.
@@ -87,7 +91,7 @@ impl Num {
         ensures scale { result ≡ self.scale }
         ensures bound { result ≤ MAX_SCALE }
     {
-        self.scale
+        self.scale as u8
     }
 
     /// Compares by worth alone, whatever the scales: `1.0` and `1.00` are equal (docs/LANGUAGE.md, "Order").
@@ -141,7 +145,7 @@ fn scaled_cmp(a: Num, b: Num) -> Ordering
     requires { a.scale ≤ b.scale }
     ensures { result ≡ cmp_worth a b }
 {
-    match a.with_zeros(b.scale - a.scale) {
+    match a.with_zeros((b.scale - a.scale) as u8) {
         Some(mant) => mant.cmp(&b.mant),
         None => a.mant.cmp(&0),
     }
