@@ -23,11 +23,14 @@ keys_with (e ∷ es) key measures = by (cmp_key key e.0) (keys_with es key measu
     by Greater h = ap (λ l. e.0 ∷ l) h
 
 -- the place at which a key stands, where it does
-abbrev place_in : List Tuple → Tuple → ℕ
+abbrev pub place_in : List Tuple → Tuple → ℕ
 place_in keys key = position_or_len (is_at (cmp_key key)) keys
 
+pub first_place : (keys : List Tuple) (key : Tuple) → place_in (key ∷ keys) key ≡ 0
+first_place keys key = ap (λ r. cond (not (is_eq r)) (1 + place_in keys key) 0) (key_itself key)
+
 at_front : (keys rest : List Tuple) (key : Tuple) → insert rest (place_in (key ∷ keys) key) key ≡ key ∷ rest
-at_front keys rest key = ap (λ r. insert rest (cond (not (is_eq r)) (1 + place_in keys key) 0) key) (key_itself key)
+at_front keys rest key = ap (λ n. insert rest n key) (first_place keys key)
 
 put_at : (keys : List Tuple) (key : Tuple) → is_there keys key ≡ false → insert keys (place_in (with_key keys key) key) key ≡ with_key keys key
 put_at [] key h = at_front [] [] key
@@ -42,7 +45,7 @@ put_at (x ∷ xs) key h = by (cmp_key key x) refl h (put_at xs key)
         let one : 1 + n ≡ suc n = omega arith in
         ap (λ r. insert (x ∷ xs) (cond (not (is_eq r)) (1 + n) 0) key) e ∙ ap (λ k. insert (x ∷ xs) k key) one ∙ ap (λ l. x ∷ l) (rest g)
 
-the_place : (n m at : ℕ) → cond (nat_lt n m) (Some n) None ≡ Some at → n ≡ at
+pub the_place : (n m at : ℕ) → cond (nat_lt n m) (Some n) None ≡ Some at → n ≡ at
 the_place n m at h = by (nat_lt n m) h
   where
     by : (b : Bool) → cond b (Some n) None ≡ Some at → n ≡ at

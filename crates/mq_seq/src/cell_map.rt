@@ -1,5 +1,6 @@
 //! The cells of a partition, ascending by their keys.
-ghost use Rattle.std.specs.Prelude.{◌≡◌, [], length, IfOk, OnOk, OnErr};
+ghost use Rattle.std.specs.Prelude.{◌≡◌, false, length, IfOk, OnOk, OnErr};
+ghost use Rattle.std.specs.List.{zip};
 ghost use Rattle.std.specs.List.Sorted.{IsStrictlySortedBy};
 ghost use Rattle.std.specs.Map.{keys_of};
 ghost use Rattle.std.specs.Option.{IsSome, option_copied};
@@ -7,43 +8,42 @@ ghost use Rattle.mq_values.specs.Order.{cmp_key};
 ghost use Rattle.mq_ir.specs.Partitions.{cell_at, with_cell};
 ghost use Rattle.mq_ir.specs.Reads.{measure_at};
 ghost use Rattle.mq_cells.specs.Stores.{cell_name};
+ghost use Rattle.mq_dim_index.specs.Places.{is_there};
 
+use mq_dim_index::DimIndex;
 use mq_values::{Items, Key, Memory, Value};
 use std::alloc::Global;
-use std::collections::BTreeMap;
-use std::collections::btree_map::Iter;
 use std::marker::Model;
 
-/// Cells, each a key with its measures. Contracts see them as the list of these pairs, ascending by the keys
-/// (docs/MEANING.md, "Partitions").
+/// Cells, each a key with its measures: the keys stand in an index, and the measures at the same places beside it.
+/// Contracts see them as the list of these pairs, ascending by the keys (docs/MEANING.md, "Partitions").
 #[derive(Drop)]
 pub struct CellMap {
-    cells: BTreeMap<Key, Key>,
+    keys: DimIndex,
+    measures: Vec<Key>,
 }
 
 impl Model for CellMap {
+    ghost use Rattle.std.specs.Prelude.{◌≡◌, length};
+    ghost use Rattle.std.specs.List.{zip};
     ghost use Rattle.mq_ir.specs.Partitions.{Cells};
 
     ghost Value = { Cells };
 
-    ghost view = { λ map. map.cells.entries };
+    ghost view = { λ map. zip map.keys map.measures.items };
+
+    ghost invariant = { λ map. length map.measures.items ≡ length map.keys };
 }
 
 impl CellMap {
-    /// No cells. It takes no memory.
-    pub fn new(alloc: Global) -> CellMap
-        ensures { result ≡ [] }
-    {
-        CellMap {
-            cells: BTreeMap::new(alloc),
-        }
-    }
-
     /// The measures of the cell at `key`, or `None` where there is no such cell.
     pub fn get(&self, key: &Key) -> Option<&Key>
         ensures { option_copied result ≡ cell_at self.now key.now }
     {
-        self.cells.get(key)
+        match self.keys.find(key.as_slice()) {
+            Some(at) => Some(&self.measures[at as usize]),
+            None => None,
+        }
     }
 
     /// Puts `measures` at `key`, in place of those that stand there. After `Memory` the cells are as before.
@@ -52,15 +52,30 @@ impl CellMap {
         ensures same_keys { OnOk result (IsSome (cell_at self.old key) → keys_of self.new ≡ keys_of self.old) }
         ensures err { OnErr result (self.new ≡ self.old) }
     {
-        self.cells.insert(key, measures)?;
-        Ok(())
+        // The index knows that its keys ascend.
+        let _keys = self.keys.keys();
+        match self.keys.find(key.as_slice()) {
+            Some(at) => {
+                self.measures[at as usize] = measures;
+                Ok(())
+            }
+            None => put_new(&mut self.keys, &mut self.measures, key, measures),
+        }
     }
 
-    /// The cells in ascending order.
-    pub fn iter(&self) -> Iter<'_, Key, Key>
-        ensures { result ≡ self.now }
+    /// The keys of the cells, ascending.
+    pub fn keys(&self) -> &[Key]
+        ensures all { result.now ≡ keys_of self.now }
+        ensures ascending { IsStrictlySortedBy cmp_key (keys_of self.now) }
     {
-        self.cells.iter()
+        self.keys.keys()
+    }
+
+    /// The measures of the cells, in the order of their keys.
+    pub fn measures(&self) -> &[Key]
+        ensures { zip (keys_of self.now) result.now ≡ self.now }
+    {
+        self.measures.as_slice()
     }
 
     /// How many cells there are.
@@ -68,7 +83,7 @@ impl CellMap {
         ensures count { result ≡ length self.now }
         ensures ascending { IsStrictlySortedBy cmp_key (keys_of self.now) }
     {
-        self.cells.len()
+        self.keys().len()
     }
 
     /// Measure `m` of the cell at `key`, or null where there is none.
@@ -85,25 +100,51 @@ impl CellMap {
     }
 }
 
+// Puts a cell that is not there at its place.
+fn put_new(keys: &mut DimIndex, measures: &mut Vec<Key>, key: Key, now: Key) -> Result<(), Memory>
+    requires one_each { length measures.old.items ≡ length keys.old }
+    requires new { is_there keys.old key ≡ false }
+    ensures one_each { length measures.new.items ≡ length keys.new }
+    ensures ok { OnOk result (zip keys.new measures.new.items ≡ with_cell (zip keys.old measures.old.items) key now) }
+    ensures err { OnErr result (zip keys.new measures.new.items ≡ zip keys.old measures.old.items) }
+{
+    let name = key.copy()?;
+    measures.reserve(1)?;
+    keys.insert(key)?;
+    match keys.find(name.as_slice()) {
+        Some(at) => {
+            measures.insert(at as usize, now)?;
+            Ok(())
+        }
+        // It has just been put there.
+        None => Err(Memory),
+    }
+}
+
 /// The keys of the cells, ascending.
 pub fn keys_in(alloc: Global, cells: &CellMap) -> Result<Items<Key>, Memory>
     ensures { IfOk result (λ keys. keys ≡ keys_of cells.now) }
 {
     let mut keys = Vec::with_capacity(alloc, cells.len())?;
-    for (key, _measures) in cells.iter() {
+    for key in cells.keys() {
         keys.push(key.copy()?)?;
     }
     Ok(Items::from_vec(keys))
 }
 
-/// The map of cells that ascend.
+/// The map of cells that ascend. `Memory` comes too where there are more of them than a `u32` can number.
 pub fn map_of(alloc: Global, cells: &[(Key, Key)]) -> Result<CellMap, Memory>
     requires { IsStrictlySortedBy cmp_key (keys_of cells.now) }
     ensures { IfOk result (λ map. map ≡ cells.now) }
 {
-    let mut map = CellMap::new(alloc);
-    for (key, measures) in cells {
-        map.put(key.copy()?, measures.copy()?)?;
+    let mut keys = Vec::with_capacity(alloc, cells.len())?;
+    let mut measures = Vec::with_capacity(alloc, cells.len())?;
+    for (key, of_key) in cells {
+        keys.push(key.copy()?)?;
+        measures.push(of_key.copy()?)?;
     }
-    Ok(map)
+    Ok(CellMap {
+        keys: DimIndex::new(alloc, keys.as_slice())?,
+        measures,
+    })
 }

@@ -228,7 +228,7 @@ fn out_cells(alloc: Global, cells: &CellMap, updated: &KeySet) -> Result<Items<O
     ensures { IfOk result (λ rows. rows ≡ map (spec_out_cell updated.now) cells.now) }
 {
     let mut rows = Items::with_room(alloc, cells.len());
-    for (key, measures) in cells.iter() {
+    for (key, measures) in cells.keys().iter().zip(cells.measures()) {
         rows.push(out_cell(updated, key, measures)?)?;
     }
     Ok(rows)
