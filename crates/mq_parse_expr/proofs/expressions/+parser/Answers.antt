@@ -31,6 +31,11 @@ pub read_or-returns-in_err-first : goal.read_or-returns-in_err-first
 read_or-returns-in_err-first t c =
     quit Expr c.args.t.now c.args.at c.from_residual.result c.in_err-first.field-0.0 c.from_residual.ensures.1 c.in_err-first.ensures (or_no_first)
 
+pub read_or-returns-in_default : goal.read_or-returns-in_default
+read_or-returns-in_default t c =
+    let f = c.in_ok-first.ensures in
+    (f.0, f.1, expr f.2 or_end, stops_or (terminal_at (from c.args.t.now c.in_ok-first.mid)) f.3 c.in_default.ensures)
+
 pub read_or-returns-in_err-others : goal.read_or-returns-in_err-others
 read_or-returns-in_err-others t c =
     quit Expr c.args.t.now c.args.at c.from_residual-in_err-others.result c.in_err-others.field-0.0 c.from_residual-in_err-others.ensures.1 c.in_err-others.ensures (or_no_others c.in_ok-first.ensures.2 c.in_ok-first.ensures.3)
@@ -57,6 +62,11 @@ read_ors-returns t c =
 pub read_and-returns-in_err-first : goal.read_and-returns-in_err-first
 read_and-returns-in_err-first t c =
     quit AndE c.args.t.now c.args.at c.from_residual.result c.in_err-first.field-0.0 c.from_residual.ensures.1 c.in_err-first.ensures (and_no_first)
+
+pub read_and-returns-in_default : goal.read_and-returns-in_default
+read_and-returns-in_default t c =
+    let f = c.in_ok-first.ensures in
+    (f.0, f.1, and f.2 and_end, stops_and (terminal_at (from c.args.t.now c.in_ok-first.mid)) f.3 c.in_default.ensures)
 
 pub read_and-returns-in_err-others : goal.read_and-returns-in_err-others
 read_and-returns-in_err-others t c =
@@ -246,6 +256,11 @@ pub read_sum-returns-in_err-first : goal.read_sum-returns-in_err-first
 read_sum-returns-in_err-first t c =
     quit SumE c.args.t.now c.args.at c.from_residual.result c.in_err-first.field-0.0 c.from_residual.ensures.1 c.in_err-first.ensures (sum_no_first)
 
+pub read_sum-returns-in_default : goal.read_sum-returns-in_default
+read_sum-returns-in_default t c =
+    let f = c.in_ok-first.ensures in
+    (f.0, f.1, sum f.2 sum_end, stops_sum (terminal_at (from c.args.t.now c.in_ok-first.mid)) f.3 c.in_default.ensures)
+
 pub read_sum-returns-in_err-others : goal.read_sum-returns-in_err-others
 read_sum-returns-in_err-others t c =
     quit SumE c.args.t.now c.args.at c.from_residual-in_err-others.result c.in_err-others.field-0.0 c.from_residual-in_err-others.ensures.1 c.in_err-others.ensures (sum_no_others c.in_ok-first.ensures.2 c.in_ok-first.ensures.3)
@@ -277,6 +292,11 @@ read_term-returns-in-Some t c =
 pub read_prod-returns-in_err-first : goal.read_prod-returns-in_err-first
 read_prod-returns-in_err-first t c =
     quit ProdE c.args.t.now c.args.at c.from_residual.result c.in_err-first.field-0.0 c.from_residual.ensures.1 c.in_err-first.ensures (prod_no_first)
+
+pub read_prod-returns-in_default : goal.read_prod-returns-in_default
+read_prod-returns-in_default t c =
+    let f = c.in_ok-first.ensures in
+    (f.0, f.1, prod f.2 prod_end, stops_prod (terminal_at (from c.args.t.now c.in_ok-first.mid)) f.3 c.in_default.ensures)
 
 pub read_prod-returns-in_err-others : goal.read_prod-returns-in_err-others
 read_prod-returns-in_err-others t c =
