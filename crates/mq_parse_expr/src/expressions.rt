@@ -13,6 +13,7 @@ use crate::fronts::{
     agg_head, form_at, prod_op, read_as_kind, read_is, read_leaf, read_lone, read_to_scale, room,
     sum_op, tail_at,
 };
+use crate::lones::{put_lone, put_lone_term};
 use mq_ast::{Arm, E, Keyword, Place, ProdTerm, SumTerm, Symbol, Terminal, levels};
 use mq_lexer::Token;
 use mq_parse_words::{
@@ -280,7 +281,11 @@ fn read_more_exprs(
     let mut found = Items::with_room(alloc, room(t, at));
     let mut to = at;
     while let Some(behind) = behind_sign(t, to, Symbol::Comma) {
-        let (e, next) = read_whole(alloc, t, behind)?;
+        if put_lone(alloc, t, behind, &mut found)? {
+            to = behind + 1;
+            continue;
+        }
+        let (e, next) = read_or(alloc, t, behind)?;
         put(&mut found, e)?;
         to = next;
     }
@@ -312,7 +317,12 @@ fn read_sums(
     let mut found = Items::with_room(alloc, 1);
     let mut to = at;
     while let Some(op) = sum_op(t, to) {
-        let (e, next) = read_term(alloc, t, to + 1)?;
+        let behind = to + 1;
+        if put_lone_term(alloc, t, behind, op, &mut found)? {
+            to = behind + 1;
+            continue;
+        }
+        let (e, next) = read_prod(alloc, t, behind)?;
         put_sum(&mut found, op, e)?;
         to = next;
     }
