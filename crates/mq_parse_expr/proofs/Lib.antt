@@ -1,4 +1,5 @@
 pub mod ArmLemmas
 pub mod FrontLemmas
 pub mod LevelLemmas
+pub mod LoneLemmas
 pub mod PrimLemmas

@@ -10,9 +10,10 @@ ghost use Rattle.mq_parse_words.specs.Forms.{IsClosed, form_of as spec_form};
 ghost use Rattle.mq_parse_words.specs.Fronts.{AtWhen, Behind, CellsOf, ElseEnd, RoundE, Since, SomeWhens, between_front, cmp_front, in_front, not_front};
 
 use crate::fronts::{
-    agg_head, form_at, prod_op, read_as_kind, read_is, read_leaf, read_lone, read_to_scale, sum_op,
-    tail_at,
+    agg_head, form_at, prod_op, read_as_kind, read_is, read_leaf, read_lone, read_to_scale, room,
+    sum_op, tail_at,
 };
+use crate::lones::{put_lone, put_lone_term};
 use mq_ast::{Arm, E, Keyword, Place, ProdTerm, SumTerm, Symbol, Terminal, levels};
 use mq_lexer::Token;
 use mq_parse_words::{
@@ -76,6 +77,9 @@ fn read_or(alloc: Global, t: &[Token<'_>], at: usize) -> Result<(Tree, usize), F
     ensures { Gives Expr (Stops level.EXPRESSION) t.now at result }
 {
     let (first, mid) = read_and(alloc, t, at)?;
+    let Some(_) = behind_word(t, mid, Keyword::Or) else {
+        return Ok((first, mid));
+    };
     let (others, to) = read_ors(alloc, t, mid)?;
     Ok((any_of(alloc, first, others)?, to))
 }
@@ -86,7 +90,7 @@ fn read_ors(alloc: Global, t: &[Token<'_>], at: usize) -> Result<(Items<E>, usiz
     requires stops { Stops level.CONJUNCTION (from t.now at) }
     ensures { Gives MoreOr (Stops level.EXPRESSION) t.now at result }
 {
-    let mut found = Items::new(alloc);
+    let mut found = Items::with_room(alloc, 2);
     let mut to = at;
     while let Some(behind) = behind_word(t, to, Keyword::Or) {
         let (e, next) = read_and(alloc, t, behind)?;
@@ -101,6 +105,9 @@ fn read_and(alloc: Global, t: &[Token<'_>], at: usize) -> Result<(Tree, usize), 
     ensures { Gives AndE (Stops level.CONJUNCTION) t.now at result }
 {
     let (first, mid) = read_not(alloc, t, at)?;
+    let Some(_) = behind_word(t, mid, Keyword::And) else {
+        return Ok((first, mid));
+    };
     let (others, to) = read_ands(alloc, t, mid)?;
     Ok((all_of(alloc, first, others)?, to))
 }
@@ -111,7 +118,7 @@ fn read_ands(alloc: Global, t: &[Token<'_>], at: usize) -> Result<(Items<E>, usi
     requires stops { Stops level.TEST (from t.now at) }
     ensures { Gives MoreAnd (Stops level.CONJUNCTION) t.now at result }
 {
-    let mut found = Items::new(alloc);
+    let mut found = Items::with_room(alloc, 2);
     let mut to = at;
     while let Some(behind) = behind_word(t, to, Keyword::And) {
         let (e, next) = read_not(alloc, t, behind)?;
@@ -271,10 +278,14 @@ fn read_more_exprs(
     requires stops { Stops level.EXPRESSION (from t.now at) }
     ensures { Gives MoreExprs (Ends (Terminal.Sign Symbol.Comma)) t.now at result }
 {
-    let mut found = Items::new(alloc);
+    let mut found = Items::with_room(alloc, room(t, at));
     let mut to = at;
     while let Some(behind) = behind_sign(t, to, Symbol::Comma) {
-        let (e, next) = read_whole(alloc, t, behind)?;
+        if put_lone(alloc, t, behind, &mut found)? {
+            to = behind + 1;
+            continue;
+        }
+        let (e, next) = read_or(alloc, t, behind)?;
         put(&mut found, e)?;
         to = next;
     }
@@ -286,6 +297,9 @@ fn read_sum(alloc: Global, t: &[Token<'_>], at: usize) -> Result<(Tree, usize), 
     ensures { Gives SumE (Stops level.SUM) t.now at result }
 {
     let (first, mid) = read_term(alloc, t, at)?;
+    let Some(_) = sum_op(t, mid) else {
+        return Ok((first, mid));
+    };
     let (others, to) = read_sums(alloc, t, mid)?;
     Ok((sum(alloc, first, others)?, to))
 }
@@ -300,10 +314,15 @@ fn read_sums(
     requires stops { Stops level.PRODUCT (from t.now at) }
     ensures { Gives MoreSum (Stops level.SUM) t.now at result }
 {
-    let mut found = Items::new(alloc);
+    let mut found = Items::with_room(alloc, 1);
     let mut to = at;
     while let Some(op) = sum_op(t, to) {
-        let (e, next) = read_term(alloc, t, to + 1)?;
+        let behind = to + 1;
+        if put_lone_term(alloc, t, behind, op, &mut found)? {
+            to = behind + 1;
+            continue;
+        }
+        let (e, next) = read_prod(alloc, t, behind)?;
         put_sum(&mut found, op, e)?;
         to = next;
     }
@@ -326,6 +345,9 @@ fn read_prod(alloc: Global, t: &[Token<'_>], at: usize) -> Result<(Tree, usize),
     ensures { Gives ProdE (Stops level.PRODUCT) t.now at result }
 {
     let (first, mid) = read_sign(alloc, t, at)?;
+    let Some(_) = prod_op(t, mid) else {
+        return Ok((first, mid));
+    };
     let (others, to) = read_prods(alloc, t, mid)?;
     Ok((product(alloc, first, others)?, to))
 }
@@ -340,7 +362,7 @@ fn read_prods(
     requires stops { Stops level.PRIMARY (from t.now at) }
     ensures { Gives MoreProd (Stops level.PRODUCT) t.now at result }
 {
-    let mut found = Items::new(alloc);
+    let mut found = Items::with_room(alloc, 1);
     let mut to = at;
     while let Some(op) = prod_op(t, to) {
         let (e, next) = read_sign(alloc, t, to + 1)?;
@@ -616,7 +638,7 @@ fn read_places(
     requires stops { Stops level.EXPRESSION (from t.now at) }
     ensures { Gives MorePlaces (Ends (Terminal.Sign Symbol.Comma)) t.now at result }
 {
-    let mut found = Items::new(alloc);
+    let mut found = Items::with_room(alloc, room(t, at));
     let mut to = at;
     while let Some(behind) = behind_sign(t, to, Symbol::Comma) {
         let (place, next) = read_place(alloc, t, behind)?;

@@ -124,6 +124,14 @@ fn square_behind(t: &[Token<'_>], at: usize) -> Option<usize>
     }
 }
 
+/// For how many members a list is to have room behind its first: lists of one are the most, and take no more than that.
+pub(crate) fn room(t: &[Token<'_>], at: usize) -> usize {
+    match behind_sign(t, at, Symbol::Comma) {
+        Some(_) => 4,
+        None => 1,
+    }
+}
+
 /// AS, a kind and the closing bracket of a CAST.
 pub(crate) fn read_as_kind(t: &[Token<'_>], at: usize) -> Result<(Kind, usize), Fail<Refused>>
     ensures { Gives AsKind Anywhere t.now at result }

@@ -5,5 +5,6 @@
 
 mod expressions;
 mod fronts;
+mod lones;
 
 pub use expressions::{read_expr, read_exprs, read_round, read_round_tree, read_tree, read_tuple};

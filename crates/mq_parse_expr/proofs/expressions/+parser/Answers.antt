@@ -1,5 +1,6 @@
-use Rattle.std.proofs.Common.{◌+◌, false, [], ◌∷◌, sym, ap, ◌∙◌, arith}
+use Rattle.std.proofs.Common.{◌+◌, ◌++◌, false, [], ◌∷◌, sym, ap, ◌∙◌, arith}
 use Rattle.mq_values.specs.declared.operators.Func.TheVariants as func
+use Rattle.mq_ast.specs.declared.expressions.E.{E}
 use Rattle.mq_ast.specs.declared.expressions.E.TheVariants as tree
 use Rattle.mq_lexer.specs.declared.keywords.Keyword.TheVariants as word
 use Rattle.mq_ast.specs.declared.terminals.Symbol.TheVariants as sign
@@ -18,6 +19,8 @@ use Rattle.mq_parse_words.specs.Fronts.{RoundE, round, Behind, Since, cmp_front,
 use Rattle.mq_parse_words.specs.StepLemmas.{quit, here, there, till, as_value, gives_as, fronted, one_more, cut_short, all_found}
 use Rattle.mq_parse_expr.proofs.FrontLemmas.{call_form, form_front, tail_front, at_front, leaf_left}
 use Rattle.mq_parse_expr.proofs.LevelLemmas.{lone_expr, lone_prod, or_no_first, or_no_others, or_no_next, or_no_more, and_no_first, and_no_others, and_no_next, and_no_more, sum_no_first, sum_no_others, sum_no_next, sum_no_more, prod_no_first, prod_no_others, prod_no_next, prod_no_more, exprs_no_first, exprs_no_others, exprs_no_next, exprs_no_more, places_no_next, places_no_more, not_no_not, not_no_plain, sign_no_minus, sign_no_plain, test_no_first, test_no_tail, cmp_no_sum, cmp_no_end, between_no_low, between_no_and, between_no_high, between_no_end, between_tail, in_no_tuple, in_no_end, in_tail, not_no_other, tuple_no_open, tuple_no_list, tuple_no_close, brackets_no_open, brackets_no_first, brackets_no_others, brackets_no_close, place_no_end, place_no_expr, stops_or, stops_and, stops_sum, stops_prod}
+use Rattle.mq_parse_expr.specs.Lone.{Lone}
+use Rattle.mq_parse_expr.proofs.LoneLemmas.{put_so, put_not}
 use Rattle.mq_parse_expr.proofs.PrimLemmas.{prim_form, prim_rounded, prim_no_round, prim_no_closed, prim_no_end, closed_form, split_name, prim_no_path, path_no_end, cell_no_places, cell_no_end, round_no_open, round_no_inner, round_no_close, all_no_end, all_prim, agg_no_value, agg_no_end, agg_prim, measured, range_no_places, range_no_end, cast_no_open, cast_no_expr, cast_no_kind, cast_prim, rounded_no_open, rounded_no_expr, rounded_no_scale, rounded_prim, call_no_tuple, call_no_count, call_prim, case_no_subject, case_no_whens, case_no_else, case_prim, subject_no_expr, subject_no_when, else_no_expr, else_no_end, else_no_word}
 use Rattle.mq_parse_expr.proofs.ArmLemmas.{whens_init, whens_none, whens_no_test_at, whens_no_then_at, whens_no_value_at, whens_kept, whens_done}
 use Rattle.mq_parse_expr.proofs.expressions.+parser.Goals as goal
@@ -30,6 +33,11 @@ read_whole-returns-in-Some t c =
 pub read_or-returns-in_err-first : goal.read_or-returns-in_err-first
 read_or-returns-in_err-first t c =
     quit Expr c.args.t.now c.args.at c.from_residual.result c.in_err-first.field-0.0 c.from_residual.ensures.1 c.in_err-first.ensures (or_no_first)
+
+pub read_or-returns-in_default : goal.read_or-returns-in_default
+read_or-returns-in_default t c =
+    let f = c.in_ok-first.ensures in
+    (f.0, f.1, expr f.2 or_end, stops_or (terminal_at (from c.args.t.now c.in_ok-first.mid)) f.3 c.in_default.ensures)
 
 pub read_or-returns-in_err-others : goal.read_or-returns-in_err-others
 read_or-returns-in_err-others t c =
@@ -57,6 +65,11 @@ read_ors-returns t c =
 pub read_and-returns-in_err-first : goal.read_and-returns-in_err-first
 read_and-returns-in_err-first t c =
     quit AndE c.args.t.now c.args.at c.from_residual.result c.in_err-first.field-0.0 c.from_residual.ensures.1 c.in_err-first.ensures (and_no_first)
+
+pub read_and-returns-in_default : goal.read_and-returns-in_default
+read_and-returns-in_default t c =
+    let f = c.in_ok-first.ensures in
+    (f.0, f.1, and f.2 and_end, stops_and (terminal_at (from c.args.t.now c.in_ok-first.mid)) f.3 c.in_default.ensures)
 
 pub read_and-returns-in_err-others : goal.read_and-returns-in_err-others
 read_and-returns-in_err-others t c =
@@ -231,12 +244,19 @@ read_exprs-returns t c =
 
 pub read_more_exprs-returns-in_err-e : goal.read_more_exprs-returns-in_err-e
 read_more_exprs-returns-in_err-e t c =
-    quit MoreExprs c.args.t.now c.args.at c.from_residual.result c.in_err-e.field-0.0 c.from_residual.ensures.1 c.in_err-e.ensures (λ h. cut_short MoreExprs (Stops level.EXPRESSION) (Ends (terminal.Sign sign.Comma)) c.args.t.now c.args.at c.loop-behind.to c.loop-behind.found c.loop-behind.invariant comma c.in-Some.behind c.in-Some.ensures (exprs_no_next h))
+    quit MoreExprs c.args.t.now c.args.at c.from_residual-in_err-e.result c.in_err-e.field-0.0 c.from_residual-in_err-e.ensures.1 c.in_err-e.ensures (λ h. cut_short MoreExprs (Stops level.EXPRESSION) (Ends (terminal.Sign sign.Comma)) c.args.t.now c.args.at c.loop-behind.to c.loop-behind.found c.loop-behind.invariant comma c.in-Some.behind c.in-Some.ensures (exprs_no_next h))
+
+pub read_more_exprs-loop-behind-preserved-then-branch : goal.read_more_exprs-loop-behind-preserved-then-branch
+read_more_exprs-loop-behind-preserved-then-branch t c =
+    let p = put_so (λ (x : E). x) (Lone level.EXPRESSION c.args.t.now c.in-Some.behind) c.loop-behind.found c.put_lone.new.found _ c.if-branch.true c.in_ok-put_lone.ensures in
+    let d = p.1 in
+    one_more MoreExprs (Stops level.EXPRESSION) (Ends (terminal.Sign sign.Comma)) c.args.t.now c.args.at c.loop-behind.to c.loop-behind.found c.loop-behind.invariant comma c.in-Some.behind c.in-Some.ensures p.0 (c.in-Some.behind + 1) c.put_lone.new.found (λ rest last ds. exprs_more (lone_expr d.1) ds) (λ h. exprs_no_more (lone_expr d.1) d.2 h) d.2 (omega arith) (omega (arith, d.0)) p.2
 
 pub read_more_exprs-loop-behind-preserved : goal.read_more_exprs-loop-behind-preserved
 read_more_exprs-loop-behind-preserved t c =
+    let q = put_not (λ (x : E). x) (Lone level.EXPRESSION c.args.t.now c.in-Some.behind) c.loop-behind.found c.put_lone.new.found _ c.if-branch.false c.in_ok-put_lone.ensures in
     let d = c.in_ok-e.ensures in
-    one_more MoreExprs (Stops level.EXPRESSION) (Ends (terminal.Sign sign.Comma)) c.args.t.now c.args.at c.loop-behind.to c.loop-behind.found c.loop-behind.invariant comma c.in-Some.behind c.in-Some.ensures c.in_ok-e.e c.in_ok-e.next c.put.new.found (λ rest last ds. exprs_more d.2 ds) (λ h. exprs_no_more d.2 d.3 h) d.3 d.0 d.1 c.in_ok-put.ensures
+    one_more MoreExprs (Stops level.EXPRESSION) (Ends (terminal.Sign sign.Comma)) c.args.t.now c.args.at c.loop-behind.to c.loop-behind.found c.loop-behind.invariant comma c.in-Some.behind c.in-Some.ensures c.in_ok-e.e c.in_ok-e.next c.put.new.found (λ rest last ds. exprs_more d.2 ds) (λ h. exprs_no_more d.2 d.3 h) d.3 d.0 d.1 (c.in_ok-put.ensures ∙ ap (λ xs. xs ++ c.in_ok-e.e ∷ []) q)
 
 pub read_more_exprs-returns : goal.read_more_exprs-returns
 read_more_exprs-returns t c =
@@ -245,6 +265,11 @@ read_more_exprs-returns t c =
 pub read_sum-returns-in_err-first : goal.read_sum-returns-in_err-first
 read_sum-returns-in_err-first t c =
     quit SumE c.args.t.now c.args.at c.from_residual.result c.in_err-first.field-0.0 c.from_residual.ensures.1 c.in_err-first.ensures (sum_no_first)
+
+pub read_sum-returns-in_default : goal.read_sum-returns-in_default
+read_sum-returns-in_default t c =
+    let f = c.in_ok-first.ensures in
+    (f.0, f.1, sum f.2 sum_end, stops_sum (terminal_at (from c.args.t.now c.in_ok-first.mid)) f.3 c.in_default.ensures)
 
 pub read_sum-returns-in_err-others : goal.read_sum-returns-in_err-others
 read_sum-returns-in_err-others t c =
@@ -258,12 +283,19 @@ read_sum-returns t c =
 
 pub read_sums-returns-in_err-e : goal.read_sums-returns-in_err-e
 read_sums-returns-in_err-e t c =
-    quit MoreSum c.args.t.now c.args.at c.from_residual.result c.in_err-e.field-0.0 c.from_residual.ensures.1 c.in_err-e.ensures (λ h. cut_short MoreSum (Stops level.PRODUCT) (Stops level.SUM) c.args.t.now c.args.at c.loop-op.to c.loop-op.found c.loop-op.invariant (Sign (sign.Sum c.in-Some.op)) (c.loop-op.to + 1) c.in-Some.ensures (sum_no_next h))
+    quit MoreSum c.args.t.now c.args.at c.from_residual-in_err-e.result c.in_err-e.field-0.0 c.from_residual-in_err-e.ensures.1 c.in_err-e.ensures (λ h. cut_short MoreSum (Stops level.PRODUCT) (Stops level.SUM) c.args.t.now c.args.at c.loop-op.to c.loop-op.found c.loop-op.invariant (Sign (sign.Sum c.in-Some.op)) (c.loop-op.to + 1) c.in-Some.ensures (sum_no_next h))
+
+pub read_sums-loop-op-preserved-then-branch : goal.read_sums-loop-op-preserved-then-branch
+read_sums-loop-op-preserved-then-branch t c =
+    let p = put_so (sum_term c.in-Some.op) (Lone level.PRODUCT c.args.t.now (c.loop-op.to + 1)) c.loop-op.found c.put_lone_term.new.found _ c.if-branch.true c.in_ok-put_lone_term.ensures in
+    let d = p.1 in
+    one_more MoreSum (Stops level.PRODUCT) (Stops level.SUM) c.args.t.now c.args.at c.loop-op.to c.loop-op.found c.loop-op.invariant (Sign (sign.Sum c.in-Some.op)) (c.loop-op.to + 1) c.in-Some.ensures (sum_term c.in-Some.op p.0) (c.loop-op.to + 1 + 1) c.put_lone_term.new.found (λ rest last ds. sum_more (lone_prod d.1) ds) (λ h. sum_no_more (lone_prod d.1) d.2 h) d.2 (omega arith) (omega (arith, d.0)) p.2
 
 pub read_sums-loop-op-preserved : goal.read_sums-loop-op-preserved
 read_sums-loop-op-preserved t c =
+    let q = put_not (sum_term c.in-Some.op) (Lone level.PRODUCT c.args.t.now (c.loop-op.to + 1)) c.loop-op.found c.put_lone_term.new.found _ c.if-branch.false c.in_ok-put_lone_term.ensures in
     let d = c.in_ok-e.ensures in
-    one_more MoreSum (Stops level.PRODUCT) (Stops level.SUM) c.args.t.now c.args.at c.loop-op.to c.loop-op.found c.loop-op.invariant (Sign (sign.Sum c.in-Some.op)) (c.loop-op.to + 1) c.in-Some.ensures (sum_term c.in-Some.op c.in_ok-e.e) c.in_ok-e.next c.put_sum.new.found (λ rest last ds. sum_more d.2 ds) (λ h. sum_no_more d.2 d.3 h) d.3 d.0 d.1 c.in_ok-put_sum.ensures
+    one_more MoreSum (Stops level.PRODUCT) (Stops level.SUM) c.args.t.now c.args.at c.loop-op.to c.loop-op.found c.loop-op.invariant (Sign (sign.Sum c.in-Some.op)) (c.loop-op.to + 1) c.in-Some.ensures (sum_term c.in-Some.op c.in_ok-e.e) c.in_ok-e.next c.put_sum.new.found (λ rest last ds. sum_more d.2 ds) (λ h. sum_no_more d.2 d.3 h) d.3 d.0 d.1 (c.in_ok-put_sum.ensures ∙ ap (λ xs. xs ++ sum_term c.in-Some.op c.in_ok-e.e ∷ []) q)
 
 pub read_sums-returns : goal.read_sums-returns
 read_sums-returns t c =
@@ -277,6 +309,11 @@ read_term-returns-in-Some t c =
 pub read_prod-returns-in_err-first : goal.read_prod-returns-in_err-first
 read_prod-returns-in_err-first t c =
     quit ProdE c.args.t.now c.args.at c.from_residual.result c.in_err-first.field-0.0 c.from_residual.ensures.1 c.in_err-first.ensures (prod_no_first)
+
+pub read_prod-returns-in_default : goal.read_prod-returns-in_default
+read_prod-returns-in_default t c =
+    let f = c.in_ok-first.ensures in
+    (f.0, f.1, prod f.2 prod_end, stops_prod (terminal_at (from c.args.t.now c.in_ok-first.mid)) f.3 c.in_default.ensures)
 
 pub read_prod-returns-in_err-others : goal.read_prod-returns-in_err-others
 read_prod-returns-in_err-others t c =
