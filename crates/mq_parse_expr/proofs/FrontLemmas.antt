@@ -3,7 +3,6 @@ use Rattle.std.proofs.Common.{◌≡◌, ◌≢◌, ℕ, ◌+◌, ◌<◌, ◌�
 use Rattle.std.specs.Prelude.{Option, Some, None, MatchOption}
 use Rattle.mq_values.specs.Number.{Number}
 use Rattle.mq_values.specs.declared.value.Kind.{Kind}
-use Rattle.mq_values.specs.declared.operators.Agg.{Agg}
 use Rattle.mq_values.specs.declared.operators.Agg.TheVariants as agg
 use Rattle.mq_lexer.specs.declared.sorts.Token.{Token}
 use Rattle.mq_ast.specs.declared.expressions.E.{E}

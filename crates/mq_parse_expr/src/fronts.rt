@@ -124,7 +124,8 @@ fn square_behind(t: &[Token<'_>], at: usize) -> Option<usize>
     }
 }
 
-/// For how many members a list is to have room behind its first: lists of one are the most, and take no more than that.
+/// How many members a list begins with room for, by what stands behind its first: most lists have one member, and take
+/// no more than that.
 pub(crate) fn room(t: &[Token<'_>], at: usize) -> usize {
     match behind_sign(t, at, Symbol::Comma) {
         Some(_) => 4,

@@ -14,7 +14,7 @@ use Rattle.mq_ast.specs.GrammarExpression.{Expr, MoreOr, AndE, MoreAnd, NotE, Te
 use Rattle.mq_parse_words.specs.declared.forms.Form.TheVariants as form
 use Rattle.mq_parse_words.specs.declared.forms.Tail.TheVariants as tail
 use Rattle.mq_parse_words.specs.Reading.{from, Anywhere}
-use Rattle.mq_parse_words.specs.Forms.{form_of, tail_of}
+use Rattle.mq_parse_words.specs.Forms.{tail_of}
 use Rattle.mq_parse_words.specs.Fronts.{RoundE, round, Behind, Since, cmp_front, not_front, is_front, between_front, in_front, CellsOf, ElseEnd, SomeWhens}
 use Rattle.mq_parse_words.specs.StepLemmas.{quit, here, there, till, as_value, gives_as, fronted, one_more, cut_short, all_found}
 use Rattle.mq_parse_expr.proofs.FrontLemmas.{call_form, form_front, tail_front, at_front, leaf_left}

@@ -1,4 +1,4 @@
-use Rattle.std.proofs.Common.{None, ◌+◌, refl, arith}
+use Rattle.std.proofs.Common.{None, refl, arith}
 use Rattle.mq_values.specs.declared.value.Value.TheVariants as value
 use Rattle.mq_ast.specs.declared.expressions.E.TheVariants as tree
 use Rattle.mq_ast.specs.GrammarNames.{path_of, path_one}
