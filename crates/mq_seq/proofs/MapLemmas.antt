@@ -10,7 +10,7 @@ use Rattle.std.proofs.lemmas.Bool.Decides.{Decides-ltb}
 use Rattle.std.proofs.lemmas.Bool.{cases_lt}
 use Rattle.std.proofs.lemmas.List.Quantifiers.{position-Some}
 use Rattle.std.proofs.lemmas.Map.Keys.{any_passes_from_place, sorted_head, sorted_tail}
-use Rattle.std.proofs.lemmas.Option.{slice_get_past, slice_get-get_or}
+use Rattle.std.proofs.lemmas.Option.{slice_get_past, slice_get_read, slice_get-get_or}
 use Rattle.mq_values.specs.Order.{cmp_key}
 use Rattle.mq_values.specs.OrderLaws.{key_total}
 use Rattle.mq_ir.specs.Keys.{Tuple}
@@ -42,8 +42,14 @@ module _ (key : Tuple) where
       by true rest = refl
       by false rest = let one : 1 + n ≡ suc n = omega arith in ap (slice_get (v ∷ ms)) one ∙ rest
 
-  pub measures_found : (ks ms : List Tuple) (at : ℕ) → length ms ≡ length ks → place_of ks key ≡ Some at → slice_get ms at ≡ cell_at (zip ks ms) key
+  measures_found : (ks ms : List Tuple) (at : ℕ) → length ms ≡ length ks → place_of ks key ≡ Some at → slice_get ms at ≡ cell_at (zip ks ms) key
   measures_found ks ms at h e = ap (slice_get ms) (sym (the_place (place_in ks key) (length ks) at e)) ∙ at_place ks ms h
+
+  -- the measures that stand at the place of a key
+  pub measures_at : (ks ms : List Tuple) (at : ℕ) (m : Tuple) → length ms ≡ length ks → place_of ks key ≡ Some at → m ≡ get_or ms at m → Some m ≡ cell_at (zip ks ms) key
+  measures_at ks ms at m h e is =
+      let below = (position-Some (is_at (cmp_key key)) ks at key e).0 in
+      sym (slice_get_read ms (length ms) at m refl (omega (arith, below, h)) is) ∙ measures_found ks ms at h e
 
   pub no_measures : (ks ms : List Tuple) → length ms ≡ length ks → place_of ks key ≡ None → cell_at (zip ks ms) key ≡ None
   no_measures ks ms h e =

@@ -1,9 +1,9 @@
 //! The cells of a partition, ascending by their keys.
-ghost use Rattle.std.specs.Prelude.{◌≡◌, false, length, IfOk, OnOk, OnErr};
+ghost use Rattle.std.specs.Prelude.{◌≡◌, false, length, slice_set, IfOk, OnOk, OnErr};
 ghost use Rattle.std.specs.List.{zip};
 ghost use Rattle.std.specs.List.Sorted.{IsStrictlySortedBy};
 ghost use Rattle.std.specs.Map.{keys_of};
-ghost use Rattle.std.specs.Option.{IsSome, option_copied};
+ghost use Rattle.std.specs.Option.{IsSome, option_copied, option_map_or};
 ghost use Rattle.mq_values.specs.Order.{cmp_key};
 ghost use Rattle.mq_ir.specs.Partitions.{cell_at, with_cell};
 ghost use Rattle.mq_ir.specs.Reads.{measure_at};
@@ -11,7 +11,7 @@ ghost use Rattle.mq_cells.specs.Stores.{cell_name};
 ghost use Rattle.mq_dim_index.specs.Places.{is_there};
 
 use mq_dim_index::DimIndex;
-use mq_values::{Items, Key, Memory, Value};
+use mq_values::{Items, Key, Memory, Shared, Value};
 use std::alloc::Global;
 use std::marker::Model;
 
@@ -61,6 +61,30 @@ impl CellMap {
             }
             None => put_new(&mut self.keys, &mut self.measures, key, measures),
         }
+    }
+
+    /// Sets measure `m` of the cell at `key` to `v`; where there is no such cell, nothing changes. After `Memory` the cells
+    /// are as before.
+    pub fn assign(&mut self, alloc: Global, key: &Key, m: u32, v: Value) -> Result<(), Memory>
+        ensures ok { OnOk result (self.new ≡ option_map_or (λ measures. with_cell self.old key.now (slice_set measures m v)) (cell_at self.old key.now) self.old) }
+        ensures same_keys { OnOk result (keys_of self.new ≡ keys_of self.old) }
+        ensures err { OnErr result (self.new ≡ self.old) }
+    {
+        // The index knows that its keys ascend.
+        let _keys = self.keys.keys();
+        let Some(at) = self.keys.find(key.as_slice()) else {
+            return Ok(());
+        };
+        let changed = with_measure(alloc, &self.measures[at as usize], m as usize, v)?;
+        self.measures[at as usize] = changed;
+        Ok(())
+    }
+
+    /// The index of the cells by their keys.
+    pub fn index(&self) -> &DimIndex
+        ensures { result.now ≡ keys_of self.now }
+    {
+        &self.keys
     }
 
     /// The keys of the cells, ascending.
@@ -119,6 +143,17 @@ fn put_new(keys: &mut DimIndex, measures: &mut Vec<Key>, key: Key, now: Key) -> 
         // It has just been put there.
         None => Err(Memory),
     }
+}
+
+// The measures with that of this number set to `v`.
+fn with_measure(alloc: Global, measures: &Key, m: usize, v: Value) -> Result<Key, Memory>
+    ensures { IfOk result (λ changed. changed ≡ slice_set measures.now m v) }
+{
+    let mut values = measures.as_slice().to_vec(alloc)?;
+    if m < values.len() {
+        values[m] = v;
+    }
+    Shared::new(alloc, Items::from_vec(values))
 }
 
 /// The keys of the cells, ascending.

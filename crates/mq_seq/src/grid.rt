@@ -11,7 +11,7 @@ ghost use Rattle.mq_seq.specs.Steps.{begun, created_in};
 ghost use Rattle.mq_seq.specs.Tracks.{assign};
 
 use crate::cell_map::{CellMap, keys_in};
-use crate::changing::{assigned, with_created};
+use crate::changing::with_created;
 use crate::tracked::Tracked;
 use mq_dim_index::DimIndex;
 use mq_ir::{Model as Lent, OutCell, PartShape};
@@ -20,12 +20,11 @@ use mq_values::{Items, Key, Memory, Value};
 use std::alloc::Global;
 use std::marker::Model;
 
-/// The cells of a partition as the rules have left them: their keys stand in an index and in a shape too, and the keys
-/// of the targets so far in a set. Contracts see it as `State` of specs/Steps.
+/// The cells of a partition as the rules have left them: their keys stand in a shape too, and the keys of the targets so far
+/// in a set. Contracts see it as `State` of specs/Steps.
 #[derive(Drop)]
 pub struct Grid {
     cells: Tracked,
-    index: DimIndex,
     shape: PartShape,
     updated: KeySet,
     width: usize,
@@ -43,7 +42,7 @@ impl Model for Grid {
 
     ghost view = { λ g. record { input = g.shape.base; track = g.cells; updated = g.updated; width = g.width } };
 
-    ghost invariant = { λ g. (g.index ≡ keys_of g.cells.cells) × (g.shape.cells ≡ keys_of g.cells.cells)
+    ghost invariant = { λ g. (g.shape.cells ≡ keys_of g.cells.cells)
         × HaveLength g.width (keys_of g.cells.cells) × IsStrictlySortedBy cmp_key g.shape.base };
 }
 
@@ -65,8 +64,8 @@ impl Grid {
         ensures base_ascends { IsStrictlySortedBy cmp_key result.now.base }
         ensures cells_ascend { IsStrictlySortedBy cmp_key result.now.cells }
     {
-        // The index knows that its keys ascend.
-        let _keys = self.index.keys();
+        // The cells know that their keys ascend.
+        let _keys = self.cells.cells().keys();
         &self.shape
     }
 
@@ -75,7 +74,7 @@ impl Grid {
         ensures keys { result.now ≡ keys_of self.now.track.cells }
         ensures wide { HaveLength self.now.width result.now }
     {
-        &self.index
+        self.cells.cells().index()
     }
 
     /// The cells.
@@ -98,14 +97,12 @@ impl Grid {
     {
         let Grid {
             cells,
-            index,
             shape,
             updated,
             width,
         } = self;
         Grid {
             cells: cells.begun(alloc),
-            index,
             shape,
             updated,
             width,
@@ -122,17 +119,21 @@ impl Grid {
         }
         let Grid {
             cells,
-            index,
             shape,
             updated,
             width,
         } = self;
-        let cells = with_created(alloc, m, cells, created)?;
-        if created.len() == 1 && index.stored(created[0].as_slice()).is_none() {
-            let (index, keys) = with_one(index, shape.cells, &created[0])?;
+        if created.len() == 1
+            && cells
+                .cells()
+                .index()
+                .stored(created[0].as_slice())
+                .is_none()
+        {
+            let cells = with_created(alloc, m, cells, created)?;
+            let keys = with_one(cells.cells().index(), shape.cells, &created[0])?;
             return Ok(Grid {
                 cells,
-                index,
                 shape: PartShape {
                     base: shape.base,
                     cells: keys,
@@ -142,6 +143,7 @@ impl Grid {
                 width,
             });
         }
+        let cells = with_created(alloc, m, cells, created)?;
         seated(alloc, cells, shape.base, updated, width)
     }
 
@@ -151,16 +153,14 @@ impl Grid {
     {
         let Grid {
             cells,
-            index,
             shape,
             mut updated,
             width,
         } = self;
-        let cells = assigned(alloc, cells, key, m, v)?;
+        let cells = cells.assigned(alloc, key, m, v)?;
         updated.put(key.copy()?)?;
         Ok(Grid {
             cells,
-            index,
             shape,
             updated,
             width,
@@ -189,10 +189,8 @@ fn seated(
 {
     let keys = keys_in(alloc, cells.cells())?;
     let _count = cells.cells().len();
-    let index = DimIndex::new(alloc, keys.as_slice())?;
     Ok(Grid {
         cells,
-        index,
         shape: PartShape {
             base,
             cells: keys,
@@ -203,16 +201,13 @@ fn seated(
     })
 }
 
-// The keys with one more, in an index and in a list. Most left sides create one cell at most, and then it is put at its
+// The keys with one more, which the index has already. Most left sides create one cell at most, and then it is put at its
 // place; where there are several, all keys are listed anew.
-fn with_one(index: DimIndex, keys: Items<Key>, key: &Key) -> Result<(DimIndex, Items<Key>), Memory>
-    requires same { keys ≡ index }
-    requires new { is_there index key.now ≡ false }
-    ensures index { IfOk result (λ r. r.0 ≡ with_key index key.now) }
-    ensures keys { IfOk result (λ r. r.1 ≡ with_key index key.now) }
+fn with_one(index: &DimIndex, keys: Items<Key>, key: &Key) -> Result<Items<Key>, Memory>
+    requires one_more { index.now ≡ with_key keys key.now }
+    requires new { is_there keys key.now ≡ false }
+    ensures { IfOk result (λ more. more ≡ index.now) }
 {
-    let mut index = index;
-    index.insert(key.copy()?)?;
     let Some(at) = index.find(key.as_slice()) else {
         return Err(Memory);
     };
@@ -221,7 +216,7 @@ fn with_one(index: DimIndex, keys: Items<Key>, key: &Key) -> Result<(DimIndex, I
         return Err(Memory);
     }
     keys.insert(at as usize, key.copy()?)?;
-    Ok((index, Items::from_vec(keys)))
+    Ok(Items::from_vec(keys))
 }
 
 fn out_cells(alloc: Global, cells: &CellMap, updated: &KeySet) -> Result<Items<OutCell>, Memory>
