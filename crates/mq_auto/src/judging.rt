@@ -12,7 +12,7 @@ use crate::input_keys::keys_of;
 use mq_auto_shape::shape_of;
 use mq_ir::{Model, PartInput, PartShape};
 use mq_levels::Leveled;
-use mq_values::{FaultKind, Key, MAX_CELLS_OF_PARTITION, Memory, QueryFault, Shared};
+use mq_values::{FaultKind, Key, MAX_CELLS_OF_PARTITION, Memory, QueryFault};
 use std::alloc::Global;
 
 /// The shape of a partition with the rounds of its assignments, or the first fault of the input or the shape, or CYCLE.
@@ -54,7 +54,7 @@ fn input_fault(p: &PartInput) -> Result<Option<QueryFault>, Memory>
             kind: FaultKind::TooManyCells,
             rule: 0,
             partition: p.key.copy()?,
-            cell: Shared::empty(),
+            cell: Key::empty(),
         }));
     }
     Ok(None)

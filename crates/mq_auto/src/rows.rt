@@ -10,7 +10,7 @@ ghost use Rattle.mq_auto.specs.Findings.{AreUpdated};
 use mq_cells::Cells;
 use mq_ir::{Model, OutCell, PartShape, Slot};
 use mq_single_lefts::KeySet;
-use mq_values::{Items, Key, Memory, Shared, Value};
+use mq_values::{Items, Key, Memory, Value};
 use std::alloc::Global;
 
 /// The cells of a shape with the values that stand in `cells`; where no value stands, with null.
@@ -50,7 +50,7 @@ fn out_cell<C: Cells>(
     let measures = measures_at(alloc, m.part.measures.len(), key, cells)?;
     Ok(OutCell {
         key: key.copy()?,
-        measures: Shared::new(alloc, measures)?,
+        measures: Key::new(alloc, measures)?,
         updated: updated.has(key),
     })
 }

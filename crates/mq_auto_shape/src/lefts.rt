@@ -7,7 +7,7 @@ ghost use Rattle.mq_auto_shape.specs.Walk.{fault_in, left_grown};
 use crate::growth::Growth;
 use mq_ir::{Rule, SingleLeft};
 use mq_single_lefts::PlacedFault;
-use mq_values::{Fail, FaultKind, Key, MAX_CELLS_OF_PARTITION, Shared};
+use mq_values::{Fail, FaultKind, Key, MAX_CELLS_OF_PARTITION};
 use std::alloc::Global;
 
 /// What has grown after these single left sides of the rule of this number, or the first fault.
@@ -57,7 +57,7 @@ fn fault_of(number: u32, again: Option<Key>, count: usize) -> Option<PlacedFault
         return Some(PlacedFault::new(number, key, FaultKind::AssignedTwice));
     }
     if count > MAX_CELLS_OF_PARTITION {
-        return Some(PlacedFault::new(number, Shared::empty(), FaultKind::TooManyCells));
+        return Some(PlacedFault::new(number, Key::empty(), FaultKind::TooManyCells));
     }
     None
 }

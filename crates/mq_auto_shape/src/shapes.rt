@@ -18,7 +18,7 @@ use crate::rules::grow_rules;
 use mq_ir::{Model, PartShape};
 use mq_levels::{Leveled, levels};
 use mq_single_lefts::PlacedFault;
-use mq_values::{Fail, Key, Memory, QueryFault, Shared};
+use mq_values::{Fail, Key, Memory, QueryFault};
 use std::alloc::Global;
 
 /// The shape of an input with these keys, and the rounds in which its assignments are levelled, as their places in
@@ -37,7 +37,7 @@ pub fn shape_of(
 {
     match found_over(alloc, m, keys) {
         Ok(found) => Ok(Ok(found)),
-        Err(Fail::Cause(fault)) => Ok(Err(fault.at_partition(Shared::empty()))),
+        Err(Fail::Cause(fault)) => Ok(Err(fault.at_partition(Key::empty()))),
         Err(Fail::Memory) => Err(Memory),
     }
 }

@@ -8,7 +8,7 @@ use mq_notation::answers::add;
 use mq_notation::lists::keys;
 use mq_notation::literals::number_of;
 use mq_notation::notation::{Read, no_tree};
-use mq_values::{Fail, Items, Key, Memory, Num, Shared, Value};
+use mq_values::{Fail, Items, Key, Memory, Num, Value};
 use std::alloc::Global;
 
 /// The row, and behind a tab what it asks for. A row without a tab stays as it is, and so does one that sets the rows.
@@ -66,7 +66,7 @@ fn counted(alloc: Global, count: u32) -> Result<Vec<Key>, Memory> {
     for number in 0..count {
         let mut values = Items::new(alloc);
         values.push(Value::Num(Num::new(number as i128 + 1, 0)))?;
-        rows.push(Shared::new(alloc, values)?)?;
+        rows.push(Key::new(alloc, values)?)?;
     }
     Ok(rows)
 }

@@ -2,7 +2,7 @@
 
 use mq_cells::PlainCells;
 use mq_ir::{PartInput, PartShape};
-use mq_values::{Items, Key, Memory, Shared};
+use mq_values::{Items, Key, Memory};
 use std::alloc::Global;
 
 #[derive(Drop)]
@@ -15,7 +15,7 @@ pub(crate) struct Scene {
 impl Scene {
     pub fn new(alloc: Global) -> Result<Scene, Memory> {
         let input = PartInput {
-            key: Shared::empty(),
+            key: Key::empty(),
             cells: Items::new(alloc),
             repeated: None,
         };

@@ -4,7 +4,7 @@ use crate::texts::{add_bytes, add_either, key, keys, text, value, values};
 use mq_notation::answers::{add, add_number};
 use mq_notation::lists::add_values;
 use mq_notation::notation::{Read, no_tree};
-use mq_values::{Boxed, Items, Key, Memory, Shared, Text, Value, Words, print};
+use mq_values::{Boxed, Items, Key, Memory, Text, Value, Words, print};
 use std::alloc::Global;
 use std::collections::{BTreeMap, HashMap};
 
@@ -166,7 +166,7 @@ pub(crate) fn add_key(alloc: Global, text: &str, answer: &mut Vec<u8>) -> Read<(
     add(")", answer)?;
     add_whether_same(copy == key, answer)?;
     add_whether_same(key.clone()? == key, answer)?;
-    Ok(add_either(Shared::<Value>::empty() < key, " above", " least", answer)?)
+    Ok(add_either(Key::empty() < key, " above", " least", answer)?)
 }
 
 /// Keys and a key, with a tab between: the place of the last that is the same, as an ordered map and a hash map have it.

@@ -3,7 +3,7 @@
 
 use mq_notation::literals::{self, number_of};
 use mq_notation::notation::{Read, no_tree};
-use mq_values::{Items, Key, Memory, Shared, Text, Value};
+use mq_values::{Items, Key, Memory, Text, Value};
 use std::alloc::Global;
 
 pub(crate) fn text(alloc: Global, field: &str) -> Read<String> {
@@ -103,7 +103,7 @@ pub(crate) fn values(alloc: Global, text: &str) -> Read<Vec<Value>> {
 /// A key: values as above.
 pub(crate) fn key(alloc: Global, text: &str) -> Read<Key> {
     let values = values(alloc, text)?;
-    Ok(Shared::new(alloc, Items::from_vec(values))?)
+    Ok(Key::new(alloc, Items::from_vec(values))?)
 }
 
 /// Keys with semicolons between them; none where the text is empty.

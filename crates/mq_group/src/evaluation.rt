@@ -12,7 +12,7 @@ use crate::places::{GroupPlace, RowPlace};
 use crate::row_values::RowValues;
 use mq_ir::{ColRef, Expr, ItemPart};
 use mq_scalar::{Env, eval};
-use mq_values::{Fail, FaultKind, Items, Key, QueryFault, Shared, ValueFault};
+use mq_values::{Fail, FaultKind, Items, Key, QueryFault, ValueFault};
 use std::alloc::Global;
 
 /// The items of a query for each of these rows or, where the query is grouped, for each group, evaluated from left to
@@ -85,7 +85,7 @@ pub fn evaluated<V: Env>(alloc: Global, es: &[Expr], env: &mut V) -> Result<Key,
     for e in es {
         values.push(eval(alloc, e, env)?)?;
     }
-    Ok(Shared::new(alloc, values)?)
+    Ok(Key::new(alloc, values)?)
 }
 
 /// The fault of a query that a value fault makes outside of its rules.
@@ -95,8 +95,8 @@ pub fn plain_fault(fault: ValueFault) -> QueryFault
     QueryFault {
         kind: kind_of(fault),
         rule: 0,
-        partition: Shared::empty(),
-        cell: Shared::empty(),
+        partition: Key::empty(),
+        cell: Key::empty(),
     }
 }
 

@@ -6,7 +6,7 @@ ghost use Rattle.mq_group.specs.Columns.{column_in};
 
 use crate::row_values::RowValues;
 use mq_ir::ColRef;
-use mq_values::{Items, Key, Memory, Shared, Value};
+use mq_values::{Items, Key, Memory, Value};
 use std::alloc::Global;
 
 /// The value of a column of a row, or null where there is no such column.
@@ -27,5 +27,5 @@ pub fn key_of<R: RowValues>(alloc: Global, cols: &[ColRef], row: &R) -> Result<K
     for col in cols {
         values.push(column_value(row, col.item, col.column)?)?;
     }
-    Shared::new(alloc, values)
+    Key::new(alloc, values)
 }

@@ -6,7 +6,7 @@ use crate::literals::{value, values};
 use crate::notation::Read;
 use crate::parts::opened;
 use mq_ir::Expr;
-use mq_values::{Items, Key, Memory, Shared, Value, print};
+use mq_values::{Items, Key, Memory, Value, print};
 use std::alloc::Global;
 
 /// What stands in a list.
@@ -58,7 +58,7 @@ impl Listed for Items<Expr> {
 /// A key: values with blanks between them.
 pub fn key(alloc: Global, text: &str) -> Read<Key> {
     let key = values(alloc, text)?;
-    Ok(Shared::new(alloc, Items::from_vec(key))?)
+    Ok(Key::new(alloc, Items::from_vec(key))?)
 }
 
 /// Keys; none where the text is a dash.

@@ -9,7 +9,7 @@ ghost use Rattle.mq_printed.specs.Printing.{cmp_rows, with_ascending};
 
 use crate::columns::Columns;
 use mq_ir::BoundQuery;
-use mq_values::{Items, Key, Memory, Shared, Value};
+use mq_values::{Items, Key, Memory, Value};
 use std::alloc::Global;
 use std::cmp::Ordering;
 
@@ -56,7 +56,7 @@ fn columns_at<R: Columns + Drop>(alloc: Global, numbers: &[u32], row: &R) -> Res
     for number in numbers {
         values.push(value_at(row, *number)?)?;
     }
-    Shared::new(alloc, values)
+    Key::new(alloc, values)
 }
 
 // The value of a column, or null where there is none.

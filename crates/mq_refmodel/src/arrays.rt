@@ -7,7 +7,7 @@ ghost use Rattle.mq_refmodel.specs.Arrays.{array_of};
 use crate::rows::evaluated_rows;
 use mq_ir::{RefArray, RefPart};
 use mq_shape::{RowCells, cells_of};
-use mq_values::{Fail, FaultKind, Key, MAX_CELLS_OF_REFERENCE, QueryFault, Shared};
+use mq_values::{Fail, FaultKind, Key, MAX_CELLS_OF_REFERENCE, QueryFault};
 use std::alloc::Global;
 
 /// The array of a reference over the items of its query. The first fault comes in this order: value faults row by row,
@@ -23,7 +23,7 @@ pub fn reference(alloc: Global, q: &RefPart, items: &[Key]) -> Result<RefArray, 
         return Err(Fail::Cause(fault_at(FaultKind::NotUnique, key)));
     }
     if count > MAX_CELLS_OF_REFERENCE as usize {
-        return Err(Fail::Cause(fault_at(FaultKind::TooManyCells, Shared::empty())));
+        return Err(Fail::Cause(fault_at(FaultKind::TooManyCells, Key::empty())));
     }
     Ok(RefArray { cells })
 }
@@ -35,7 +35,7 @@ fn fault_at(kind: FaultKind, cell: Key) -> QueryFault
     QueryFault {
         kind,
         rule: 0,
-        partition: Shared::empty(),
+        partition: Key::empty(),
         cell,
     }
 }

@@ -8,7 +8,7 @@ ghost use Rattle.mq_ir.specs.Results.{each};
 
 use mq_ir::{Expr, Leaf};
 use mq_scalar::{Env, eval};
-use mq_values::{Fail, Items, Key, Memory, Shared, Value, ValueFault};
+use mq_values::{Fail, Items, Key, Memory, Value, ValueFault};
 use std::alloc::Global;
 
 // A row of the reference's query, which stands as the one FROM item.
@@ -46,5 +46,5 @@ pub fn evaluated(alloc: Global, es: &[Expr], row: &Key) -> Result<Key, Fail<Valu
     for e in es {
         values.push(eval(alloc, e, &mut SourceRow { row })?)?;
     }
-    Ok(Shared::new(alloc, values)?)
+    Ok(Key::new(alloc, values)?)
 }

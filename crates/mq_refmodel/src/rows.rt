@@ -8,7 +8,7 @@ ghost use Rattle.mq_refmodel.specs.Arrays.{row_found, values_found};
 
 use crate::place::evaluated;
 use mq_ir::RefPart;
-use mq_values::{Fail, FaultKind, Items, Key, QueryFault, Shared, ValueFault};
+use mq_values::{Fail, FaultKind, Items, Key, QueryFault, ValueFault};
 use std::alloc::Global;
 
 /// The dimensions and then the measures over each row, which stands as the one FROM item; or the first fault.
@@ -53,8 +53,8 @@ fn plain_fault(fault: ValueFault) -> QueryFault
     QueryFault {
         kind: kind_of(fault),
         rule: 0,
-        partition: Shared::empty(),
-        cell: Shared::empty(),
+        partition: Key::empty(),
+        cell: Key::empty(),
     }
 }
 

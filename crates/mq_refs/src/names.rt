@@ -12,7 +12,7 @@ use crate::plain::{brought, is_number, is_of, plain_number};
 use crate::standpoint::Standpoint;
 use mq_ir::{Expr, Test};
 use mq_scalar::{converted, test_of};
-use mq_values::{DimTest, Fail, Items, Key, Kind, Memory, Shared, Value, ValueFault};
+use mq_values::{DimTest, Fail, Items, Key, Kind, Memory, Value, ValueFault};
 use std::alloc::Global;
 
 /// The values that the indices of a single cell name, each converted to its dimension's kind, or the first fault from
@@ -107,7 +107,7 @@ pub fn key_named(
     ensures { IfOk result (λ key. key ≡ if_named (spec.cell_named (site_of at.now) at.now.model.now.part.now.dims indices.now)) }
 {
     match cell_named(alloc, at, at.model.part.dims.as_slice(), indices) {
-        Ok(values) => Ok(Some(Shared::new(alloc, values)?)),
+        Ok(values) => Ok(Some(Key::new(alloc, values)?)),
         Err(Fail::Cause(_)) => Ok(None),
         Err(Fail::Memory) => Err(Memory),
     }

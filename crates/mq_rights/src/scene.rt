@@ -6,7 +6,7 @@ use mq_ir::{PartInput, PartShape};
 use mq_notation::lists::keys;
 use mq_notation::literals::kind;
 use mq_notation::notation::Read;
-use mq_values::{Items, Key, Kind, Memory, Shared};
+use mq_values::{Items, Key, Kind, Memory};
 use std::alloc::Global;
 
 #[derive(Drop)]
@@ -86,7 +86,7 @@ fn no_shape(alloc: Global) -> PartShape {
 
 fn store(alloc: Global, cells: Items<(Key, Key)>) -> Result<PlainCells, Memory> {
     let input = PartInput {
-        key: Shared::empty(),
+        key: Key::empty(),
         cells,
         repeated: None,
     };

@@ -11,7 +11,7 @@ ghost use Rattle.mq_cells.specs.Stores.{cell_name};
 ghost use Rattle.mq_dim_index.specs.Places.{is_there};
 
 use mq_dim_index::DimIndex;
-use mq_values::{Items, Key, Memory, Shared, Value};
+use mq_values::{Items, Key, Memory, Value};
 use std::alloc::Global;
 use std::marker::Model;
 
@@ -153,7 +153,7 @@ fn with_measure(alloc: Global, measures: &Key, m: usize, v: Value) -> Result<Key
     if m < values.len() {
         values[m] = v;
     }
-    Shared::new(alloc, Items::from_vec(values))
+    Key::new(alloc, Items::from_vec(values))
 }
 
 /// The keys of the cells, ascending.

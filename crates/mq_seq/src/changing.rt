@@ -6,7 +6,7 @@ ghost use Rattle.mq_seq.specs.Tracks.{create};
 
 use crate::tracked::Tracked;
 use mq_ir::Model;
-use mq_values::{Items, Key, Memory, Shared, Value};
+use mq_values::{Items, Key, Memory, Value};
 use std::alloc::Global;
 
 /// The cells with those that are created, which have null in every measure.
@@ -30,5 +30,5 @@ pub fn with_created(
 fn nulls(alloc: Global, count: usize) -> Result<Key, Memory>
     ensures { IfOk result (λ nulls. nulls ≡ replicate count value.Null) }
 {
-    Shared::new(alloc, Items::from_vec(vec![in alloc; Value::Null; count]?))
+    Key::new(alloc, Items::from_vec(vec![in alloc; Value::Null; count]?))
 }

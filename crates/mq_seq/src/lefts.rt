@@ -14,7 +14,7 @@ use crate::self_order::order_missing;
 use mq_ir::SingleLeft;
 use mq_single_lefts::PlacedFault;
 use mq_targets::targets;
-use mq_values::{Fail, FaultKind, Key, MAX_CELLS_OF_PARTITION, Memory, Shared};
+use mq_values::{Fail, FaultKind, Key, MAX_CELLS_OF_PARTITION, Memory};
 use std::alloc::Global;
 
 /// The cells after these single left sides of a rule have acted one after another, or the first fault.
@@ -65,7 +65,7 @@ fn left_fault(
     ensures { IfOk result (λ fault. fault ≡ spec.left_fault (act_in act.now grid.now.input) left.now (keys_of grid.now.track.cells) found.now) }
 {
     if grid.index().len() as usize > MAX_CELLS_OF_PARTITION {
-        return Ok(Some(PlacedFault::new(act.number, Shared::empty(), FaultKind::TooManyCells)));
+        return Ok(Some(PlacedFault::new(act.number, Key::empty(), FaultKind::TooManyCells)));
     }
     match order_missing(alloc, act, left, found, grid)? {
         Some(target) => Ok(Some(PlacedFault::new(act.number, target, FaultKind::SelfOrder))),

@@ -17,7 +17,7 @@ use crate::turns::take_turns;
 use mq_ir::{Model, OutCell, PartInput, PartResult};
 use mq_refs::arrays_ascend;
 use mq_single_lefts::PlacedFault;
-use mq_values::{Fail, FaultKind, Items, Key, MAX_CELLS_OF_PARTITION, Memory, Shared};
+use mq_values::{Fail, FaultKind, Items, Key, MAX_CELLS_OF_PARTITION, Memory};
 use std::alloc::Global;
 
 /// What a model in sequential order makes of a partition: its cells after the rules, each with whether it was a target,
@@ -46,7 +46,7 @@ fn cells_left(
         return Err(fault_of(key.copy()?, FaultKind::NotUnique));
     }
     if p.cells.len() > MAX_CELLS_OF_PARTITION {
-        return Err(fault_of(Shared::empty(), FaultKind::TooManyCells));
+        return Err(fault_of(Key::empty(), FaultKind::TooManyCells));
     }
     cells_after(alloc, m, p.cells.as_slice())
 }

@@ -26,7 +26,7 @@ use mq_refs::{
 };
 use mq_scalar::{Env, holds};
 use mq_single_lefts::{PlacedFault, kind_of};
-use mq_values::{Agg, DimTest, Fail, Key, Shared, Value, ValueFault};
+use mq_values::{Agg, DimTest, Fail, Key, Value, ValueFault};
 use std::alloc::Global;
 
 /// Whether UNTIL holds over the cells after a turn and those with which it began, or its fault; where it is unknown, it
@@ -44,7 +44,7 @@ pub fn until_true(
         Ok(truth) => Ok(is_true(truth)),
         Err(Fail::Cause(fault)) => Err(Fail::Cause(PlacedFault::new(
             0,
-            Shared::empty(),
+            Key::empty(),
             kind_of(fault),
         ))),
         Err(Fail::Memory) => Err(Fail::Memory),
@@ -72,7 +72,7 @@ fn held(
     ensures { Gives result (spec_holds (spec.read_until (record { model = model_of m.now; target = []; turn = turn; set = keys_of grid.now.track.cells })
         grid.now.input (measure_at grid.now.track.cells) (measure_from grid.now.track)) e.now) }
 {
-    let target = Shared::empty();
+    let target = Key::empty();
     let at = Standpoint {
         model: m,
         shape: grid.shape(),
@@ -132,7 +132,7 @@ fn key_of(alloc: Global, at: &Standpoint<'_>, indices: &[Expr]) -> Result<Key, F
     ensures { Gives result (spec.cell_named (site_of at.now) at.now.model.now.part.now.dims indices.now) }
 {
     let values = cell_named(alloc, at, at.model.part.dims.as_slice(), indices)?;
-    Ok(Shared::new(alloc, values)?)
+    Ok(Key::new(alloc, values)?)
 }
 
 // A measure of a single cell, under NAV.

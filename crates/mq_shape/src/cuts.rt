@@ -4,7 +4,7 @@ ghost use Rattle.mq_ir.specs.Partitions.{cut};
 ghost use Rattle.mq_shape.specs.Runs as spec;
 
 use mq_ir::ModelPart;
-use mq_values::{Items, Key, Memory, Shared, Value};
+use mq_values::{Items, Key, Memory, Value};
 use std::alloc::Global;
 
 /// The first `count` values.
@@ -35,7 +35,7 @@ pub fn key_of(alloc: Global, values: &[Value]) -> Result<Key, Memory>
     for v in values {
         copies.push(v.copy()?)?;
     }
-    Shared::new(alloc, copies)
+    Key::new(alloc, copies)
 }
 
 // An item row as a dimension tuple and measures.

@@ -9,7 +9,7 @@ ghost use Rattle.mq_single_lefts.specs.Lefts.{lefts_of};
 use crate::placed_fault::{PlacedFault, kind_of};
 use mq_ir::{Model, Rule, SingleLeft};
 use mq_unfold::{UnfoldFault, unfold};
-use mq_values::{Fail, FaultKind, Items, Shared};
+use mq_values::{Fail, FaultKind, Items, Key};
 use std::alloc::Global;
 
 /// The single left sides of the rule of this number in a turn, or the fault of unfolding it, with the rule and the empty
@@ -30,7 +30,7 @@ pub fn single_lefts(
         Ok(lefts) => Ok(lefts),
         Err(Fail::Cause(fault)) => Err(Fail::Cause(PlacedFault::new(
             number,
-            Shared::empty(),
+            Key::empty(),
             kind_of_unfold(fault),
         ))),
         Err(Fail::Memory) => Err(Fail::Memory),

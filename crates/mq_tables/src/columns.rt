@@ -12,7 +12,7 @@ use crate::rows::put;
 use crate::scopes::{NoRow, OneRow};
 use mq_ir::{Column, Expr, Row, Schema};
 use mq_scalar::{Env, eval, holds};
-use mq_values::{Fail, Items, Kind, Memory, Refused, Shared, Value, ValueFault, cast};
+use mq_values::{Fail, Items, Key, Kind, Memory, Refused, Value, ValueFault, cast};
 use std::alloc::Global;
 
 // The value of `e`, brought to a kind.
@@ -82,10 +82,10 @@ pub fn inserted_row(
     'columns: for (at, e) in es.iter().enumerate() {
         match schema.cols.get(at) {
             Some(col) => values.push(column_value(alloc, &mut NoRow, number, col, e)?)?,
-            None => return Ok(Shared::new(alloc, values)?),
+            None => return Ok(Key::new(alloc, values)?),
         }
     }
-    Ok(Shared::new(alloc, values)?)
+    Ok(Key::new(alloc, values)?)
 }
 
 /// Whether UPDATE or DELETE visits the row of this number as true.
@@ -157,7 +157,7 @@ fn row_with(
         let v = set_value(alloc, schema, number, row, set.0, &set.1)?;
         put(&mut values, set.0, v);
     }
-    Ok(Shared::new(alloc, Items::from_vec(values))?)
+    Ok(Key::new(alloc, Items::from_vec(values))?)
 }
 
 // The values of a row, each once more.

@@ -5,7 +5,7 @@ ghost use Rattle.mq_tables.specs.Drafts as drafts;
 
 use crate::scopes::value_at;
 use mq_ir::{Expr, Row, Schema};
-use mq_values::{Items, Key, Memory, Shared};
+use mq_values::{Items, Key, Memory};
 use std::alloc::Global;
 
 /// The key of a row, with the columns in the order of PRIMARY KEY.
@@ -16,7 +16,7 @@ pub fn row_key(alloc: Global, schema: &Schema, row: &Row) -> Result<Key, Memory>
     'columns: for column in schema.key.as_slice() {
         values.push(value_at(row, *column)?)?;
     }
-    Shared::new(alloc, values)
+    Key::new(alloc, values)
 }
 
 /// Whether SET puts a value into no column of the key.

@@ -6,7 +6,7 @@ ghost use Rattle.std.specs.List.{list_any};
 ghost use Rattle.mq_targets.specs.Choice.{symbol_at, test_at, with_places};
 
 use mq_ir::SinglePlace;
-use mq_values::{DimTest, Items, Key, Memory, Shared, Value};
+use mq_values::{DimTest, Items, Key, Memory, Value};
 use std::alloc::Global;
 
 // Whether one of the places is symbolic.
@@ -73,7 +73,7 @@ pub fn named(alloc: Global, places: &[SinglePlace]) -> Result<Key, Memory>
     for place in places {
         values.push(value_in(place)?)?;
     }
-    Shared::new(alloc, values)
+    Key::new(alloc, values)
 }
 
 fn value_in(place: &SinglePlace) -> Result<Value, Memory>
@@ -93,7 +93,7 @@ pub fn projected(alloc: Global, places: &[SinglePlace], key: &[Value]) -> Result
     for at in 0..places.len().min(key.len()) {
         values.push(value_with(&places[at], &key[at])?)?;
     }
-    Shared::new(alloc, values)
+    Key::new(alloc, values)
 }
 
 fn value_with(place: &SinglePlace, value: &Value) -> Result<Value, Memory>

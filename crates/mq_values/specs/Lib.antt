@@ -5,6 +5,7 @@ pub mod Bytes
 pub mod Convert
 pub mod DimTestLaws
 pub mod DimTests
+pub mod Keys
 pub mod Laws
 pub mod Number
 pub mod NumberLaws

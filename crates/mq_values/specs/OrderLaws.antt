@@ -1,8 +1,8 @@
 -- Why the order of values is an order.
-use Rattle.std.proofs.Common.{◌≡◌, ℕ, List, Option, Some, None, Ordering, Less, Equal, Greater, refl, subst}
+use Rattle.std.proofs.Common.{◌≡◌, ℕ, List, Option, Some, None, Ordering, Less, Equal, Greater, refl, subst, sym}
 use Rattle.std.specs.Ordering.{on, then_cmp, nat_cmp, ordering_then, eq_by_cmp}
 use Rattle.std.specs.Option.{option_cmp}
-use Rattle.std.specs.Cmp.{IsTotalOrder, on_total, then_total, nat_cmp_total, int_cmp_total}
+use Rattle.std.specs.Cmp.{IsEquivalence, IsTotalOrder, eq_by_cmp_equiv, on_total, then_total, nat_cmp_total, int_cmp_total}
 use Rattle.std.specs.Cmp.Lexicographic.{nat_list_cmp_total, options_total, lists_total, texts_ties}
 use Rattle.mq_values.specs.declared.limits.TheConstants.{MAX_SCALE}
 use Rattle.mq_values.specs.Number.{Number, cmp_number, mant_at}
@@ -69,3 +69,6 @@ values_tie (value.Text a) value.Null = refl
 values_tie value.Null (value.Num b) = refl
 values_tie value.Null (value.Text b) = refl
 values_tie value.Null value.Null = refl
+
+pub values_equiv : IsEquivalence same.eq
+values_equiv = subst IsEquivalence (λ i a b. sym (values_tie a b) i) (eq_by_cmp_equiv value_total)

@@ -1,4 +1,4 @@
-use crate::value::Key;
+use crate::key::Key;
 use crate::words::Words;
 use thiserror::Error;
 

@@ -10,6 +10,7 @@ mod digits;
 mod dim_tests;
 mod faults;
 mod items;
+mod key;
 mod laws;
 mod limits;
 mod memory;
@@ -30,6 +31,7 @@ pub use convert::{cast, concat, length};
 pub use dim_tests::{compare, truth_and, truth_not, truth_or};
 pub use faults::{FaultKind, QueryFault, Refused, ValueFault};
 pub use items::Items;
+pub use key::Key;
 pub use laws::{
     keys_are_ordered, order_agrees_with_comparison, values_are_ordered, values_print_apart,
 };
@@ -52,5 +54,5 @@ pub use printing::print;
 pub use shared::Shared;
 pub use tally::Tally;
 pub use text::Text;
-pub use value::{Key, Kind, Value};
+pub use value::{Kind, Value};
 pub use words::Words;

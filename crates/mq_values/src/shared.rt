@@ -1,13 +1,8 @@
 ghost use Rattle.std.specs.Prelude.{◌≡◌, [], IfOk};
-ghost use Rattle.std.specs.Hash as fed;
-ghost use Rattle.std.specs.Hash.{items_Alike};
-ghost use Rattle.std.specs.Cmp.Lexicographic.{pointwise, slice_cmp, slice_partial_cmp, lists_equiv, lists_agrees, lists_total, lists_ties, lists_per, lists_po};
 
 use crate::items::Items;
 use crate::memory::Memory;
 use std::alloc::{AllocError, Global};
-use std::cmp::Ordering;
-use std::hash::{Hash, Hasher};
 use std::marker::Model;
 use std::sync::Arc;
 
@@ -81,53 +76,5 @@ impl<T: Drop> Clone for Shared<T> {
             Ok(copy) => Ok(copy),
             Err(_) => Err(AllocError),
         }
-    }
-}
-
-impl<T: PartialEq> PartialEq for Shared<T> {
-    ghost eq = { pointwise T.eq };
-
-    ghost laws = { lists_per T.laws };
-
-    fn eq(&self, other: &Shared<T>) -> bool {
-        self.as_slice() == other.as_slice()
-    }
-}
-
-impl<T: Eq> Eq for Shared<T> {
-    ghost laws = { lists_equiv T.Eq.laws };
-}
-
-impl<T: PartialOrd> PartialOrd for Shared<T> {
-    ghost partial_cmp = { slice_partial_cmp T.partial_cmp };
-
-    ghost laws = { lists_po T.PartialOrd.laws };
-
-    fn partial_cmp(&self, other: &Shared<T>) -> Option<Ordering> {
-        self.as_slice().partial_cmp(other.as_slice())
-    }
-}
-
-impl<T: Ord> Ord for Shared<T> {
-    ghost cmp = { slice_cmp T.cmp };
-
-    ghost total = { lists_total T.total };
-
-    ghost matches_partial_cmp = { lists_agrees T.matches_partial_cmp };
-
-    ghost matches_eq = { lists_ties T.cmp T.matches_eq };
-
-    fn cmp(&self, other: &Shared<T>) -> Ordering {
-        self.as_slice().cmp(other.as_slice())
-    }
-}
-
-impl<T: Hash> Hash for Shared<T> {
-    ghost hash_input = { fed.slice T.hash_input };
-
-    ghost respects_eq = { (items_Alike (record { fed = T.respects_eq })).fed };
-
-    fn hash<H: Hasher>(&self, state: &mut H) {
-        self.as_slice().hash(state);
     }
 }

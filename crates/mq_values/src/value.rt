@@ -6,7 +6,6 @@ ghost use Rattle.mq_values.specs.OrderLaws.{value_total, values_tie};
 
 use crate::memory::Memory;
 use crate::number::Num;
-use crate::shared::Shared;
 use crate::text::Text;
 use std::alloc::AllocError;
 use std::cmp::Ordering;
@@ -27,9 +26,6 @@ pub enum Value {
     Text(Text),
     Null,
 }
-
-/// A tuple of values, as a row, the key of a partition or of a cell. A copy of it copies no value.
-pub type Key = Shared<Value>;
 
 impl Value {
     pub fn is_null(&self) -> bool
