@@ -3,6 +3,7 @@
 use crate::texts::{add_bytes, add_either, key, keys, text, value, values};
 use mq_notation::answers::{add, add_number};
 use mq_notation::lists::add_values;
+use mq_notation::literals::number_of;
 use mq_notation::notation::{Read, no_tree};
 use mq_values::{Boxed, Items, Key, Memory, Text, Value, Words, print};
 use std::alloc::Global;
@@ -167,6 +168,44 @@ pub(crate) fn add_key(alloc: Global, text: &str, answer: &mut Vec<u8>) -> Read<(
     add_whether_same(copy == key, answer)?;
     add_whether_same(key.clone()? == key, answer)?;
     Ok(add_either(Key::empty() < key, " above", " least", answer)?)
+}
+
+/// A value as a key of its own, and whether that is the same as the key of a list of it.
+pub(crate) fn add_lone_key(alloc: Global, text: &str, answer: &mut Vec<u8>) -> Read<()> {
+    let lone = Key::one(alloc, value(alloc, text)?)?;
+    add("\t", answer)?;
+    add_values(lone.as_slice(), answer)?;
+    Ok(add_whether_same(lone == key(alloc, text)?, answer)?)
+}
+
+/// A key, a place and a value, with a tab between: what comes back where a copy holds the key too, the key then, and the
+/// key with the value at that place.
+pub(crate) fn add_key_set(alloc: Global, text: &str, answer: &mut Vec<u8>) -> Read<()> {
+    let mut fields = text.split('\t');
+    let (Some(all), Some(at), Some(v)) = (fields.next(), fields.next(), fields.next()) else {
+        return no_tree();
+    };
+    let mut key = key(alloc, all)?;
+    let at = number_of(at)? as usize;
+    let copy = key.copy()?;
+    add_set(&mut key, at, value(alloc, v)?, answer)?;
+    drop(copy);
+    add_set(&mut key, at, value(alloc, v)?, answer)?;
+    Ok(())
+}
+
+// What comes back where the value is to be put at that place of the key, and the key then.
+fn add_set(key: &mut Key, at: usize, v: Value, answer: &mut Vec<u8>) -> Result<(), Memory> {
+    match key.set_if_sole(at, v) {
+        Ok(()) => add("\tset (", answer)?,
+        Err(v) => {
+            add("\tback ", answer)?;
+            print(&v, answer)?;
+            add(" (", answer)?;
+        }
+    }
+    add_values(key.as_slice(), answer)?;
+    add(")", answer)
 }
 
 /// Keys and a key, with a tab between: the place of the last that is the same, as an ordered map and a hash map have it.

@@ -37,6 +37,8 @@ fn add_of_values(alloc: Global, asked: &str, text: &str, answer: &mut Vec<u8>) -
         "items" => kept::add_items(alloc, text, answer),
         "boxed" => kept::add_boxed(alloc, text, answer),
         "key" => kept::add_key(alloc, text, answer),
+        "lone-key" => kept::add_lone_key(alloc, text, answer),
+        "key-set" => kept::add_key_set(alloc, text, answer),
         "found" => kept::add_found(alloc, text, answer),
         _ => add_of_texts(alloc, asked, text, answer),
     }

@@ -31,6 +31,9 @@ fn behind(values: &[Value], count: usize) -> &[Value]
 pub fn key_of(alloc: Global, values: &[Value]) -> Result<Key, Memory>
     ensures { IfOk result (λ key. key ≡ values.now) }
 {
+    if let [v] = values {
+        return Key::one(alloc, v.copy()?);
+    }
     let mut copies = Items::with_room(alloc, values.len());
     for v in values {
         copies.push(v.copy()?)?;
