@@ -2,4 +2,4 @@ pub mod ColumnLemmas
 pub mod FaultLemmas
 pub mod LookedLemmas
 pub mod PlaceLemmas
-pub mod TieLemmas
+pub mod SearchLemmas

@@ -1,3 +1,4 @@
+pub mod Ascents
 pub mod Columns
 pub mod Faults
 pub mod Looked

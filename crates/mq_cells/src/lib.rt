@@ -12,6 +12,7 @@ mod held;
 mod input;
 mod looked;
 mod plain;
+mod search;
 mod slots;
 
 pub use bounds::{MAX_ASSIGNMENTS, MAX_LOOKS};
