@@ -3,3 +3,4 @@ pub mod FaultLemmas
 pub mod LookedLemmas
 pub mod PlaceLemmas
 pub mod SearchLemmas
+pub mod WholeLemmas

@@ -1,3 +1,4 @@
+pub mod AscentLaws
 pub mod Ascents
 pub mod Columns
 pub mod Faults

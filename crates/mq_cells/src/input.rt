@@ -4,7 +4,7 @@ ghost use Rattle.std.specs.Option.{option_copied};
 ghost use Rattle.mq_ir.specs.Partitions.{cell_at};
 ghost use Rattle.mq_cells.specs.Stores.{cell_name, input_value};
 
-use crate::search::{cells_ascend, measures_in};
+use crate::search::{cells_ascend, find_measures};
 use mq_values::{Key, Memory, Value};
 use std::marker::Model;
 
@@ -44,7 +44,7 @@ impl<'a> InputCells<'a> {
     pub fn get(&self, key: &Key) -> Option<&'a Key>
         ensures { option_copied result ≡ cell_at self.now key.now }
     {
-        measures_in(self.cells, self.ascend, key.as_slice())
+        find_measures(self.cells, self.ascend, key.as_slice())
     }
 
     /// Measure `m` of the cell at `key`, or null where there is none.

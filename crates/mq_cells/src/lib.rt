@@ -22,4 +22,5 @@ pub use faults::least_fault;
 pub use held::Held;
 pub use looked::LookCells;
 pub use plain::PlainCells;
+pub use search::{cells_ascend, find_measures};
 pub use slots::copy_slot;

@@ -61,6 +61,17 @@ impl Cells for PlainCells<'_> {
         }
     }
 
+    fn whole(&self, key: &Key, count: u32) -> Option<&Key> {
+        let Some(measures) = self.input.get(key) else {
+            return None;
+        };
+        if measures.as_slice().len() == count as usize && !self.results.has(key) {
+            Some(measures)
+        } else {
+            None
+        }
+    }
+
     fn put(&mut self, key: &Key, m: u32, s: Slot) -> Result<(), Memory> {
         self.results.put(key.copy()?, m, s)
     }

@@ -15,19 +15,19 @@ pub fn cells_ascend(cells: &[(Key, Key)]) -> bool
 
 /// The measures of the first cell at `key`, or `None` where there is none. The cells ascend where `ascend` says so. It
 /// takes no memory.
-pub fn measures_in<'a>(cells: &'a [(Key, Key)], ascend: bool, key: &[Value]) -> Option<&'a Key>
+pub fn find_measures<'a>(cells: &'a [(Key, Key)], ascend: bool, key: &[Value]) -> Option<&'a Key>
     requires { ascend ≡ true → CellsAscend cells.now }
     ensures { option_copied result ≡ cell_at cells.now key.now }
 {
     if ascend {
-        measures_found(cells, key)
+        found_by_search(cells, key)
     } else {
-        measures_at(cells, key)
+        found_by_walk(cells, key)
     }
 }
 
 // The measures of the cell at `key` among ascending cells, or `None` where there is none.
-fn measures_found<'a>(cells: &'a [(Key, Key)], key: &[Value]) -> Option<&'a Key>
+fn found_by_search<'a>(cells: &'a [(Key, Key)], key: &[Value]) -> Option<&'a Key>
     requires { CellsAscend cells.now }
     ensures { option_copied result ≡ cell_at cells.now key.now }
 {
@@ -38,7 +38,7 @@ fn measures_found<'a>(cells: &'a [(Key, Key)], key: &[Value]) -> Option<&'a Key>
 }
 
 // The measures of the first cell at `key`, or `None` where there is none, in whatever order the cells stand.
-fn measures_at<'a>(cells: &'a [(Key, Key)], key: &[Value]) -> Option<&'a Key>
+fn found_by_walk<'a>(cells: &'a [(Key, Key)], key: &[Value]) -> Option<&'a Key>
     ensures { option_copied result ≡ cell_at cells.now key.now }
 {
     for (own, measures) in cells {
