@@ -15,9 +15,7 @@ use std::io::{self, Write};
 
 fn main(rt: HostRuntime) -> io::Result<()> {
     let mut out = io::writer(&rt);
-    let Ok(mut scene) = scene::Scene::new(rt.alloc()) else {
-        return Err(AllocError.into());
-    };
+    let mut scene = scene::Scene::new(rt.alloc());
     for line in rt.lines(rt.alloc()) {
         let Ok(mut row) = rows::answered(rt.alloc(), &mut scene, line?.as_str()) else {
             return Err(AllocError.into());

@@ -2,7 +2,6 @@
 
 use crate::scene::Scene;
 use crate::shows::{add_cells, add_fault, add_input};
-use mq_cells::PlainCells;
 use mq_ir::{Expr, FromPart, ItemPart, ModelPart, PlainPart, RefPart};
 use mq_notation::answers::add;
 use mq_notation::lists::expressions;
@@ -36,11 +35,12 @@ pub(crate) fn add_partitions(
     Ok(())
 }
 
-/// A store of the cells of the one partition of the rows: the kinds of its dimensions.
+/// Takes the cells of the one partition of the rows as those of the store: the kinds of its dimensions.
 pub(crate) fn set_store(alloc: Global, scene: &mut Scene, text: &str) -> Read<()> {
     let part = model(alloc, 0, kinds(alloc, text)?)?;
-    for input in partitions(alloc, part.get(), &scene.base)?.as_slice() {
-        scene.cells = PlainCells::new(alloc, input)?;
+    if let Some(input) = partitions(alloc, part.get(), &scene.base)?.into_vec().pop() {
+        scene.input = input;
+        scene.changes = Vec::new(alloc);
     }
     Ok(())
 }

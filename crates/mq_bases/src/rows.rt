@@ -55,7 +55,7 @@ fn add_answer(
         "get" => stores::add_got(alloc, scene, text, answer),
         "assigned" => stores::set_assigned(alloc, scene, text),
         "looked" => stores::add_looked(alloc, text, answer),
-        "first-fault" => stores::add_first_fault(scene, answer),
+        "first-fault" => stores::add_first_fault(alloc, scene, answer),
         _ => no_tree(),
     }
 }

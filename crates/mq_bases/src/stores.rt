@@ -1,6 +1,6 @@
 //! What is asked of a store alone.
 
-use crate::scene::Scene;
+use crate::scene::{Change, Scene};
 use crate::shows::add_slot;
 use mq_cells::{Cells, LookCells};
 use mq_ir::Slot;
@@ -25,8 +25,8 @@ pub(crate) fn put(alloc: Global, scene: &mut Scene, text: &str) -> Read<()> {
         return no_tree();
     };
     let (measure, key) = name(alloc, place)?;
-    let slot = slot(alloc, word)?;
-    Ok(scene.cells.put(&key, measure, slot)?)
+    let slot = Some(slot(alloc, word)?);
+    Ok(scene.changes.push(Change { key, measure, slot })?)
 }
 
 fn slot(alloc: Global, word: &str) -> Read<Slot> {
@@ -41,19 +41,15 @@ fn slot(alloc: Global, word: &str) -> Read<Slot> {
 
 pub(crate) fn clear(alloc: Global, scene: &mut Scene, text: &str) -> Read<()> {
     let (measure, key) = name(alloc, text)?;
-    scene.cells.clear(&key, measure);
-    Ok(())
+    let slot = None;
+    Ok(scene.changes.push(Change { key, measure, slot })?)
 }
 
-pub(crate) fn add_got(
-    alloc: Global,
-    scene: &mut Scene,
-    text: &str,
-    answer: &mut Vec<u8>,
-) -> Read<()> {
+pub(crate) fn add_got(alloc: Global, scene: &Scene, text: &str, answer: &mut Vec<u8>) -> Read<()> {
     let (measure, key) = name(alloc, text)?;
     add("\t", answer)?;
-    Ok(add_slot(&scene.cells.get(alloc, &key, measure)?, answer)?)
+    let slot = scene.store(alloc)?.get(alloc, &key, measure)?;
+    Ok(add_slot(&slot, answer)?)
 }
 
 /// Assignments with semicolons between them: rule, measure and key.
@@ -71,12 +67,12 @@ pub(crate) fn set_assigned(alloc: Global, scene: &mut Scene, text: &str) -> Read
 }
 
 /// The number of the first fault.
-pub(crate) fn add_first_fault(scene: &Scene, answer: &mut Vec<u8>) -> Read<()> {
+pub(crate) fn add_first_fault(alloc: Global, scene: &Scene, answer: &mut Vec<u8>) -> Read<()> {
     add("\t", answer)?;
     if u32::try_from(scene.shape.assigned.len()).is_err() {
         return no_tree();
     }
-    match scene.cells.first_fault(&scene.shape) {
+    match scene.store(alloc)?.first_fault(&scene.shape) {
         Some(number) => Ok(add_number(number as u64, answer)?),
         None => Ok(add("none", answer)?),
     }

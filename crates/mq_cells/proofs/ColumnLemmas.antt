@@ -1,12 +1,18 @@
--- What stands in columns after one of them changed, or an empty one came.
-use Rattle.std.proofs.Common.{◌≡◌, ℕ, zero, suc, ◌<◌, ◌==◌, ◌&&◌, Bool, true, false, List, [], ◌∷◌, ◌++◌, length, Option, Some, if◌then◌else◌, slice_get, slice_set, refl, sym, ap, ◌∙◌, arith}
+-- What stands in a column after one tuple was put or taken away, and in columns after one of them changed, or an empty one came.
+use Rattle.std.proofs.Common.{◌≡◌, ℕ, zero, suc, ◌<◌, ◌==◌, ◌&&◌, Bool, true, false, List, [], ◌∷◌, ◌++◌, length, Option, Some, cond, if◌then◌else◌, slice_get, slice_set, refl, sym, ap, subst, ◌∙◌, arith}
 use Rattle.std.specs.Cmp.{unsigned_Decides}
+use Rattle.std.specs.Map.{lookup}
 use Rattle.std.specs.Option.{option_and_then}
-use Rattle.mq_ir.specs.declared.query.CellName.{CellName}
 use Rattle.mq_ir.specs.declared.query.Slot.{Slot}
 use Rattle.mq_ir.specs.Keys.{Tuple, is_same}
 use Rattle.mq_cells.specs.Columns.{ChangesAt, Column, results_in, found_in}
 use Rattle.mq_cells.specs.Stores.{DiffersAt, cell_name}
+
+-- the map after differs from the one before at this key alone
+pub changed : {X : Type 0} (key : Tuple) (x : Option X) (inside before after : List (Tuple × X)) → inside ≡ before
+    → ((q : Tuple) → lookup (is_same q) after ≡ cond (is_same key q) x (lookup (is_same q) inside))
+    → ChangesAt before after key x
+changed {X} key x inside before after seen h = subst (λ (b : List (Tuple × X)). ChangesAt b after key x) seen h
 
 get_other : {X : Type 0} (xs : List X) (i j : ℕ) (a : X) → (i ≡ j → ⊥) → slice_get (slice_set xs i a) j ≡ slice_get xs j
 get_other [] i j a n = refl

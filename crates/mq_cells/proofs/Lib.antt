@@ -2,4 +2,5 @@ pub mod ColumnLemmas
 pub mod FaultLemmas
 pub mod LookedLemmas
 pub mod PlaceLemmas
-pub mod TieLemmas
+pub mod SearchLemmas
+pub mod WholeLemmas

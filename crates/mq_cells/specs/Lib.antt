@@ -1,3 +1,5 @@
+pub mod AscentLaws
+pub mod Ascents
 pub mod Columns
 pub mod Faults
 pub mod Looked

@@ -1,6 +1,6 @@
 //! What every store of cells does.
-ghost use Rattle.std.specs.Prelude.{◌≡◌, ◌≤◌, ℕ, Option, Some, None, length, IfOk, OnOk, OnErr};
-ghost use Rattle.mq_cells.specs.Stores.{CellInput, Results, DiffersAt, cell_name, counted, first_faulted, slot_at};
+ghost use Rattle.std.specs.Prelude.{◌≡◌, ◌≤◌, ℕ, Option, Some, None, length, IfOk, IfSome, OnOk, OnErr};
+ghost use Rattle.mq_cells.specs.Stores.{CellInput, IsWhole, Results, DiffersAt, cell_name, counted, first_faulted, slot_at};
 ghost use Rattle.mq_cells.specs.declared.bounds.TheConstants.{MAX_ASSIGNMENTS};
 
 use mq_ir::{PartShape, Slot};
@@ -28,6 +28,11 @@ pub trait Cells {
         ensures later { looks self.old ≤ looks self.new }
         ensures same_input { input self.new ≡ input self.old }
         ensures same_results { results self.new ≡ results self.old };
+
+    /// The values that stand at all `count` measures of the cell at `key`, as a tuple that is there already. `None` says
+    /// nothing: a store answers it wherever it has no such tuple at hand. Nothing is read, and no memory is taken.
+    fn whole(&self, key: &Key, count: u32) -> Option<&Key>
+        ensures { IfSome result (λ measures. IsWhole (input self.now) (results self.now) key.now count measures.now) };
 
     /// Puts `s` at measure `m` of the cell at `key`, in place of what stands there. After `Memory` nothing is changed.
     fn put(&mut self, key: &Key, m: u32, s: Slot) -> Result<(), Memory>

@@ -6,13 +6,13 @@ ghost use Rattle.mq_cells.specs.Columns.{ChangesAt, found_in};
 use mq_ir::Slot;
 use mq_values::{Key, Memory};
 use std::alloc::Global;
-use std::collections::HashMap;
+use std::collections::BTreeMap;
 use std::marker::Model;
 
 /// What stands at one measure of cells. Contracts see it as a list of dimension tuples, each with its slot.
 #[derive(Drop)]
 pub struct Column {
-    slots: HashMap<Key, Slot>,
+    slots: BTreeMap<Key, Slot>,
 }
 
 impl Model for Column {
@@ -31,7 +31,7 @@ impl Column {
         ensures { result ≡ [] }
     {
         Column {
-            slots: HashMap::new(alloc),
+            slots: BTreeMap::new(alloc),
         }
     }
 

@@ -1,51 +1,50 @@
 //! The cells of a partition's input.
-ghost use Rattle.std.specs.Prelude.{◌≡◌, Some, IfOk, OnOk};
+ghost use Rattle.std.specs.Prelude.{◌≡◌, IfOk};
 ghost use Rattle.std.specs.Option.{option_copied};
 ghost use Rattle.mq_ir.specs.Partitions.{cell_at};
-ghost use Rattle.mq_cells.specs.Columns.{ChangesAt};
 ghost use Rattle.mq_cells.specs.Stores.{cell_name, input_value};
 
+use crate::search::{cells_ascend, find_measures};
 use mq_values::{Key, Memory, Value};
-use std::alloc::Global;
-use std::collections::HashMap;
 use std::marker::Model;
 
-/// The measures of cells, to be found by their dimension tuples. Contracts see them as a list of tuples, each with its
-/// measures.
+/// Cells that are lent, to be found by their dimension tuples, and whether they ascend by these. Contracts see them as the
+/// list of the cells. Those of a partition whose rules run ascend, so each is found by a search; cells in no order, which
+/// have no rules run over them, are gone through one by one.
 #[derive(Drop)]
-pub struct InputCells {
-    measures: HashMap<Key, Key>,
+pub struct InputCells<'a> {
+    cells: &'a [(Key, Key)],
+    ascend: bool,
 }
 
-impl Model for InputCells {
-    ghost use Rattle.std.specs.Prelude.{List};
-    ghost use Rattle.mq_values.specs.declared.value.Value.{Value as CellValue};
+impl<'a> Model for InputCells<'a> {
+    ghost use Rattle.std.specs.Prelude.{◌≡◌, true};
+    ghost use Rattle.mq_ir.specs.Partitions.{Cells};
+    ghost use Rattle.mq_cells.specs.Ascents.{CellsAscend};
 
-    ghost Value = { List (List CellValue × List CellValue) };
+    ghost Value = { Cells };
 
-    ghost view = { λ input. input.measures.entries };
+    ghost view = { λ input. input.cells.now };
+
+    ghost invariant = { λ input. input.ascend ≡ true → CellsAscend input.cells.now };
 }
 
-impl InputCells {
-    /// These cells. Of several at one tuple the first is the one that is found.
-    pub fn new(alloc: Global, cells: &[(Key, Key)]) -> Result<InputCells, Memory>
-        ensures { IfOk result (λ input. cell_at input ≡ cell_at cells.now) }
+impl<'a> InputCells<'a> {
+    /// These cells. Of several at one tuple the first is the one that is found. It takes no memory.
+    pub fn new(cells: &'a [(Key, Key)]) -> InputCells<'a>
+        ensures { result ≡ cells.now }
     {
-        let mut measures = HashMap::with_capacity(alloc, cells.len())?;
-        // From the last to the first, so that the first stays.
-        let mut at = cells.len();
-        'filling: while at > 0 {
-            at -= 1;
-            put_cell(&mut measures, &cells[at])?;
+        InputCells {
+            cells,
+            ascend: cells_ascend(cells),
         }
-        Ok(InputCells { measures })
     }
 
-    // The measures of the cell at `key`, or `None` where there is no such cell.
-    fn get(&self, key: &Key) -> Option<&Key>
+    /// The measures of the first cell at `key`, or `None` where there is no such cell.
+    pub fn get(&self, key: &Key) -> Option<&'a Key>
         ensures { option_copied result ≡ cell_at self.now key.now }
     {
-        self.measures.get(key)
+        find_measures(self.cells, self.ascend, key.as_slice())
     }
 
     /// Measure `m` of the cell at `key`, or null where there is none.
@@ -60,14 +59,4 @@ impl InputCells {
             None => Ok(Value::Null),
         }
     }
-}
-
-// Puts `cell` over those that are there.
-fn put_cell(measures: &mut HashMap<Key, Key>, cell: &(Key, Key)) -> Result<(), Memory>
-    ensures { OnOk result (ChangesAt measures.old.entries measures.new.entries cell.now.0 (Some cell.now.1)) }
-{
-    let key = cell.0.copy()?;
-    let values = cell.1.copy()?;
-    measures.insert(key, values)?;
-    Ok(())
 }

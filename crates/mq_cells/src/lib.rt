@@ -12,6 +12,7 @@ mod held;
 mod input;
 mod looked;
 mod plain;
+mod search;
 mod slots;
 
 pub use bounds::{MAX_ASSIGNMENTS, MAX_LOOKS};
@@ -21,4 +22,5 @@ pub use faults::least_fault;
 pub use held::Held;
 pub use looked::LookCells;
 pub use plain::PlainCells;
+pub use search::{cells_ascend, find_measures};
 pub use slots::copy_slot;

@@ -66,6 +66,10 @@ impl Cells for LookCells {
         }
     }
 
+    fn whole(&self, _key: &Key, _count: u32) -> Option<&Key> {
+        None
+    }
+
     fn put(&mut self, key: &Key, m: u32, s: Slot) -> Result<(), Memory> {
         let key = key.copy()?;
         put_among(&mut self.results, CellName { key, measure: m }, s)

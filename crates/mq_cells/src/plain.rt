@@ -14,16 +14,16 @@ use mq_values::{Key, Memory};
 use std::alloc::Global;
 use std::marker::Model;
 
-/// The cells of a partition: its input, and the results that were put. Contracts see it as its cells, the columns of its
-/// results and its looks (docs/MEANING.md, "Stores of cells").
+/// The cells of a partition: its input, which is lent, and the results that were put. Contracts see it as its cells, the
+/// columns of its results and its looks (docs/MEANING.md, "Stores of cells").
 #[derive(Drop)]
-pub struct PlainCells {
-    input: InputCells,
+pub struct PlainCells<'a> {
+    input: InputCells<'a>,
     results: Columns,
     looks: u64,
 }
 
-impl Model for PlainCells {
+impl<'a> Model for PlainCells<'a> {
     ghost use Rattle.mq_cells.specs.Columns.{Store};
 
     ghost Value = { Store };
@@ -31,22 +31,22 @@ impl Model for PlainCells {
     ghost view = { λ s. record { cells = s.input; columns = s.results; looks = s.looks } };
 }
 
-impl PlainCells {
+impl<'a> PlainCells<'a> {
     /// The cells of `p`, of which the first counts where several stand at one tuple, and no results.
-    pub fn new(alloc: Global, p: &PartInput) -> Result<PlainCells, Memory>
+    pub fn new(alloc: Global, p: &'a PartInput) -> Result<PlainCells<'a>, Memory>
         ensures input { IfOk result (λ s. cell_at s.cells ≡ cell_at p.now.cells) }
         ensures results { IfOk result (λ s. results_in s.columns ≡ no_results) }
         ensures looks { IfOk result (λ s. s.looks ≡ 0) }
     {
         Ok(PlainCells {
-            input: InputCells::new(alloc, p.cells.as_slice())?,
+            input: InputCells::new(p.cells.as_slice()),
             results: Columns::new(alloc),
             looks: 0,
         })
     }
 }
 
-impl Cells for PlainCells {
+impl Cells for PlainCells<'_> {
     ghost input = { λ s. cell_at s.cells };
 
     ghost results = { λ s. results_in s.columns };
@@ -58,6 +58,17 @@ impl Cells for PlainCells {
         match self.results.result(key, m) {
             Some(slot) => copy_slot(slot),
             None => Ok(Slot::Done(self.input.value(key, m)?)),
+        }
+    }
+
+    fn whole(&self, key: &Key, count: u32) -> Option<&Key> {
+        let Some(measures) = self.input.get(key) else {
+            return None;
+        };
+        if measures.as_slice().len() == count as usize && !self.results.has(key) {
+            Some(measures)
+        } else {
+            None
         }
     }
 

@@ -19,7 +19,7 @@ use Rattle.mq_values.specs.declared.value.Value.TheVariants as value
 use Rattle.mq_ir.specs.Keys.{Tuple}
 use Rattle.mq_ir.specs.Targets.{meets_every}
 use Rattle.mq_refs.specs.Runs.{IsBound, Misses, cmp_by_worth, cmp_first, first_has_value, has_value}
-use Rattle.mq_refs.proofs.OrderLemmas.{less_is}
+use Rattle.mq_cells.specs.AscentLaws.{less_is}
 use Rattle.mq_refs.proofs.PlainLemmas.{one_factor}
 
 -- a value at the largest scale

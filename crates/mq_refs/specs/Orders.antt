@@ -8,16 +8,13 @@ use Rattle.mq_values.specs.Order.{cmp_key}
 use Rattle.mq_ir.specs.declared.query.Model.{Model as Lent}
 use Rattle.mq_ir.specs.declared.query.PartShape.{PartShape}
 use Rattle.mq_ir.specs.declared.query.RefArray.{RefArray}
-use Rattle.mq_ir.specs.Partitions.{Cells, Tuple}
+use Rattle.mq_ir.specs.Partitions.{Tuple}
+pub use Rattle.mq_cells.specs.Ascents.{CellsAscend}
 use Rattle.mq_refs.specs.declared.order.InOrder.{InOrder}
 
 -- keys that ascend, each once
 abbrev pub KeysAscend : List Tuple → Type 0
 KeysAscend keys = IsStrictlySortedBy cmp_key keys
-
--- cells that ascend by their keys, each once
-abbrev pub CellsAscend : Cells → Type 0
-CellsAscend cells = IsStrictlySortedBy (on (λ (cell : Tuple × Tuple). cell.0) cmp_key) cells
 
 -- arrays whose cells do
 abbrev pub ArraysAscend : List RefArray → Type 0

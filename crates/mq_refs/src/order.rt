@@ -1,7 +1,8 @@
 //! What is known of the order of keys.
 ghost use Rattle.std.specs.Prelude.{◌↔◌, IsTrue};
-ghost use Rattle.mq_refs.specs.Orders.{ArraysAscend, CellsAscend, KeysAscend};
+ghost use Rattle.mq_refs.specs.Orders.{ArraysAscend, KeysAscend};
 
+use mq_cells::cells_ascend;
 use mq_ir::RefArray;
 use mq_values::Key;
 
@@ -38,11 +39,4 @@ pub fn arrays_ascend(arrays: &[RefArray]) -> bool
         }
     }
     true
-}
-
-// Whether these cells ascend by their keys, each once.
-fn cells_ascend(cells: &[(Key, Key)]) -> bool
-    ensures { IsTrue result ↔ CellsAscend cells.now }
-{
-    cells.is_sorted_by(|a, b| a.0.as_slice().cmp(b.0.as_slice()).is_lt())
 }

@@ -1,10 +1,8 @@
 //! Cells of reference models.
 ghost use Rattle.std.specs.Prelude.{◌≡◌, true, [], take, drop, slice_index_or, IfOk};
-ghost use Rattle.std.specs.Option.{option_copied};
 ghost use Rattle.mq_values.specs.Answers.{Gives};
 ghost use Rattle.mq_values.specs.declared.value.Kind.TheVariants.{Int};
 ghost use Rattle.mq_values.specs.declared.value.Value.TheVariants.{Null};
-ghost use Rattle.mq_ir.specs.Partitions.{cell_at};
 ghost use Rattle.mq_ir.specs.Reads as spec;
 ghost use Rattle.mq_ir.specs.Unfolding.{model_of};
 ghost use Rattle.mq_cells.specs.Stores.{cell_name};
@@ -14,6 +12,7 @@ ghost use Rattle.mq_refs.specs.Sites.{site_of};
 use crate::names::cell_named;
 use crate::order::InOrder;
 use crate::standpoint::Standpoint;
+use mq_cells::find_measures;
 use mq_ir::{Expr, Model, RefPart};
 use mq_reads::nav;
 use mq_values::{Fail, Key, Kind, Memory, Value, ValueFault};
@@ -109,7 +108,7 @@ fn measure_at(
     requires { ascend ≡ true → CellsAscend cells.now }
     ensures { IfOk result (λ v. v ≡ spec.measure_at cells.now (cell_name key.now measure)) }
 {
-    match measures_in(cells, ascend, key) {
+    match find_measures(cells, ascend, key) {
         Some(measures) => value_in(measures.as_slice(), measure),
         None => Ok(Value::Null),
     }
@@ -123,39 +122,4 @@ fn value_in(measures: &[Value], measure: u32) -> Result<Value, Memory>
         Some(v) => v.copy(),
         None => Ok(Value::Null),
     }
-}
-
-// The measures of the first cell at `key`, or `None` where there is none. The cells ascend where `ascend` says so.
-fn measures_in<'a>(cells: &'a [(Key, Key)], ascend: bool, key: &[Value]) -> Option<&'a Key>
-    requires { ascend ≡ true → CellsAscend cells.now }
-    ensures { option_copied result ≡ cell_at cells.now key.now }
-{
-    if ascend {
-        measures_found(cells, key)
-    } else {
-        measures_at(cells, key)
-    }
-}
-
-// The measures of the cell at `key` among ascending cells, or `None` where there is none.
-fn measures_found<'a>(cells: &'a [(Key, Key)], key: &[Value]) -> Option<&'a Key>
-    requires { CellsAscend cells.now }
-    ensures { option_copied result ≡ cell_at cells.now key.now }
-{
-    match cells.binary_search_by(|cell| cell.0.as_slice().cmp(key)) {
-        Ok(at) => Some(&cells[at].1),
-        Err(_) => None,
-    }
-}
-
-// The measures of the first cell at `key`, or `None` where there is none, in whatever order the cells stand.
-fn measures_at<'a>(cells: &'a [(Key, Key)], key: &[Value]) -> Option<&'a Key>
-    ensures { option_copied result ≡ cell_at cells.now key.now }
-{
-    for (own, measures) in cells {
-        if key.cmp(own.as_slice()).is_eq() {
-            return Some(measures);
-        }
-    }
-    None
 }

@@ -51,7 +51,7 @@ fn add_answer(
 fn changed(alloc: Global, scene: &mut Scene, asked: &str, text: &str) -> Read<()> {
     match asked {
         "restart" => {
-            *scene = Scene::new(alloc)?;
+            *scene = Scene::new(alloc);
             Ok(())
         }
         "dims" => scene.set_dims(alloc, text),
@@ -62,10 +62,7 @@ fn changed(alloc: Global, scene: &mut Scene, asked: &str, text: &str) -> Read<()
         }
         "keys" => scene.set_keys(alloc, text),
         "cells" => scene.set_cells(alloc, text),
-        "input" => {
-            scene.input.push(cell(alloc, text)?)?;
-            Ok(scene.restore(alloc)?)
-        }
+        "input" => Ok(scene.add_input(alloc, cell(alloc, text)?)?),
         "put" => stores::put(alloc, scene, text),
         "clear" => stores::clear(alloc, scene, text),
         _ => referred(alloc, scene, asked, text),
@@ -101,7 +98,7 @@ fn parts(text: &str) -> Read<(&str, &str, &str, &str)> {
     Ok((measure, target, turn, right))
 }
 
-fn add_evaluated(alloc: Global, scene: &mut Scene, text: &str, answer: &mut Vec<u8>) -> Read<()> {
+fn add_evaluated(alloc: Global, scene: &Scene, text: &str, answer: &mut Vec<u8>) -> Read<()> {
     let (measure, target, turn, right) = parts(text)?;
     let rule = rule(alloc, number_of(measure)?, right)?;
     let part = model(alloc, scene)?;
@@ -120,7 +117,7 @@ fn add_evaluated(alloc: Global, scene: &mut Scene, text: &str, answer: &mut Vec<
         &target,
         turn,
         &scene.shape,
-        &mut scene.cells,
+        &mut scene.store(alloc)?,
     )?;
     add("\t", answer)?;
     Ok(add_slot(&slot, answer)?)
@@ -129,7 +126,7 @@ fn add_evaluated(alloc: Global, scene: &mut Scene, text: &str, answer: &mut Vec<
 // The same by the call that takes what is in order.
 fn add_evaluated_in_order(
     alloc: Global,
-    scene: &mut Scene,
+    scene: &Scene,
     text: &str,
     answer: &mut Vec<u8>,
 ) -> Read<()> {
@@ -157,7 +154,7 @@ fn add_evaluated_in_order(
         turn,
         &scene.shape,
         order,
-        &mut scene.cells,
+        &mut scene.store(alloc)?,
     )?;
     add("\t", answer)?;
     Ok(add_slot(&slot, answer)?)

@@ -1,8 +1,8 @@
 //! What right sides stand over: kinds, NAV, references, the cells of a partition, and a store of them.
 
 use crate::models::Reference;
-use mq_cells::PlainCells;
-use mq_ir::{PartInput, PartShape};
+use mq_cells::{Cells, PlainCells, copy_slot};
+use mq_ir::{PartInput, PartShape, Slot};
 use mq_notation::lists::keys;
 use mq_notation::literals::kind;
 use mq_notation::notation::Read;
@@ -15,22 +15,34 @@ pub(crate) struct Scene {
     pub measures: Items<Kind>,
     pub ignore_nav: bool,
     pub references: Vec<Reference>,
-    pub input: Items<(Key, Key)>,
+    pub input: PartInput,
     pub shape: PartShape,
-    pub cells: PlainCells,
+    pub changes: Vec<Change>,
+}
+
+/// What was put at a measure of a cell, or nothing, where it was taken away.
+#[derive(Drop)]
+pub(crate) struct Change {
+    pub key: Key,
+    pub measure: u32,
+    pub slot: Option<Slot>,
 }
 
 impl Scene {
-    pub fn new(alloc: Global) -> Result<Scene, Memory> {
-        Ok(Scene {
+    pub fn new(alloc: Global) -> Scene {
+        Scene {
             dims: Items::new(alloc),
             measures: Items::new(alloc),
             ignore_nav: false,
             references: Vec::new(alloc),
-            input: Items::new(alloc),
+            input: PartInput {
+                key: Key::empty(),
+                cells: Items::new(alloc),
+                repeated: None,
+            },
             shape: no_shape(alloc),
-            cells: store(alloc, Items::new(alloc))?,
-        })
+            changes: Vec::new(alloc),
+        }
     }
 
     pub fn set_dims(&mut self, alloc: Global, text: &str) -> Read<()> {
@@ -56,14 +68,22 @@ impl Scene {
         Ok(())
     }
 
-    /// A store of the input's cells, without a result.
-    pub fn restore(&mut self, alloc: Global) -> Result<(), Memory> {
-        let mut cells = Items::new(alloc);
-        for cell in self.input.as_slice() {
-            cells.push((cell.0.copy()?, cell.1.copy()?))?;
+    /// Takes one cell more into the input, and forgets what was put.
+    pub fn add_input(&mut self, alloc: Global, cell: (Key, Key)) -> Result<(), Memory> {
+        self.changes = Vec::new(alloc);
+        self.input.cells.push(cell)
+    }
+
+    /// A store of the input's cells, in which all was put and taken away that the rows so far say.
+    pub fn store(&self, alloc: Global) -> Result<PlainCells<'_>, Memory> {
+        let mut cells = PlainCells::new(alloc, &self.input)?;
+        for change in &self.changes {
+            match &change.slot {
+                Some(slot) => cells.put(&change.key, change.measure, copy_slot(slot)?)?,
+                None => cells.clear(&change.key, change.measure),
+            }
         }
-        self.cells = store(alloc, cells)?;
-        Ok(())
+        Ok(cells)
     }
 }
 
@@ -82,13 +102,4 @@ fn no_shape(alloc: Global) -> PartShape {
         cells: Items::new(alloc),
         assigned: Items::new(alloc),
     }
-}
-
-fn store(alloc: Global, cells: Items<(Key, Key)>) -> Result<PlainCells, Memory> {
-    let input = PartInput {
-        key: Key::empty(),
-        cells,
-        repeated: None,
-    };
-    PlainCells::new(alloc, &input)
 }

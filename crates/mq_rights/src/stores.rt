@@ -1,7 +1,6 @@
 //! What is put into the store, and taken away.
 
-use crate::scene::Scene;
-use mq_cells::Cells;
+use crate::scene::{Change, Scene};
 use mq_ir::Slot;
 use mq_notation::lists::key;
 use mq_notation::literals::{fault, number_of, value};
@@ -23,8 +22,8 @@ pub(crate) fn put(alloc: Global, scene: &mut Scene, text: &str) -> Read<()> {
         return no_tree();
     };
     let (measure, key) = name(alloc, place)?;
-    let slot = slot(alloc, word)?;
-    Ok(scene.cells.put(&key, measure, slot)?)
+    let slot = Some(slot(alloc, word)?);
+    Ok(scene.changes.push(Change { key, measure, slot })?)
 }
 
 fn slot(alloc: Global, word: &str) -> Read<Slot> {
@@ -39,6 +38,6 @@ fn slot(alloc: Global, word: &str) -> Read<Slot> {
 
 pub(crate) fn clear(alloc: Global, scene: &mut Scene, text: &str) -> Read<()> {
     let (measure, key) = name(alloc, text)?;
-    scene.cells.clear(&key, measure);
-    Ok(())
+    let slot = None;
+    Ok(scene.changes.push(Change { key, measure, slot })?)
 }

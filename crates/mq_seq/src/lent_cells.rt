@@ -56,6 +56,10 @@ impl Cells for LentCells<'_> {
         }
     }
 
+    fn whole(&self, _key: &Key, _count: u32) -> Option<&Key> {
+        None
+    }
+
     fn put(&mut self, key: &Key, m: u32, s: Slot) -> Result<(), Memory> {
         self.results.put(key.copy()?, m, s)
     }

@@ -2,7 +2,7 @@ use Rattle.std.proofs.Common.{rules, of_calls}
 use Rattle.std.specs.Ordering.{is_lt}
 use Rattle.std.proofs.lemmas.Fn.{always_returns_same}
 use Rattle.mq_values.specs.Order.{cmp_key}
-use Rattle.mq_refs.proofs.OrderLemmas.{told_ascending}
+use Rattle.mq_cells.specs.AscentLaws.{told_ascending}
 use Rattle.mq_refs.proofs.order.keys_ascend.Goals as goal
 
 pub returns : goal.returns

@@ -1,5 +1,5 @@
 use Rattle.std.proofs.Common.{None}
-use Rattle.mq_cells.proofs.TieLemmas.{changed}
+use Rattle.mq_cells.proofs.ColumnLemmas.{changed}
 use Rattle.mq_cells.proofs.column.Column.clear.Goals as goal
 
 pub returns : goal.returns

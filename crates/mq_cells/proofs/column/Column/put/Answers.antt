@@ -1,5 +1,5 @@
 use Rattle.std.proofs.Common.{Some}
-use Rattle.mq_cells.proofs.TieLemmas.{changed}
+use Rattle.mq_cells.proofs.ColumnLemmas.{changed}
 use Rattle.mq_cells.proofs.column.Column.put.Goals as goal
 
 pub returns-clause-ok : goal.returns-clause-ok

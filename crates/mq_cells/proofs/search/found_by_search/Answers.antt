@@ -2,8 +2,8 @@ use Rattle.std.proofs.Common.{rules, of_calls}
 use Rattle.std.proofs.lemmas.Fn.{always_returns_same}
 use Rattle.mq_values.specs.Order.{cmp_key}
 use Rattle.mq_ir.specs.Keys.{Tuple}
-use Rattle.mq_refs.proofs.OrderLemmas.{found_cell, missed_cell}
-use Rattle.mq_refs.proofs.references.measures_found.Goals as goal
+use Rattle.mq_cells.proofs.SearchLemmas.{found_cell, missed_cell}
+use Rattle.mq_cells.proofs.search.found_by_search.Goals as goal
 
 pub returns-in-Ok : goal.returns-in-Ok
 returns-in-Ok c =

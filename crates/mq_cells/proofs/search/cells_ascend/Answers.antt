@@ -3,8 +3,8 @@ use Rattle.std.specs.Ordering.{is_lt}
 use Rattle.std.proofs.lemmas.Fn.{always_returns_same}
 use Rattle.mq_values.specs.Order.{cmp_key}
 use Rattle.mq_ir.specs.Keys.{Tuple}
-use Rattle.mq_refs.proofs.OrderLemmas.{told_ascending}
-use Rattle.mq_refs.proofs.order.cells_ascend.Goals as goal
+use Rattle.mq_cells.specs.AscentLaws.{told_ascending}
+use Rattle.mq_cells.proofs.search.cells_ascend.Goals as goal
 
 pub returns : goal.returns
 returns c =
