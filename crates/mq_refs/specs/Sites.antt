@@ -1,5 +1,5 @@
 -- Where a right side stands, and the names that its references give to cells.
-use Rattle.std.specs.Prelude.{ℕ, List, map, Option, Some, None, Result, Ok, Err}
+use Rattle.std.specs.Prelude.{ℕ, List, [], ◌∷◌, map, Option, Some, None, Result, Ok, Err}
 use Rattle.std.specs.List.{zip}
 use Rattle.mq_values.specs.declared.faults.ValueFault.{ValueFault}
 use Rattle.mq_values.specs.declared.operators.DimTest.{DimTest}
@@ -45,3 +45,7 @@ total_of site first terms = ev (inner_leaves site) first >>= (λ v. chained adde
 -- a measure of the single cell that indices name, without NAV
 abbrev pub value_named : Site → Measures → ℕ → List Expr → Outcome
 value_named site now m indices = cell_named site site.model.part.dims indices >>= (λ key. Ok (now (record { key = key; measure = m })))
+
+-- the same, where there is one dimension, of this kind, and one index
+abbrev pub value_by_one : Site → Measures → ℕ → Kind → Expr → Outcome
+value_by_one site now m kind index = index_named site (kind, index) >>= (λ v. Ok (now (record { key = v ∷ []; measure = m })))

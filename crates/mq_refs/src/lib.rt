@@ -18,6 +18,7 @@ mod sights;
 mod standpoint;
 mod targets;
 mod walk;
+mod worths;
 
 pub use inside::inner_leaf;
 pub use looks::{looks_in, looks_of};
@@ -26,4 +27,5 @@ pub use order::{InOrder, UNKNOWN_ORDER, arrays_ascend, keys_ascend};
 pub use reading::{flag, is_there};
 pub use references::{kind_in, reference_cell};
 pub use standpoint::Standpoint;
-pub use targets::{eval_cell, eval_cell_in};
+pub use targets::{eval_cell, eval_cell_in, right_value_over};
+pub use worths::Worths;

@@ -32,7 +32,8 @@ pub fn cell_named(
     Ok(values)
 }
 
-fn index_named(
+/// The value that an index names, converted to its dimension's kind, or its fault.
+pub fn index_named(
     alloc: Global,
     at: &Standpoint<'_>,
     kind: Kind,

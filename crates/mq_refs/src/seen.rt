@@ -10,6 +10,7 @@ ghost use Rattle.mq_refs.specs.declared.sighting.Sighting.{Sighting as OneSighti
 use crate::names::names_at_once;
 use crate::sighting::Sighting;
 use crate::standpoint::Standpoint;
+use crate::worths::Worths;
 use mq_ir::{CellName, Expr};
 use mq_values::{Items, Memory, Value};
 use std::marker::Model;
@@ -42,18 +43,19 @@ impl Seen {
     {
         Seen { sightings, next: 0 }
     }
+}
 
-    /// The value that was seen at a measure of the cell that `indices` name, where the sighting behind the last one's find
-    /// is told at once to be of it. It is for a reference in its turn: its indices were evaluated for its look.
-    pub fn next_value(
+impl Worths for Seen {
+    ghost worth = { value_seen };
+
+    // What the sighting behind the last one's find saw, where it is told at once to be of that measure. It is for a
+    // reference in its turn: its indices were evaluated for its look.
+    fn next_value(
         &mut self,
         at: &Standpoint<'_>,
         measure: u32,
         indices: &[Expr],
-    ) -> Result<Option<Value>, Memory>
-        ensures exact { IfOk result (λ found. IfSome found (λ v. value_named (site_of at.now) (value_seen self.old) measure indices.now ≡ Ok v)) }
-        ensures same { self.new ≡ self.old }
-    {
+    ) -> Result<Option<Value>, Memory> {
         let sightings = self.sightings.as_slice();
         match seen_next(sightings, self.next, at, measure, indices) {
             Some(value) => {
@@ -65,11 +67,8 @@ impl Seen {
         }
     }
 
-    /// The value that was seen at a measure of the cell at `key`, or null.
-    pub fn value(&mut self, key: &[Value], measure: u32) -> Result<Value, Memory>
-        ensures exact { IfOk result (λ v. v ≡ value_seen self.old (cell_name key.now measure)) }
-        ensures same { self.new ≡ self.old }
-    {
+    // What was seen there, or null.
+    fn value(&mut self, key: &[Value], measure: u32) -> Result<Value, Memory> {
         let sightings = self.sightings.as_slice();
         match place_of(sightings, self.next, key, measure) {
             Some(at) => {

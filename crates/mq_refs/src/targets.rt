@@ -20,6 +20,7 @@ use crate::references::kind_in;
 use crate::seen::Seen;
 use crate::sights::seen_at;
 use crate::standpoint::Standpoint;
+use crate::worths::Worths;
 use mq_cells::Cells;
 use mq_ir::{Model, PartShape, Rule, Slot, reads_are_among_looks};
 use mq_scalar::eval;
@@ -85,6 +86,32 @@ pub fn eval_cell_in<C: Cells>(
     }
 }
 
+/// The value that rule `r` assigns to `target` in turn `turn`, over the cells of `s`, where every measure has a value, which
+/// `worths` gives: the value of the right side, converted to the kind of the rule's measure, or its first fault. A measure
+/// is read when the right side comes to it. `order` says which keys are in order, as `eval_cell_in` has it.
+pub fn right_value_over<W: Worths + Drop>(
+    alloc: Global,
+    r: &Rule,
+    m: &Model<'_>,
+    target: &Key,
+    turn: u32,
+    s: &PartShape,
+    order: InOrder,
+    worths: W,
+) -> Result<Value, Fail<ValueFault>>
+    requires { IsInOrder order m.now s.now }
+    ensures { Gives result (spec.right_value (site_in (model_of m.now) s.now turn target.now) s.now.base (W.worth worths) r.now) }
+{
+    let at = Standpoint {
+        model: m,
+        shape: s,
+        target,
+        turn,
+    };
+    let here = OrderedStandpoint { at: &at, order };
+    right_value(alloc, &here, r, worths)
+}
+
 // The value of a right side over what was seen, or its fault.
 fn slot_over(
     alloc: Global,
@@ -102,15 +129,18 @@ fn slot_over(
     }
 }
 
-fn right_value(
+fn right_value<W: Worths + Drop>(
     alloc: Global,
     here: &OrderedStandpoint<'_>,
     r: &Rule,
-    seen: Seen,
+    worths: W,
 ) -> Result<Value, Fail<ValueFault>>
-    ensures { Gives result (spec.right_value (site_of here.now.at.now) here.now.at.now.shape.now.base (sightings.value_seen seen) r.now) }
+    ensures { Gives result (spec.right_value (site_of here.now.at.now) here.now.at.now.shape.now.base (W.worth worths) r.now) }
 {
-    let mut reading = Reading { here: &*here, seen };
+    let mut reading = Reading {
+        here: &*here,
+        worths,
+    };
     let v = eval(alloc, &r.right, &mut reading)?;
     let kind = kind_in(here.at.model.part.measures.as_slice(), r.measure);
     brought(alloc, v, kind)

@@ -4,13 +4,12 @@ use Rattle.mq_values.specs.Aggregate.{aggregate}
 use Rattle.mq_ir.specs.Targets.{meets_every}
 use Rattle.mq_reads.specs.Aggregation.{comes_to}
 use Rattle.mq_cells.specs.Stores.{cell_name}
-use Rattle.mq_refs.specs.Sightings.{value_seen}
 use Rattle.mq_refs.proofs.reading.aggregate_of.Given as goal
 
 abbrev pub invariant-loop-key : goal.invariant-loop-key
-invariant-loop-key l = record {
-  same : l.seen ≡ l.fn.seen;
+invariant-loop-key g l = record {
+  same : g.W.Worths.worth l.worths ≡ g.W.Worths.worth l.fn.worths;
   meant :
-      comes_to l.aggregation (map (λ key. value_seen l.fn.seen (cell_name key l.measure)) (filter (meets_every l.tests) (drop l.key-index l.run)))
-      ≡ aggregate l.fn.agg (map (λ key. value_seen l.fn.seen (cell_name key l.measure)) (filter (meets_every l.tests) l.set));
+      comes_to l.aggregation (map (λ key. g.W.Worths.worth l.fn.worths (cell_name key l.measure)) (filter (meets_every l.tests) (drop l.key-index l.run)))
+      ≡ aggregate l.fn.agg (map (λ key. g.W.Worths.worth l.fn.worths (cell_name key l.measure)) (filter (meets_every l.tests) l.set));
 }

@@ -2,7 +2,7 @@ use Rattle.std.proofs.Common.{rules, ◌≡◌, ap, sym, subst, ◌∙◌}
 use Rattle.mq_cells.specs.Stores.{cell_name}
 use Rattle.mq_refs.specs.Sightings.{AreSteady, value_seen}
 use Rattle.mq_refs.proofs.SightLemmas.{seen_there}
-use Rattle.mq_refs.proofs.seen.Seen.value.Goals as goal
+use Rattle.mq_refs.proofs.seen.SeenWorths.value.Goals as goal
 
 pub returns-in_ok-v-in-Some-clause-exact : goal.returns-in_ok-v-in-Some-clause-exact
 returns-in_ok-v-in-Some-clause-exact c =
