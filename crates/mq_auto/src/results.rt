@@ -57,16 +57,16 @@ fn fault_at<C: Cells>(
         return Err(Memory);
     };
     let slot = cells.get(alloc, &assignment.0, assignment.1)?;
+    let Slot::Faulted(fault) = slot else {
+        // The first fault is a fault.
+        return Err(Memory);
+    };
     let partition = key.copy()?;
     let cell = assignment.0.copy()?;
-    match slot {
-        Slot::Faulted(fault) => Ok(PartResult::Fault(QueryFault {
-            kind: kind_of(fault),
-            rule: assignment.2,
-            partition,
-            cell,
-        })),
-        // The first fault is a fault.
-        _ => Err(Memory),
-    }
+    Ok(PartResult::Fault(QueryFault {
+        kind: kind_of(fault),
+        rule: assignment.2,
+        partition,
+        cell,
+    }))
 }

@@ -47,21 +47,23 @@ fn out_cell<C: Cells>(
     ensures same_input { C.input cells.new ≡ C.input cells.old }
     ensures same_results { C.results cells.new ≡ C.results cells.old }
 {
-    let measures = measures_at(alloc, m.part.measures.len(), key, cells)?;
+    let updated = updated.has(key);
+    let measures = measures_of(alloc, m.part.measures.len(), key, updated, cells)?;
     Ok(OutCell {
         key: key.copy()?,
-        measures: Key::new(alloc, measures)?,
-        updated: updated.has(key),
+        measures,
+        updated,
     })
 }
 
-// The values of so many measures of the cell at `key`.
-fn measures_at<C: Cells>(
+// The tuple of so many measures of the cell at `key`. Where none is assigned, that of the input mostly serves as it is.
+fn measures_of<C: Cells>(
     alloc: Global,
     count: usize,
     key: &Key,
+    is_assigned: bool,
     cells: &mut C,
-) -> Result<Items<Value>, Memory>
+) -> Result<Key, Memory>
     ensures exact { IfOk result (λ values. values
         ≡ map (λ n. spec.done_value (slot_at (C.input cells.old) (C.results cells.old) (cell_name key.now n))) (range_with_len 0 count)) }
     ensures same_input { C.input cells.new ≡ C.input cells.old }
@@ -70,6 +72,41 @@ fn measures_at<C: Cells>(
     let Ok(count) = u32::try_from(count) else {
         return Err(Memory);
     };
+    if !is_assigned {
+        if let Some(measures) = cells.whole(key, count) {
+            let copy = measures.copy()?;
+            return Ok(copy);
+        }
+    }
+    made_of(alloc, count, key, cells)
+}
+
+// A new tuple of so many measures of the cell at `key`.
+fn made_of<C: Cells>(alloc: Global, count: u32, key: &Key, cells: &mut C) -> Result<Key, Memory>
+    ensures exact { IfOk result (λ values. values
+        ≡ map (λ n. spec.done_value (slot_at (C.input cells.old) (C.results cells.old) (cell_name key.now n))) (range_with_len 0 count)) }
+    ensures same_input { C.input cells.new ≡ C.input cells.old }
+    ensures same_results { C.results cells.new ≡ C.results cells.old }
+{
+    if count == 1 {
+        let slot = cells.get(alloc, key, 0)?;
+        return Key::one(alloc, done_value(slot));
+    }
+    Key::new(alloc, measures_at(alloc, count, key, cells)?)
+}
+
+// The values of so many measures of the cell at `key`.
+fn measures_at<C: Cells>(
+    alloc: Global,
+    count: u32,
+    key: &Key,
+    cells: &mut C,
+) -> Result<Items<Value>, Memory>
+    ensures exact { IfOk result (λ values. values
+        ≡ map (λ n. spec.done_value (slot_at (C.input cells.old) (C.results cells.old) (cell_name key.now n))) (range_with_len 0 count)) }
+    ensures same_input { C.input cells.new ≡ C.input cells.old }
+    ensures same_results { C.results cells.new ≡ C.results cells.old }
+{
     let mut values = Items::with_room(alloc, count as usize);
     'measures: for measure in 0..count {
         let slot = cells.get(alloc, key, measure)?;

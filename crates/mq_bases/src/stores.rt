@@ -5,7 +5,7 @@ use crate::shows::add_slot;
 use mq_cells::{Cells, LookCells};
 use mq_ir::Slot;
 use mq_notation::answers::{add, add_number};
-use mq_notation::lists::key;
+use mq_notation::lists::{add_values, key};
 use mq_notation::literals::{fault, number_of, value};
 use mq_notation::notation::{Read, no_tree};
 use mq_values::{Items, Key};
@@ -50,6 +50,21 @@ pub(crate) fn add_got(alloc: Global, scene: &Scene, text: &str, answer: &mut Vec
     add("\t", answer)?;
     let slot = scene.store(alloc)?.get(alloc, &key, measure)?;
     Ok(add_slot(&slot, answer)?)
+}
+
+/// All measures of a cell: how many, and behind a blank the key.
+pub(crate) fn add_whole(
+    alloc: Global,
+    scene: &Scene,
+    text: &str,
+    answer: &mut Vec<u8>,
+) -> Read<()> {
+    let (count, key) = name(alloc, text)?;
+    add("\t", answer)?;
+    match scene.store(alloc)?.whole(&key, count) {
+        Some(measures) => Ok(add_values(measures.as_slice(), answer)?),
+        None => Ok(add("none", answer)?),
+    }
 }
 
 /// Assignments with semicolons between them: rule, measure and key.
