@@ -1,1 +1,2 @@
+mod FixedLemmas
 mod LeftLemmas

@@ -1,6 +1,7 @@
 pub mod Conditions
 pub mod CreatedLaws
 pub mod EachLaws
+pub mod FixedLefts
 pub mod KeySetLaws
 pub mod KeySets
 pub mod Lefts

@@ -3,10 +3,12 @@
 //! They are those of mq_ir's `specs/Unfolding`, and the faults are those of its `specs/Placed`.
 #![tactic(auto)]
 
+mod fixed;
 mod key_set;
 mod left_sides;
 mod placed_fault;
 
+pub use fixed::{Fixed, fixed_left};
 pub use key_set::{KeySet, set_of};
 pub use left_sides::single_lefts;
 pub use placed_fault::{PlacedFault, kind_of};
