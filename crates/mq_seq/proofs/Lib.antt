@@ -1,11 +1,10 @@
 mod GridLemmas
 mod LeftLemmas
-mod LentLemmas
 mod MapLemmas
 mod MeaningLemmas
+mod NearLemmas
 mod NoteLemmas
 mod PlaceLemmas
-mod SlotLemmas
 mod StepLemmas
 mod TurnLemmas
 mod UntilLemmas

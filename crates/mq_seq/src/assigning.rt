@@ -5,16 +5,14 @@ ghost use Rattle.mq_values.specs.Answers.{Gives};
 ghost use Rattle.mq_ir.specs.Reads.{measure_at, right_value};
 ghost use Rattle.mq_ir.specs.Results.{each_in_turn};
 ghost use Rattle.mq_ir.specs.Sequential.{site_of};
-ghost use Rattle.mq_ir.specs.Slots.{slot_of};
 ghost use Rattle.mq_seq.specs.Steps.{act_in, target_done, target_value};
 
 use crate::acting::Acting;
 use crate::grid::Grid;
-use crate::lent_cells::LentCells;
-use mq_ir::Slot;
-use mq_refs::eval_cell_in;
+use crate::lent_values::LentValues;
+use mq_refs::right_value_over;
 use mq_single_lefts::{PlacedFault, kind_of};
-use mq_values::{Fail, Key, Memory, Value};
+use mq_values::{Fail, Key, Value, ValueFault};
 use std::alloc::Global;
 
 /// The cells after a rule has assigned these targets one after another, or the first fault.
@@ -28,22 +26,35 @@ pub fn assign_all(
     ensures width { IfOk result (λ g. g.width ≡ grid.width) }
 {
     let mut grid = grid;
+    let mut near = 0;
     'targets: for target in targets {
-        grid = assign_one(alloc, act, target, grid)?;
+        let at = likely_place(&grid, target, near);
+        grid = assign_one(alloc, act, target, at, grid)?;
+        near = at.saturating_add(1);
     }
     Ok(grid)
+}
+
+// Where a target stands, looked for at `near` first. It tells where its right side is to look for cells first, and nothing
+// that is proved rests on it.
+fn likely_place(grid: &Grid, target: &Key, near: usize) -> usize {
+    match grid.cells().place_near(target.as_slice(), near) {
+        Some(at) => at,
+        None => near,
+    }
 }
 
 fn assign_one(
     alloc: Global,
     act: &Acting<'_>,
     target: &Key,
+    at: usize,
     grid: Grid,
 ) -> Result<Grid, Fail<PlacedFault>>
     ensures exact { Gives result (target_done (act_in act.now) target.now grid) }
     ensures width { IfOk result (λ g. g.width ≡ grid.width) }
 {
-    let v = value_for(alloc, act, target, &grid)?;
+    let v = value_for(alloc, act, target, at, &grid)?;
     Ok(grid.assigned(alloc, target, act.rule.measure, v)?)
 }
 
@@ -52,28 +63,38 @@ fn value_for(
     alloc: Global,
     act: &Acting<'_>,
     target: &Key,
+    at: usize,
     grid: &Grid,
 ) -> Result<Value, Fail<PlacedFault>>
     ensures { Gives result (target_value (act_in act.now grid.now.input) target.now grid.now) }
 {
-    match slot_for(alloc, act, target, grid)? {
-        Slot::Done(v) => Ok(v),
-        Slot::Faulted(fault) => Err(Fail::Cause(PlacedFault::new(
+    match value_over(alloc, act, target, at, grid) {
+        Ok(v) => Ok(v),
+        Err(Fail::Cause(fault)) => Err(Fail::Cause(PlacedFault::new(
             act.number,
             target.copy()?,
             kind_of(fault),
         ))),
-        // All cells that stand have values, so no target is poisoned.
-        Slot::Poisoned => Err(Fail::Memory),
+        Err(Fail::Memory) => Err(Fail::Memory),
     }
 }
 
-fn slot_for(alloc: Global, act: &Acting<'_>, target: &Key, grid: &Grid) -> Result<Slot, Memory>
-    ensures { IfOk result (λ slot. slot ≡ slot_of (right_value (site_of (act_in act.now grid.now.input) (keys_of grid.now.track.cells) target.now)
-        grid.now.input (measure_at grid.now.track.cells) act.now.rule.now)) }
+// The right side of a target. All cells that stand have values, so it is evaluated over them at once.
+fn value_over(
+    alloc: Global,
+    act: &Acting<'_>,
+    target: &Key,
+    at: usize,
+    grid: &Grid,
+) -> Result<Value, Fail<ValueFault>>
+    ensures { Gives result (right_value (site_of (act_in act.now grid.now.input) (keys_of grid.now.track.cells) target.now)
+        grid.now.input (measure_at grid.now.track.cells) act.now.rule.now) }
 {
-    let mut lent = LentCells::new(alloc, grid.cells());
-    eval_cell_in(
+    let lent = LentValues {
+        cells: grid.cells(),
+        near: at,
+    };
+    right_value_over(
         alloc,
         act.rule,
         act.model,
@@ -81,6 +102,6 @@ fn slot_for(alloc: Global, act: &Acting<'_>, target: &Key, grid: &Grid) -> Resul
         act.turn,
         grid.shape(),
         act.order(),
-        &mut lent,
+        lent,
     )
 }

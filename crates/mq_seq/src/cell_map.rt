@@ -1,15 +1,17 @@
 //! The cells of a partition, ascending by their keys.
-ghost use Rattle.std.specs.Prelude.{◌≡◌, false, length, slice_set, IfOk, OnOk, OnErr};
+ghost use Rattle.std.specs.Prelude.{◌≡◌, ◌<◌, false, length, slice_index_or, slice_set, Some, IfOk, OnOk, OnErr};
 ghost use Rattle.std.specs.List.{zip};
 ghost use Rattle.std.specs.List.Sorted.{IsStrictlySortedBy};
 ghost use Rattle.std.specs.Map.{keys_of};
 ghost use Rattle.std.specs.Option.{IsSome, option_copied, option_map_or};
 ghost use Rattle.mq_values.specs.Order.{cmp_key};
-ghost use Rattle.mq_ir.specs.Partitions.{cell_at, with_cell};
+ghost use Rattle.mq_values.specs.declared.value.Value.TheVariants as value;
+ghost use Rattle.mq_ir.specs.Partitions.{Tuple, cell_at, with_cell};
 ghost use Rattle.mq_ir.specs.Reads.{measure_at};
 ghost use Rattle.mq_cells.specs.Stores.{cell_name};
-ghost use Rattle.mq_dim_index.specs.Places.{is_there};
+ghost use Rattle.mq_dim_index.specs.Places.{is_there, place_of};
 
+use crate::near::place_in;
 use mq_dim_index::DimIndex;
 use mq_values::{Items, Key, Memory, Value};
 use std::alloc::Global;
@@ -56,7 +58,7 @@ impl CellMap {
         let _keys = self.keys.keys();
         match self.keys.find(key.as_slice()) {
             Some(at) => {
-                self.measures[at as usize] = measures;
+                put_over(&mut self.measures, at as usize, key, measures);
                 Ok(())
             }
             None => put_new(&mut self.keys, &mut self.measures, key, measures),
@@ -102,6 +104,24 @@ impl CellMap {
         self.measures.as_slice()
     }
 
+    /// The number of the place at which the cell at `key` stands, or `None` where there is no such cell. It is looked for at
+    /// `near` and beside it before all other places.
+    pub fn place_near(&self, key: &[Value], near: usize) -> Option<usize>
+        ensures { result ≡ place_of (keys_of self.now) key.now }
+    {
+        place_in(&self.keys, key, near)
+    }
+
+    /// Measure `m` of the cell at place `at`, or null where there is none.
+    pub fn value_at(&self, at: usize, m: u32) -> Result<Value, Memory>
+        ensures { (key : Tuple) → place_of (keys_of self.now) key ≡ Some at → IfOk result (λ v. v ≡ measure_at self.now (cell_name key m)) }
+    {
+        match self.measures.get(at) {
+            Some(measures) => value_in(measures, m),
+            None => Ok(Value::Null),
+        }
+    }
+
     /// How many cells there are.
     pub fn len(&self) -> usize
         ensures count { result ≡ length self.now }
@@ -121,6 +141,25 @@ impl CellMap {
             Some(v) => v.copy(),
             None => Ok(Value::Null),
         }
+    }
+}
+
+// Puts measures at the place of a cell that is there. What it takes to let its second key and the old measures go is no
+// matter of the cells then.
+fn put_over(measures: &mut Vec<Key>, at: usize, _key: Key, now: Key)
+    requires { at < length measures.old.items }
+    ensures { measures.new.items ≡ slice_set measures.old.items at now }
+{
+    measures[at] = now;
+}
+
+// A measure of these, or null where there is none.
+fn value_in(measures: &Key, m: u32) -> Result<Value, Memory>
+    ensures { IfOk result (λ v. v ≡ slice_index_or measures.now m value.Null) }
+{
+    match measures.as_slice().get(m as usize) {
+        Some(v) => v.copy(),
+        None => Ok(Value::Null),
     }
 }
 

@@ -1,0 +1,12 @@
+use Rattle.std.proofs.Common.{ap, sym, ◌∙◌}
+use Rattle.std.specs.Ordering.{is_eq}
+use Rattle.mq_values.specs.Order.{cmp_key}
+use Rattle.mq_seq.proofs.NearLemmas.{stands_here}
+use Rattle.mq_seq.proofs.near.place_if_there.Goals as goal
+
+pub returns-in-Some : goal.returns-in-Some
+returns-in-Some c =
+    let key = c.args.key.now in
+    let found = c.in-Some.ensures.lookup.3 in
+    stands_here c.args.keys.now key c.in-Some.own.now c.args.at c.requires found.0 found.1
+    (sym (ap is_eq (c.cmp.ensures ∙ ap (cmp_key key) c.as_slice.ensures)) ∙ sym c.is_eq.ensures ∙ c.if-is_eq.true)

@@ -1,0 +1,50 @@
+//! Where a key stands that is likely to be near a known place.
+ghost use Rattle.std.specs.Prelude.{◌≡◌, true, Some, IfSome};
+ghost use Rattle.std.specs.List.Sorted.{IsStrictlySortedBy};
+ghost use Rattle.mq_values.specs.Order.{cmp_key};
+ghost use Rattle.mq_dim_index.specs.Places.{place_of};
+
+use mq_dim_index::DimIndex;
+use mq_values::{Key, Value};
+use std::cmp::Ordering;
+
+/// The number of the place at which `key` stands, or `None` where it is not there. The place `near` and the one beside it
+/// on the side of the key are looked at before all others.
+pub fn place_in(index: &DimIndex, key: &[Value], near: usize) -> Option<usize>
+    ensures { result ≡ place_of index.now key.now }
+{
+    match place_around(index.keys(), key, near) {
+        Some(at) => Some(at),
+        None => match index.find(key) {
+            Some(at) => Some(at as usize),
+            None => None,
+        },
+    }
+}
+
+// The place of `key` where it is `near` or the one beside it; `None` says nothing.
+fn place_around(keys: &[Key], key: &[Value], near: usize) -> Option<usize>
+    requires { IsStrictlySortedBy cmp_key keys.now }
+    ensures { IfSome result (λ at. place_of keys.now key.now ≡ Some at) }
+{
+    let Some(own) = keys.get(near) else {
+        return None;
+    };
+    match key.cmp(own.as_slice()) {
+        Ordering::Equal => Some(near),
+        Ordering::Less if near > 0 => place_if_there(keys, key, near - 1),
+        Ordering::Less => None,
+        Ordering::Greater => place_if_there(keys, key, near + 1),
+    }
+}
+
+// The place `at`, where `key` stands there.
+fn place_if_there(keys: &[Key], key: &[Value], at: usize) -> Option<usize>
+    requires { IsStrictlySortedBy cmp_key keys.now }
+    ensures { IfSome result (λ at. place_of keys.now key.now ≡ Some at) }
+{
+    match keys.get(at) {
+        Some(own) if key.cmp(own.as_slice()).is_eq() => Some(at),
+        _ => None,
+    }
+}
