@@ -1,5 +1,5 @@
 //! The cells of a partition, ascending by their keys.
-ghost use Rattle.std.specs.Prelude.{◌≡◌, false, length, slice_set, IfOk, OnOk, OnErr};
+ghost use Rattle.std.specs.Prelude.{◌≡◌, ◌<◌, false, length, slice_set, IfOk, OnOk, OnErr};
 ghost use Rattle.std.specs.List.{zip};
 ghost use Rattle.std.specs.List.Sorted.{IsStrictlySortedBy};
 ghost use Rattle.std.specs.Map.{keys_of};
@@ -56,7 +56,7 @@ impl CellMap {
         let _keys = self.keys.keys();
         match self.keys.find(key.as_slice()) {
             Some(at) => {
-                self.measures[at as usize] = measures;
+                put_over(&mut self.measures, at as usize, key, measures);
                 Ok(())
             }
             None => put_new(&mut self.keys, &mut self.measures, key, measures),
@@ -122,6 +122,15 @@ impl CellMap {
             None => Ok(Value::Null),
         }
     }
+}
+
+// Puts measures at the place of a cell that is there. What it takes to let its second key and the old measures go is no
+// matter of the cells then.
+fn put_over(measures: &mut Vec<Key>, at: usize, _key: Key, now: Key)
+    requires { at < length measures.old.items }
+    ensures { measures.new.items ≡ slice_set measures.old.items at now }
+{
+    measures[at] = now;
 }
 
 // Puts a cell that is not there at its place.
