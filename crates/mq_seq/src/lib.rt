@@ -12,6 +12,7 @@ mod lefts;
 mod lent_cells;
 mod noted;
 mod outcomes;
+mod prepared;
 mod rules;
 mod self_order;
 mod tracked;
