@@ -1,3 +1,4 @@
+mod FixedLemmas
 mod GridLemmas
 mod LeftLemmas
 mod MapLemmas

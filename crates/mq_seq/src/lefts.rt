@@ -1,10 +1,13 @@
 //! The single left sides of a rule, one after another.
-ghost use Rattle.std.specs.Prelude.{◌≡◌, length, IfOk};
+ghost use Rattle.std.specs.Prelude.{◌≡◌, [], ◌∷◌, length, true, IfOk};
 ghost use Rattle.std.specs.Map.{keys_of};
 ghost use Rattle.mq_values.specs.Answers.{Gives};
 ghost use Rattle.mq_ir.specs.Results.{each_in_turn};
+ghost use Rattle.mq_ir.specs.Keys.{is_among};
 ghost use Rattle.mq_ir.specs.Sequential as spec;
+ghost use Rattle.mq_ir.specs.Targets.{targets as spec_targets};
 ghost use Rattle.mq_single_lefts.specs.Conditions.{HavePlaces};
+ghost use Rattle.mq_single_lefts.specs.FixedLefts.{NamesKey};
 ghost use Rattle.mq_seq.specs.Steps.{act_in, left_done};
 
 use crate::acting::Acting;
@@ -12,9 +15,9 @@ use crate::assigning::assign_all;
 use crate::grid::Grid;
 use crate::self_order::order_missing;
 use mq_ir::SingleLeft;
-use mq_single_lefts::PlacedFault;
+use mq_single_lefts::{Fixed, PlacedFault};
 use mq_targets::targets;
-use mq_values::{Fail, FaultKind, Key, MAX_CELLS_OF_PARTITION, Memory};
+use mq_values::{Fail, FaultKind, Key, MAX_CELLS_OF_PARTITION, Memory, Mode};
 use std::alloc::Global;
 
 /// The cells after these single left sides of a rule have acted one after another, or the first fault.
@@ -52,6 +55,47 @@ fn act_one(
         Some(fault) => Err(Fail::Cause(fault)),
         None => assign_all(alloc, act, found.cells.as_slice(), grid),
     }
+}
+
+/// The cells after a single left side has acted that names this key in every turn, or the first fault. Where its cell is
+/// there, that is the only target, and is not looked for.
+pub fn act_fixed(
+    alloc: Global,
+    act: &Acting<'_>,
+    fixed: &Fixed,
+    grid: Grid,
+) -> Result<Grid, Fail<PlacedFault>>
+    requires wide { length fixed.now.left.places ≡ grid.width }
+    requires names { NamesKey fixed.now.left.places fixed.now.key }
+    ensures exact { Gives result (left_done (act_in act.now) fixed.now.left grid) }
+    ensures width { IfOk result (λ g. g.width ≡ grid.width) }
+{
+    if !is_own_target(fixed, act.rule.mode, &grid) {
+        return act_one(alloc, act, &fixed.left, grid);
+    }
+    let found = std::slice::from_ref(&fixed.key);
+    match left_fault(alloc, act, &fixed.left, found, &grid)? {
+        Some(fault) => Err(Fail::Cause(fault)),
+        None => assign_all(alloc, act, found, grid),
+    }
+}
+
+// Whether the cell of this key is seen to be the only target, and to be there.
+fn is_own_target(fixed: &Fixed, mode: Mode, grid: &Grid) -> bool
+    requires { NamesKey fixed.now.left.places fixed.now.key }
+    ensures { result ≡ true → spec_targets fixed.now.left mode (keys_of grid.now.track.cells) ≡ record { cells = fixed.now.key ∷ []; created = [] } }
+{
+    match mode {
+        Mode::Update => false,
+        Mode::Upsert => is_there(grid, &fixed.key),
+        Mode::UpsertAll => is_there(grid, &fixed.key),
+    }
+}
+
+fn is_there(grid: &Grid, key: &Key) -> bool
+    ensures { result ≡ is_among (keys_of grid.now.track.cells) key.now }
+{
+    grid.index().stored(key.as_slice()).is_some()
 }
 
 // Why a single left side may not act on these targets, over the cells with those that it creates.

@@ -13,6 +13,7 @@ mod lent_values;
 mod near;
 mod noted;
 mod outcomes;
+mod prepared;
 mod rules;
 mod self_order;
 mod tracked;

@@ -4,12 +4,13 @@ ghost use Rattle.mq_values.specs.Answers.{Gives};
 ghost use Rattle.mq_ir.specs.Unfolding.{model_of};
 ghost use Rattle.mq_unfold.specs.LeftSides.{rule_of};
 ghost use Rattle.mq_single_lefts.specs.Conditions.{LeftHasPlaces, LeftsHavePlaces};
-ghost use Rattle.mq_seq.specs.Known.{RefsInOrder};
+ghost use Rattle.mq_seq.specs.Known.{IsPrepared};
 ghost use Rattle.mq_seq.specs.Steps.{rule_done, turn_done};
 
 use crate::acting::Acting;
 use crate::grid::Grid;
-use crate::lefts::act_all;
+use crate::lefts::{act_all, act_fixed};
+use crate::prepared::{Prepared, fixed_at};
 use mq_ir::{Model, Rule};
 use mq_single_lefts::{PlacedFault, single_lefts};
 use mq_values::Fail;
@@ -20,13 +21,13 @@ use std::alloc::Global;
 pub fn act_rules(
     alloc: Global,
     m: &Model<'_>,
-    refs_ascend: bool,
+    prepared: &Prepared<'_>,
     turn: u32,
     grid: Grid,
 ) -> Result<Grid, Fail<PlacedFault>>
     requires lefts { LeftsHavePlaces m.now.part.now }
     requires wide { grid.width ≡ length m.now.part.now.dims }
-    requires refs { RefsInOrder refs_ascend m.now }
+    requires prepared { IsPrepared prepared.now m.now }
     ensures exact { Gives result (turn_done (model_of m.now) turn grid) }
     ensures width { IfOk result (λ g. g.width ≡ grid.width) }
 {
@@ -37,7 +38,7 @@ pub fn act_rules(
             return Err(Fail::Memory);
         };
         number = next;
-        grid = act_rule(alloc, m, refs_ascend, turn, number, rule, grid)?;
+        grid = act_rule(alloc, m, prepared, turn, number, rule, grid)?;
     }
     Ok(grid)
 }
@@ -46,7 +47,7 @@ pub fn act_rules(
 fn act_rule(
     alloc: Global,
     m: &Model<'_>,
-    refs_ascend: bool,
+    prepared: &Prepared<'_>,
     turn: u32,
     number: u32,
     rule: &Rule,
@@ -55,17 +56,31 @@ fn act_rule(
     requires there { rule_of m.now.part.now.rules number ≡ Some rule.now }
     requires places { LeftHasPlaces (length m.now.part.now.dims) rule.now.left }
     requires wide { grid.width ≡ length m.now.part.now.dims }
-    requires refs { RefsInOrder refs_ascend m.now }
+    requires prepared { IsPrepared prepared.now m.now }
     ensures exact { Gives result (rule_done (model_of m.now) turn (number, rule.now) grid) }
     ensures width { IfOk result (λ g. g.width ≡ grid.width) }
 {
-    let lefts = single_lefts(alloc, m, turn, number, rule)?;
     let act = Acting {
         model: m,
         number,
         rule,
         turn,
-        refs_ascend,
+        refs_ascend: prepared.refs_ascend,
     };
-    act_all(alloc, &act, lefts.as_slice(), grid)
+    match fixed_at(prepared.fixed, number) {
+        Some(fixed) => act_fixed(alloc, &act, fixed, grid),
+        None => act_unfolded(alloc, &act, grid),
+    }
+}
+
+// A rule whose single left sides are made anew in this turn.
+fn act_unfolded(alloc: Global, act: &Acting<'_>, grid: Grid) -> Result<Grid, Fail<PlacedFault>>
+    requires there { rule_of act.now.model.now.part.now.rules act.now.number ≡ Some act.now.rule.now }
+    requires places { LeftHasPlaces (length act.now.model.now.part.now.dims) act.now.rule.now.left }
+    requires wide { grid.width ≡ length act.now.model.now.part.now.dims }
+    ensures exact { Gives result (rule_done (model_of act.now.model.now) act.now.turn (act.now.number, act.now.rule.now) grid) }
+    ensures width { IfOk result (λ g. g.width ≡ grid.width) }
+{
+    let lefts = single_lefts(alloc, act.model, act.turn, act.number, act.rule)?;
+    act_all(alloc, act, lefts.as_slice(), grid)
 }

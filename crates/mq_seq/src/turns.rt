@@ -5,10 +5,11 @@ ghost use Rattle.mq_values.specs.Answers.{Gives};
 ghost use Rattle.mq_ir.specs.Iteration.{turn_count};
 ghost use Rattle.mq_ir.specs.Unfolding.{model_of};
 ghost use Rattle.mq_single_lefts.specs.Conditions.{LeftsHavePlaces};
-ghost use Rattle.mq_seq.specs.Known.{RefsInOrder};
+ghost use Rattle.mq_seq.specs.Known.{IsPrepared, RefsInOrder};
 ghost use Rattle.mq_seq.specs.Steps.{turn_with, turns_done, until_in};
 
 use crate::grid::Grid;
+use crate::prepared::{Prepared, fixed_lefts};
 use crate::rules::act_rules;
 use crate::until::until_true;
 use mq_ir::{Expr, Model};
@@ -29,9 +30,15 @@ pub fn take_turns(
     requires refs { RefsInOrder refs_ascend m.now }
     ensures { Gives result (turns_done (model_of m.now) 0 (turn_count (model_of m.now)) grid) }
 {
+    let count = count_of(m);
+    let fixed = fixed_lefts(alloc, m, count)?;
+    let prepared = Prepared {
+        refs_ascend,
+        fixed: fixed.as_slice(),
+    };
     let mut grid = grid;
-    'turns: for turn in 0..count_of(m) {
-        let (next, last) = take_turn(alloc, m, refs_ascend, turn, grid)?;
+    'turns: for turn in 0..count {
+        let (next, last) = take_turn(alloc, m, &prepared, turn, grid)?;
         grid = next;
         if last {
             return Ok(grid);
@@ -65,19 +72,19 @@ fn until_of<'a>(m: &Model<'a>) -> Option<&'a Expr>
 fn take_turn(
     alloc: Global,
     m: &Model<'_>,
-    refs_ascend: bool,
+    prepared: &Prepared<'_>,
     turn: u32,
     grid: Grid,
 ) -> Result<(Grid, bool), Fail<PlacedFault>>
     requires lefts { LeftsHavePlaces m.now.part.now }
     requires wide { grid.width ≡ length m.now.part.now.dims }
-    requires refs { RefsInOrder refs_ascend m.now }
+    requires prepared { IsPrepared prepared.now m.now }
     ensures exact { Gives result (turn_with (model_of m.now) turn (until_in (model_of m.now)) grid) }
     ensures width { IfOk result (λ r. r.0.width ≡ grid.width) }
 {
     match until_of(m) {
-        Some(e) => take_until(alloc, m, refs_ascend, turn, e, grid),
-        None => Ok((act_rules(alloc, m, refs_ascend, turn, grid)?, false)),
+        Some(e) => take_until(alloc, m, prepared, turn, e, grid),
+        None => Ok((act_rules(alloc, m, prepared, turn, grid)?, false)),
     }
 }
 
@@ -85,18 +92,18 @@ fn take_turn(
 fn take_until(
     alloc: Global,
     m: &Model<'_>,
-    refs_ascend: bool,
+    prepared: &Prepared<'_>,
     turn: u32,
     e: &Expr,
     grid: Grid,
 ) -> Result<(Grid, bool), Fail<PlacedFault>>
     requires lefts { LeftsHavePlaces m.now.part.now }
     requires wide { grid.width ≡ length m.now.part.now.dims }
-    requires refs { RefsInOrder refs_ascend m.now }
+    requires prepared { IsPrepared prepared.now m.now }
     ensures exact { Gives result (turn_with (model_of m.now) turn (Some e.now) grid) }
     ensures width { IfOk result (λ r. r.0.width ≡ grid.width) }
 {
-    let next = act_rules(alloc, m, refs_ascend, turn, grid.begun(alloc))?;
+    let next = act_rules(alloc, m, prepared, turn, grid.begun(alloc))?;
     let last = until_true(alloc, m, turn, &next, e)?;
     Ok((next, last))
 }

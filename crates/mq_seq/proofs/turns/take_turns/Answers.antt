@@ -9,14 +9,14 @@ pub returns-then-last : goal.returns-then-last
 returns-then-last c =
     let model = model_of c.args.m.now in
     let next = c.in_ok-next.next in
-    let lt : c.turns.turn < turn_count model = omega (arith, c.count_of-turn-end.ensures) in
+    let lt : c.turns.turn < turn_count model = omega (arith, c.count_of-count.ensures) in
     rounds_last model (turn_count model) c.args.grid c.turns.turn c.turns.grid next lt (c.in_ok-next.ensures.exact ∙ ap (λ last. Ok (next, last)) c.if-last.true) c.turns.invariant.rounds
 
 pub returns-in_err-next : goal.returns-in_err-next
 returns-in_err-next c =
     let model = model_of c.args.m.now in
-    let lt : c.turns.turn < turn_count model = omega (arith, c.count_of-turn-end.ensures) in
-    let p = err_from_is_err_and c.from_residual.result c.from_residual.ensures.1 in
+    let lt : c.turns.turn < turn_count model = omega (arith, c.count_of-count.ensures) in
+    let p = err_from_is_err_and c.from_residual-in_err-next.result c.from_residual-in_err-next.ensures.1 in
     rw (p.1, p.2)
     (rounds_exit model (turn_count model) c.args.grid c.turns.turn c.turns.grid c.in_err-next.field-0.0 lt c.turns.invariant.rounds c.in_err-next.ensures.exact)
 
@@ -24,7 +24,7 @@ pub turns-preserved : goal.turns-preserved
 turns-preserved c =
     let model = model_of c.args.m.now in
     let next = c.in_ok-next.next in
-    let lt : c.turns.turn < turn_count model = omega (arith, c.count_of-turn-end.ensures) in
+    let lt : c.turns.turn < turn_count model = omega (arith, c.count_of-count.ensures) in
     record {
       rounds =
           rounds_next model (turn_count model) c.args.grid c.turns.turn c.turns.grid next lt (c.in_ok-next.ensures.exact ∙ ap (λ last. Ok (next, last)) c.if-last.false)

@@ -1,0 +1,59 @@
+-- Left sides that are the same in every turn.
+use Rattle.std.proofs.Common.{◌≡◌, ℕ, List, [], ◌∷◌, map, true, not, Result, Ok, Err, Some, refl, sym, ap, ◌∙◌}
+use Rattle.std.specs.Prelude.{if◌then◌else◌}
+use Rattle.std.specs.List.{filter}
+use Rattle.std.specs.Option.{option_map_or}
+use Rattle.mq_values.specs.declared.operators.Mode.TheVariants.{Upsert, UpsertAll}
+use Rattle.mq_ir.specs.declared.query.Rule.{Rule}
+use Rattle.mq_ir.specs.declared.query.SingleLeft.{SingleLeft}
+use Rattle.mq_ir.specs.Keys.{Tuple, each_first, is_among}
+use Rattle.mq_ir.specs.Partitions.{ascending}
+use Rattle.mq_ir.specs.Placed.{placed_fault}
+use Rattle.mq_ir.specs.Results.{◌>>=◌, each_in_turn, marked}
+use Rattle.mq_ir.specs.Targets.{Targets, cmp_targets, is_symbolic, meets_left, meets_symbols, named, projected, targets}
+use Rattle.mq_ir.specs.Unfolding.{Model, unfold_rule}
+use Rattle.mq_unfold.specs.LeftSides.{rule_of}
+use Rattle.mq_single_lefts.specs.declared.fixed.Fixed.{Fixed}
+use Rattle.mq_single_lefts.specs.FixedLefts.{IsFixed, NamesKey}
+use Rattle.mq_single_lefts.specs.Lefts.{lefts_of}
+use Rattle.mq_seq.specs.Steps.{State, acting, left_done, rule_done}
+
+-- ---- the rule acts by this left side
+lefts_are : (model : Model) (turn : ℕ) (rule : Rule) (f : Fixed) → IsFixed model f → rule_of model.part.rules f.number ≡ Some rule
+    → lefts_of model turn f.number rule ≡ Ok (f.left ∷ [])
+lefts_are model turn rule f w there =
+    ap (marked (placed_fault f.number [])) (sym (ap (λ o. option_map_or (λ (r : Rule). unfold_rule model r turn) o (Ok [])) there) ∙ w.always turn)
+
+one_step : {A S E : Type 0} (step : A → S → Result S E) (r : Result S E) → (r >>= each_in_turn step []) ≡ r
+one_step step (Ok s) = refl
+one_step step (Err e) = refl
+
+pub fixed_rule : (model : Model) (turn number : ℕ) (rule : Rule) (f : Fixed) (s : State) → IsFixed model f → f.number ≡ number → rule_of model.part.rules number ≡ Some rule
+    → left_done (acting model number rule turn) f.left s ≡ rule_done model turn (number, rule) s
+fixed_rule model turn number rule f s w e there =
+    sym
+    (ap (λ r. r >>= (λ lefts. each_in_turn (left_done (acting model number rule turn)) lefts s))
+    (ap (λ n. lefts_of model turn n rule) (sym e) ∙ lefts_are model turn rule f w (ap (rule_of model.part.rules) e ∙ there))
+    ∙ one_step (left_done (acting model number rule turn)) (left_done (acting model number rule turn) f.left s))
+
+-- ---- its target, where the cell is there
+module _ (left : SingleLeft) (set : List Tuple) (key : Tuple) (names : NamesKey left.places key) (there : is_among set key ≡ true) where
+  abbrev from_keys : List Tuple → Targets
+  from_keys keys =
+      let cells = ascending (cmp_targets left) keys in
+      record { cells = cells; created = filter (λ key. not (is_among set key)) cells }
+
+  abbrev itself : Targets
+  itself = record { cells = key ∷ []; created = [] }
+
+  own_alone : from_keys (key ∷ []) ≡ itself
+  own_alone = ap (λ b. record { cells = key ∷ []; created = if not b then key ∷ [] else [] }) there
+
+  own_of : (others : List Tuple) → from_keys (if is_symbolic left then others else named left ∷ []) ≡ itself
+  own_of others = ap (λ b. from_keys (if b then others else named left ∷ [])) names.positional ∙ ap (λ k. from_keys (k ∷ [])) (sym names.names) ∙ own_alone
+
+  pub own_upsert : targets left Upsert set ≡ itself
+  own_upsert = own_of (filter (meets_left left) set)
+
+  pub own_upsert_all : targets left UpsertAll set ≡ itself
+  own_upsert_all = own_of (each_first (map (projected left) (filter (meets_symbols left) set)))
