@@ -1,6 +1,6 @@
 //! The index of a partition's cells by their dimensions.
 ghost use Rattle.std.specs.Prelude.{◌≡◌, ◌<◌, ◌≤◌, length, map, slice_index_or, is_some, IfOk, IfSome, OnOk, OnErr};
-ghost use Rattle.std.specs.List.{All, filter};
+ghost use Rattle.std.specs.List.{All, filter, remove};
 ghost use Rattle.std.specs.List.Sorted.{IsStrictlySortedBy};
 ghost use Rattle.mq_values.specs.Order.{cmp_key};
 ghost use Rattle.mq_dim_index.specs.Places.{Tuple, is_there, meets_every, place_of, with_key, without_key};
@@ -85,7 +85,7 @@ impl DimIndex {
         ensures { self.new ≡ without_key self.old key.now }
     {
         if let Ok(at) = search(&self.keys, key.as_slice()) {
-            self.keys.remove(at);
+            take_away(&mut self.keys, at);
         }
     }
 
@@ -120,6 +120,14 @@ impl DimIndex {
     {
         places_meeting(alloc, self.keys.as_slice(), tests)
     }
+}
+
+// Takes the key at place `at` away. What it takes to let the key go is no matter of the index then.
+fn take_away(keys: &mut Vec<Key>, at: usize)
+    requires { at < length keys.old.items }
+    ensures { keys.new.items ≡ remove keys.old.items at }
+{
+    keys.remove(at);
 }
 
 // These keys once more.
