@@ -2,6 +2,7 @@ mod GridLemmas
 mod LeftLemmas
 mod LentLemmas
 mod MapLemmas
+mod MarkLemmas
 mod MeaningLemmas
 mod NoteLemmas
 mod PlaceLemmas

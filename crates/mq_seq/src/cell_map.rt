@@ -1,14 +1,14 @@
 //! The cells of a partition, ascending by their keys.
-ghost use Rattle.std.specs.Prelude.{◌≡◌, false, length, slice_set, IfOk, OnOk, OnErr};
+ghost use Rattle.std.specs.Prelude.{◌≡◌, ◌<◌, false, length, Some, slice_set, IfOk, OnOk, OnErr};
 ghost use Rattle.std.specs.List.{zip};
 ghost use Rattle.std.specs.List.Sorted.{IsStrictlySortedBy};
 ghost use Rattle.std.specs.Map.{keys_of};
 ghost use Rattle.std.specs.Option.{IsSome, option_copied, option_map_or};
 ghost use Rattle.mq_values.specs.Order.{cmp_key};
-ghost use Rattle.mq_ir.specs.Partitions.{cell_at, with_cell};
+ghost use Rattle.mq_ir.specs.Partitions.{Tuple, cell_at, with_cell};
 ghost use Rattle.mq_ir.specs.Reads.{measure_at};
 ghost use Rattle.mq_cells.specs.Stores.{cell_name};
-ghost use Rattle.mq_dim_index.specs.Places.{is_there};
+ghost use Rattle.mq_dim_index.specs.Places.{is_there, place_of};
 
 use mq_dim_index::DimIndex;
 use mq_values::{Items, Key, Memory, Value};
@@ -56,28 +56,27 @@ impl CellMap {
         let _keys = self.keys.keys();
         match self.keys.find(key.as_slice()) {
             Some(at) => {
-                self.measures[at as usize] = measures;
+                put_over(&mut self.measures, at as usize, key, measures);
                 Ok(())
             }
             None => put_new(&mut self.keys, &mut self.measures, key, measures),
         }
     }
 
-    /// Sets measure `m` of the cell at `key` to `v`; where there is no such cell, nothing changes. After `Memory` the cells
+    /// Sets measure `m` of the cell at place `at` to `v`, in place where no other holds its measures. After `Memory` the cells
     /// are as before.
-    pub fn assign(&mut self, alloc: Global, key: &Key, m: u32, v: Value) -> Result<(), Memory>
-        ensures ok { OnOk result (self.new ≡ option_map_or (λ measures. with_cell self.old key.now (slice_set measures m v)) (cell_at self.old key.now) self.old) }
+    pub fn assign_at(&mut self, alloc: Global, at: usize, m: u32, v: Value) -> Result<(), Memory>
+        ensures ok { (key : Tuple) → place_of (keys_of self.old) key ≡ Some at →
+            OnOk result (self.new ≡ option_map_or (λ measures. with_cell self.old key (slice_set measures m v)) (cell_at self.old key) self.old) }
         ensures same_keys { OnOk result (keys_of self.new ≡ keys_of self.old) }
         ensures err { OnErr result (self.new ≡ self.old) }
     {
         // The index knows that its keys ascend.
         let _keys = self.keys.keys();
-        let Some(at) = self.keys.find(key.as_slice()) else {
+        if at >= self.measures.len() {
             return Ok(());
-        };
-        let changed = with_measure(alloc, &self.measures[at as usize], m as usize, v)?;
-        self.measures[at as usize] = changed;
-        Ok(())
+        }
+        set_measure(alloc, &mut self.measures[at], m as usize, v)
     }
 
     /// The index of the cells by their keys.
@@ -124,6 +123,15 @@ impl CellMap {
     }
 }
 
+// Puts measures at the place of a cell that is there. What it takes to let its second key and the old measures go is no
+// matter of the cells then.
+fn put_over(measures: &mut Vec<Key>, at: usize, _key: Key, now: Key)
+    requires { at < length measures.old.items }
+    ensures { measures.new.items ≡ slice_set measures.old.items at now }
+{
+    measures[at] = now;
+}
+
 // Puts a cell that is not there at its place.
 fn put_new(keys: &mut DimIndex, measures: &mut Vec<Key>, key: Key, now: Key) -> Result<(), Memory>
     requires one_each { length measures.old.items ≡ length keys.old }
@@ -145,11 +153,28 @@ fn put_new(keys: &mut DimIndex, measures: &mut Vec<Key>, key: Key, now: Key) -> 
     }
 }
 
+// Sets the measure of this number to `v`, in place where no other holds these measures; behind their end nothing changes.
+// After `Memory` they are as before.
+fn set_measure(alloc: Global, measures: &mut Key, m: usize, v: Value) -> Result<(), Memory>
+    ensures ok { OnOk result (measures.new ≡ slice_set measures.old m v) }
+    ensures err { OnErr result (measures.new ≡ measures.old) }
+{
+    if let Err(v) = measures.set_if_sole(m, v) {
+        let changed = with_measure(alloc, measures.as_slice(), m, v)?;
+        *measures = changed;
+    }
+    Ok(())
+}
+
 // The measures with that of this number set to `v`.
-fn with_measure(alloc: Global, measures: &Key, m: usize, v: Value) -> Result<Key, Memory>
+fn with_measure(alloc: Global, measures: &[Value], m: usize, v: Value) -> Result<Key, Memory>
     ensures { IfOk result (λ changed. changed ≡ slice_set measures.now m v) }
 {
-    let mut values = measures.as_slice().to_vec(alloc)?;
+    if m == 0 && measures.len() == 1 {
+        let changed = Key::one(alloc, v)?;
+        return Ok(changed);
+    }
+    let mut values = measures.to_vec(alloc)?;
     if m < values.len() {
         values[m] = v;
     }

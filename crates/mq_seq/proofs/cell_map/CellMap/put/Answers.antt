@@ -10,7 +10,6 @@ use Rattle.mq_ir.specs.Keys.{Tuple}
 use Rattle.mq_ir.specs.Partitions.{Cells, cell_at, with_cell}
 use Rattle.mq_dim_index.specs.Places.{place_of}
 use Rattle.mq_seq.proofs.MapLemmas.{no_measures, nowhere, replaced_where_found}
-use Rattle.mq_seq.proofs.cell_map.CellMap.put.Goals.{in-None-2, in-Some-2}
 use Rattle.mq_seq.proofs.cell_map.CellMap.put.Goals as goal
 
 pub put_new-requires-clause-new : goal.put_new-requires-clause-new
@@ -21,20 +20,19 @@ put_new-requires-clause-new c =
 pub returns-in-Some-clause-ok : goal.returns-in-Some-clause-ok
 returns-in-Some-clause-ok c =
     let map = c.self.inside in
-    let at = c.in-Some.at in
     let found = ap (place_of map.keys) (sym c.as_slice.ensures) ∙ sym c.in-Some.ensures in
-    let put = replaced_where_found c.args.key c.args.measures map.keys map.measures.items at c.self.invariant c.keys-keys.ensures.ascending found
-    ∙ ap (λ cells. with_cell cells c.args.key c.args.measures) c.self.view_is in
-    elim c.match-key.branch [ in-Some-2 w ↦ w.self-is ∙ put | in-None-2 w ↦ w.self-is ∙ put ]
+    ap (zip map.keys) c.put_over.ensures
+    ∙ replaced_where_found c.args.key c.args.measures map.keys map.measures.items c.in-Some.at c.self.invariant c.keys-keys.ensures.ascending found
+    ∙ ap (λ cells. with_cell cells c.args.key c.args.measures) c.self.view_is
 
 pub returns-in-Some-clause-same_keys : goal.returns-in-Some-clause-same_keys
 returns-in-Some-clause-same_keys c there =
     let map = c.self.inside in
     let ms = map.measures.items in
     let at = c.in-Some.at in
-    let same = keys_of-zip map.keys (slice_set ms at c.args.measures) (length-set ms at c.args.measures ∙ c.self.invariant)
-    ∙ sym (keys_of-zip map.keys ms c.self.invariant) ∙ ap keys_of c.self.view_is in
-    elim c.match-key.branch [ in-Some-2 w ↦ ap keys_of w.self-is ∙ same | in-None-2 w ↦ ap keys_of w.self-is ∙ same ]
+    ap (λ now. keys_of (zip map.keys now)) c.put_over.ensures
+    ∙ keys_of-zip map.keys (slice_set ms at c.args.measures) (length-set ms at c.args.measures ∙ c.self.invariant)
+    ∙ sym (keys_of-zip map.keys ms c.self.invariant) ∙ ap keys_of c.self.view_is
 
 pub returns-in-None-clause-same_keys : goal.returns-in-None-clause-same_keys
 returns-in-None-clause-same_keys c = by c.put_new.result
