@@ -1,4 +1,4 @@
-use Rattle.std.proofs.Common.{◌≡◌, ℕ, List, Bool, true, Some, sym, ap, subst, ◌∙◌}
+use Rattle.std.proofs.Common.{◌≡◌, List, Bool, true, Some, sym, ap, subst, ◌∙◌}
 use Rattle.std.specs.List.Sorted.{IsStrictlySortedBy}
 use Rattle.std.specs.Map.{keys_of}
 use Rattle.std.specs.Prelude.{slice_set}
@@ -7,7 +7,7 @@ use Rattle.mq_ir.specs.Keys.{Tuple}
 use Rattle.mq_dim_index.specs.Places.{place_of, with_key}
 use Rattle.mq_seq.specs.Marks.{marked_keys}
 use Rattle.mq_seq.specs.Steps.{State}
-use Rattle.mq_seq.specs.Tracks.{Track, assign}
+use Rattle.mq_seq.specs.Tracks.{assign}
 use Rattle.mq_seq.proofs.MarkLemmas.{marked_where_found}
 use Rattle.mq_seq.proofs.grid.Grid.assigned.Goals as goal
 

@@ -1,6 +1,5 @@
 use Rattle.std.proofs.Common.{rules, ◌≡◌, List, Bool, [], false, None, IfOk, replicate, ap, subst, ◌∙◌}
 use Rattle.std.specs.Map.{keys_of}
-use Rattle.mq_ir.specs.Keys.{Tuple}
 use Rattle.mq_seq.specs.Marks.{marked_keys}
 use Rattle.mq_seq.specs.Steps.{State}
 use Rattle.mq_seq.proofs.MarkLemmas.{none_marked}

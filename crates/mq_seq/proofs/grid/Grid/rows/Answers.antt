@@ -6,8 +6,7 @@ use Rattle.mq_values.specs.Order.{cmp_key}
 use Rattle.mq_ir.specs.declared.query.OutCell.{OutCell}
 use Rattle.mq_ir.specs.Iteration.{out_cell}
 use Rattle.mq_ir.specs.Keys.{Tuple}
-use Rattle.mq_ir.specs.Partitions.{Cells}
-use Rattle.mq_seq.specs.Marks.{marked_keys, row_of}
+use Rattle.mq_seq.specs.Marks.{marked_keys}
 use Rattle.mq_seq.specs.Steps.{State}
 use Rattle.mq_seq.proofs.MarkLemmas.{rows_told}
 use Rattle.mq_seq.proofs.grid.Grid.rows.Goals as goal
