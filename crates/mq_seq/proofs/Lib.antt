@@ -2,6 +2,7 @@ mod FixedLemmas
 mod GridLemmas
 mod LeftLemmas
 mod MapLemmas
+mod MarkLemmas
 mod MeaningLemmas
 mod NearLemmas
 mod NoteLemmas

@@ -57,7 +57,7 @@ module _ (key : Tuple) where
       sym (at_place ks ms h) ∙ slice_get_past ms (place_in ks key) (omega arith)
 
   -- a key that comes before the first of those that ascend is none of them
-  none_after : (k : Tuple) (ks : List Tuple) → cmp_key key k ≡ Less → AllByRecursion (λ y. cmp_key k y ≡ Less) ks → is_there ks key ≡ false
+  pub none_after : (k : Tuple) (ks : List Tuple) → cmp_key key k ≡ Less → AllByRecursion (λ y. cmp_key k y ≡ Less) ks → is_there ks key ≡ false
   none_after k [] e all = refl
   none_after k (y ∷ ys) e all =
       let first : is_at (cmp_key key) y ≡ false = ap is_eq (key_total.trans key k y e all.0) in
@@ -83,7 +83,7 @@ module _ (key : Tuple) where
           let one : 1 + n ≡ suc n = omega arith in
           ap (λ i. zip (k ∷ ks) (slice_set (v ∷ ms) i m)) one ∙ ap (λ l. (k, v) ∷ l) (rest g)
 
-  stands : (ks : List Tuple) (at : ℕ) → place_of ks key ≡ Some at → is_there ks key ≡ true
+  pub stands : (ks : List Tuple) (at : ℕ) → place_of ks key ≡ Some at → is_there ks key ≡ true
   stands ks at e =
       let found = position-Some (is_at (cmp_key key)) ks at key e in
       any_passes_from_place (is_at (cmp_key key)) ks at (get_or ks at key) (slice_get-get_or ks at key found.0) found.1
@@ -167,6 +167,21 @@ module _ (key : Tuple) where
       let more = length_with ks t in
       omega (arith, below, more)
 
+  lacking_cell : (cells : Cells) → cell_at cells key ≡ None → is_there (keys_of cells) key ≡ false
+  lacking_cell [] h = refl
+  lacking_cell (e ∷ es) h = by (is_at (cmp_key key) e.0) h (lacking_cell es)
+    where
+      by : (b : Bool) → cond b (Some e.1) (cell_at es key) ≡ None → (cell_at es key ≡ None → is_there (keys_of es) key ≡ false) → (b || is_there (keys_of es) key) ≡ false
+      by true g rest = absurd (cc)
+      by false g rest = rest g
+
+  -- where a key stands, there is a cell
+  pub placed : (cells : Cells) (at : ℕ) → place_of (keys_of cells) key ≡ Some at → cell_at cells key ≡ None → ⊥
+  placed cells at e h =
+      let there = stands (keys_of cells) at e in
+      let none = lacking_cell cells h in
+      absurd (cc)
+
 -- cells are their keys beside their measures
 pub parted : (cells : Cells) → zip (keys_of cells) (values_of cells) ≡ cells
 parted [] = refl
@@ -181,3 +196,9 @@ pub no_second : {A B : Type 0} (xs : List A) (ys : List B) → length ys ≡ 0 �
 no_second [] ys h = refl
 no_second (x ∷ xs) [] h = refl
 no_second (x ∷ xs) (y ∷ ys) h = absurd (omega arith)
+
+-- the only one of a list is set
+pub sole_set : {A : Type 0} (xs : List A) (m : ℕ) (x : A) → m ≡ 0 → length xs ≡ 1 → x ∷ [] ≡ slice_set xs m x
+sole_set [] m x e h = absurd (omega arith)
+sole_set (y ∷ []) m x e h = sym (ap (λ n. slice_set (y ∷ []) n x) e)
+sole_set (y ∷ z ∷ zs) m x e h = absurd (omega arith)

@@ -22,7 +22,7 @@ tied Equal e = refl
 tied Greater e = absurd (cc)
 
 -- keys that are the same
-is_equal : (a b : Tuple) → is_same a b ≡ true → a ≡ b
+pub is_equal : (a b : Tuple) → is_same a b ≡ true → a ≡ b
 is_equal a b h = same_key a b (tied (cmp_key a b) h)
 
 flipped : (r : Ordering) → is_eq (ordering_reverse r) ≡ is_eq r
@@ -30,7 +30,7 @@ flipped Less = refl
 flipped Equal = refl
 flipped Greater = refl
 
-turned : (a b : Tuple) → is_same a b ≡ is_same b a
+pub turned : (a b : Tuple) → is_same a b ≡ is_same b a
 turned a b = ap is_eq (key_total.antisymm a b) ∙ flipped (cmp_key b a)
 
 -- what is found once an entry is put

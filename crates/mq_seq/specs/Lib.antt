@@ -1,4 +1,5 @@
 pub mod Known
+pub mod Marks
 pub mod Outcomes
 pub mod Steps
 pub mod Tracks

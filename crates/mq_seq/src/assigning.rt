@@ -55,7 +55,7 @@ fn assign_one(
     ensures width { IfOk result (λ g. g.width ≡ grid.width) }
 {
     let v = value_for(alloc, act, target, at, &grid)?;
-    Ok(grid.assigned(alloc, target, act.rule.measure, v)?)
+    Ok(grid.assigned(alloc, target, at, act.rule.measure, v)?)
 }
 
 // What the rule assigns to a target over the cells as they stand.

@@ -65,21 +65,20 @@ impl CellMap {
         }
     }
 
-    /// Sets measure `m` of the cell at `key` to `v`; where there is no such cell, nothing changes. After `Memory` the cells
+    /// Sets measure `m` of the cell at place `at` to `v`, in place where no other holds its measures. After `Memory` the cells
     /// are as before.
-    pub fn assign(&mut self, alloc: Global, key: &Key, m: u32, v: Value) -> Result<(), Memory>
-        ensures ok { OnOk result (self.new ≡ option_map_or (λ measures. with_cell self.old key.now (slice_set measures m v)) (cell_at self.old key.now) self.old) }
+    pub fn assign_at(&mut self, alloc: Global, at: usize, m: u32, v: Value) -> Result<(), Memory>
+        ensures ok { (key : Tuple) → place_of (keys_of self.old) key ≡ Some at →
+            OnOk result (self.new ≡ option_map_or (λ measures. with_cell self.old key (slice_set measures m v)) (cell_at self.old key) self.old) }
         ensures same_keys { OnOk result (keys_of self.new ≡ keys_of self.old) }
         ensures err { OnErr result (self.new ≡ self.old) }
     {
         // The index knows that its keys ascend.
         let _keys = self.keys.keys();
-        let Some(at) = self.keys.find(key.as_slice()) else {
+        if at >= self.measures.len() {
             return Ok(());
-        };
-        let changed = with_measure(alloc, &self.measures[at as usize], m as usize, v)?;
-        self.measures[at as usize] = changed;
-        Ok(())
+        }
+        set_measure(alloc, &mut self.measures[at], m as usize, v)
     }
 
     /// The index of the cells by their keys.
@@ -184,11 +183,28 @@ fn put_new(keys: &mut DimIndex, measures: &mut Vec<Key>, key: Key, now: Key) -> 
     }
 }
 
+// Sets the measure of this number to `v`, in place where no other holds these measures; behind their end nothing changes.
+// After `Memory` they are as before.
+fn set_measure(alloc: Global, measures: &mut Key, m: usize, v: Value) -> Result<(), Memory>
+    ensures ok { OnOk result (measures.new ≡ slice_set measures.old m v) }
+    ensures err { OnErr result (measures.new ≡ measures.old) }
+{
+    if let Err(v) = measures.set_if_sole(m, v) {
+        let changed = with_measure(alloc, measures.as_slice(), m, v)?;
+        *measures = changed;
+    }
+    Ok(())
+}
+
 // The measures with that of this number set to `v`.
-fn with_measure(alloc: Global, measures: &Key, m: usize, v: Value) -> Result<Key, Memory>
+fn with_measure(alloc: Global, measures: &[Value], m: usize, v: Value) -> Result<Key, Memory>
     ensures { IfOk result (λ changed. changed ≡ slice_set measures.now m v) }
 {
-    let mut values = measures.as_slice().to_vec(alloc)?;
+    if m == 0 && measures.len() == 1 {
+        let changed = Key::one(alloc, v)?;
+        return Ok(changed);
+    }
+    let mut values = measures.to_vec(alloc)?;
     if m < values.len() {
         values[m] = v;
     }

@@ -1,5 +1,6 @@
 //! The cells of a partition as the rules have left them.
-ghost use Rattle.std.specs.Prelude.{◌≡◌, [], None, false, map, IfOk};
+ghost use Rattle.std.specs.Prelude.{◌≡◌, [], None, false, length, map, IfOk};
+ghost use Rattle.std.specs.List.{zip};
 ghost use Rattle.std.specs.List.Sorted.{IsStrictlySortedBy};
 ghost use Rattle.std.specs.Map.{keys_of};
 ghost use Rattle.mq_values.specs.Order.{cmp_key};
@@ -7,6 +8,7 @@ ghost use Rattle.mq_ir.specs.Iteration.{out_cell as spec_out_cell};
 ghost use Rattle.mq_ir.specs.Unfolding.{model_of};
 ghost use Rattle.mq_dim_index.specs.Places.{is_there, with_key};
 ghost use Rattle.mq_single_lefts.specs.Conditions.{HaveLength};
+ghost use Rattle.mq_seq.specs.Marks.{marked_keys, row_of};
 ghost use Rattle.mq_seq.specs.Steps.{begun, created_in};
 ghost use Rattle.mq_seq.specs.Tracks.{assign};
 
@@ -15,35 +17,36 @@ use crate::changing::with_created;
 use crate::tracked::Tracked;
 use mq_dim_index::DimIndex;
 use mq_ir::{Model as Lent, OutCell, PartShape};
-use mq_single_lefts::KeySet;
 use mq_values::{Items, Key, Memory, Value};
 use std::alloc::Global;
 use std::marker::Model;
 
-/// The cells of a partition as the rules have left them: their keys stand in a shape too, and the keys of the targets so far
-/// in a set. Contracts see it as `State` of specs/Steps.
+/// The cells of a partition as the rules have left them: their keys stand in a shape too, and beside these a mark for each
+/// that was a target. Contracts see it as `State` of specs/Steps.
 #[derive(Drop)]
 pub struct Grid {
     cells: Tracked,
     shape: PartShape,
-    updated: KeySet,
+    marks: Vec<bool>,
     width: usize,
 }
 
 impl Model for Grid {
-    ghost use Rattle.std.specs.Prelude.{◌≡◌};
+    ghost use Rattle.std.specs.Prelude.{◌≡◌, length};
     ghost use Rattle.std.specs.List.Sorted.{IsStrictlySortedBy};
     ghost use Rattle.std.specs.Map.{keys_of};
     ghost use Rattle.mq_values.specs.Order.{cmp_key};
     ghost use Rattle.mq_single_lefts.specs.Conditions.{HaveLength};
+    ghost use Rattle.mq_seq.specs.Marks.{marked_keys};
     ghost use Rattle.mq_seq.specs.Steps.{State};
 
     ghost Value = { State };
 
-    ghost view = { λ g. record { input = g.shape.base; track = g.cells; updated = g.updated; width = g.width } };
+    ghost view = { λ g. record { input = g.shape.base; track = g.cells; updated = marked_keys g.shape.cells g.marks.items; width = g.width } };
 
     ghost invariant = { λ g. (g.shape.cells ≡ keys_of g.cells.cells)
-        × HaveLength g.width (keys_of g.cells.cells) × IsStrictlySortedBy cmp_key g.shape.base };
+        × HaveLength g.width (keys_of g.cells.cells) × IsStrictlySortedBy cmp_key g.shape.base
+        × (length g.marks.items ≡ length g.shape.cells) };
 }
 
 impl Grid {
@@ -53,8 +56,8 @@ impl Grid {
         ensures { IfOk result (λ g. g ≡ record { input = keys_of cells; track = record { cells = cells; firsts = None }; updated = []; width = width }) }
     {
         let base = keys_in(alloc, &cells)?;
-        let _count = cells.len();
-        seated(alloc, Tracked::new(cells), base, KeySet::new(alloc), width)
+        let marks = vec![in alloc; false; cells.len()]?;
+        seated(alloc, Tracked::new(cells), base, marks, width)
     }
 
     /// The keys of the input, and those of the cells; both ascend.
@@ -98,13 +101,13 @@ impl Grid {
         let Grid {
             cells,
             shape,
-            updated,
+            marks,
             width,
         } = self;
         Grid {
             cells: cells.begun(alloc),
             shape,
-            updated,
+            marks,
             width,
         }
     }
@@ -120,7 +123,7 @@ impl Grid {
         let Grid {
             cells,
             shape,
-            updated,
+            marks,
             width,
         } = self;
         if created.len() == 1
@@ -131,7 +134,7 @@ impl Grid {
                 .is_none()
         {
             let cells = with_created(alloc, m, cells, created)?;
-            let keys = with_one(cells.cells().index(), shape.cells, &created[0])?;
+            let (keys, marks) = with_one(cells.cells().index(), shape.cells, marks, &created[0])?;
             return Ok(Grid {
                 cells,
                 shape: PartShape {
@@ -139,30 +142,44 @@ impl Grid {
                     cells: keys,
                     assigned: shape.assigned,
                 },
-                updated,
+                marks,
                 width,
             });
         }
         let cells = with_created(alloc, m, cells, created)?;
-        seated(alloc, cells, shape.base, updated, width)
+        let marks = marks_among(alloc, shape.cells.as_slice(), &marks, cells.cells().keys())?;
+        seated(alloc, cells, shape.base, marks, width)
     }
 
-    /// The cells with measure `m` of the target at `key` set to `v`.
-    pub fn assigned(self, alloc: Global, key: &Key, m: u32, v: Value) -> Result<Grid, Memory>
+    /// The cells with measure `m` of the target at `key` set to `v`. The target is looked for at `near` first.
+    pub fn assigned(
+        self,
+        alloc: Global,
+        key: &Key,
+        near: usize,
+        m: u32,
+        v: Value,
+    ) -> Result<Grid, Memory>
         ensures { IfOk result (λ g. g ≡ record self { track = assign self.track key.now m v; updated = with_key self.updated key.now }) }
     {
         let Grid {
             cells,
             shape,
-            mut updated,
+            mut marks,
             width,
         } = self;
-        let cells = cells.assigned(alloc, key, m, v)?;
-        updated.put(key.copy()?)?;
+        // The cells know that their keys ascend.
+        let _keys = cells.cells().keys();
+        let Some(at) = cells.cells().place_near(key.as_slice(), near) else {
+            // A target is always a cell.
+            return Err(Memory);
+        };
+        let cells = cells.assigned_at(alloc, key, at, m, v)?;
+        marks[at] = true;
         Ok(Grid {
             cells,
             shape,
-            updated,
+            marks,
             width,
         })
     }
@@ -171,7 +188,8 @@ impl Grid {
     pub fn rows(&self, alloc: Global) -> Result<Items<OutCell>, Memory>
         ensures { IfOk result (λ rows. rows ≡ map (spec_out_cell self.now.updated) self.now.track.cells) }
     {
-        out_cells(alloc, self.cells.cells(), &self.updated)
+        let cells = self.cells.cells();
+        out_cells(alloc, cells.keys(), cells.measures(), &self.marks)
     }
 }
 
@@ -180,15 +198,15 @@ fn seated(
     alloc: Global,
     cells: Tracked,
     base: Items<Key>,
-    updated: KeySet,
+    marks: Vec<bool>,
     width: usize,
 ) -> Result<Grid, Memory>
     requires wide { HaveLength width (keys_of cells.cells) }
     requires ascends { IsStrictlySortedBy cmp_key base }
-    ensures { IfOk result (λ g. g ≡ record { input = base; track = cells; updated = updated; width = width }) }
+    requires one_each { length marks.items ≡ length (keys_of cells.cells) }
+    ensures { IfOk result (λ g. g ≡ record { input = base; track = cells; updated = marked_keys (keys_of cells.cells) marks.items; width = width }) }
 {
     let keys = keys_in(alloc, cells.cells())?;
-    let _count = cells.cells().len();
     Ok(Grid {
         cells,
         shape: PartShape {
@@ -196,45 +214,89 @@ fn seated(
             cells: keys,
             assigned: Items::new(alloc),
         },
-        updated,
+        marks,
         width,
     })
 }
 
-// The keys with one more, which the index has already. Most left sides create one cell at most, and then it is put at its
-// place; where there are several, all keys are listed anew.
-fn with_one(index: &DimIndex, keys: Items<Key>, key: &Key) -> Result<Items<Key>, Memory>
+// The keys with one more, which the index has already and which is not marked. Most left sides create one cell at most, and
+// then it is put at its place; where there are several, all keys are listed anew.
+fn with_one(
+    index: &DimIndex,
+    keys: Items<Key>,
+    marks: Vec<bool>,
+    key: &Key,
+) -> Result<(Items<Key>, Vec<bool>), Memory>
     requires one_more { index.now ≡ with_key keys key.now }
     requires new { is_there keys key.now ≡ false }
-    ensures { IfOk result (λ more. more ≡ index.now) }
+    requires one_each { length marks.items ≡ length keys }
+    ensures keys { IfOk result (λ r. r.0 ≡ index.now) }
+    ensures one_each { IfOk result (λ r. length r.1.items ≡ length index.now) }
+    ensures same { IfOk result (λ r. marked_keys index.now r.1.items ≡ marked_keys keys marks.items) }
 {
     let Some(at) = index.find(key.as_slice()) else {
         return Err(Memory);
     };
+    let at = at as usize;
     let mut keys = keys.into_vec();
-    if at as usize > keys.len() {
+    let mut marks = marks;
+    if at > keys.len() {
         return Err(Memory);
     }
-    keys.insert(at as usize, key.copy()?)?;
-    Ok(Items::from_vec(keys))
+    keys.insert(at, key.copy()?)?;
+    marks.insert(at, false)?;
+    Ok((Items::from_vec(keys), marks))
 }
 
-fn out_cells(alloc: Global, cells: &CellMap, updated: &KeySet) -> Result<Items<OutCell>, Memory>
-    ensures { IfOk result (λ rows. rows ≡ map (spec_out_cell updated.now) cells.now) }
+// The marks of the keys in `now`: each of the keys in `before` keeps its mark, and the others have none.
+fn marks_among(
+    alloc: Global,
+    before: &[Key],
+    marks: &[bool],
+    now: &[Key],
+) -> Result<Vec<bool>, Memory>
+    requires { length marks.now ≡ length before.now }
+    ensures one_each { IfOk result (λ found. length found.items ≡ length now.now) }
+    ensures same { IfOk result (λ found. marked_keys now.now found.items ≡ marked_keys before.now marks.now) }
 {
-    let mut rows = Items::with_room(alloc, cells.len());
-    for (key, measures) in cells.keys().iter().zip(cells.measures()) {
-        rows.push(out_cell(updated, key, measures)?)?;
+    let mut found = Vec::with_capacity(alloc, now.len())?;
+    let mut at = 0usize;
+    'keys: for key in now {
+        if at < before.len() && before[at].cmp(key).is_eq() {
+            found.push(marks[at])?;
+            at += 1;
+        } else {
+            found.push(false)?;
+        }
+    }
+    if at < before.len() {
+        // Both ascend, and each of the earlier keys is there still.
+        return Err(Memory);
+    }
+    Ok(found)
+}
+
+fn out_cells(
+    alloc: Global,
+    keys: &[Key],
+    measures: &[Key],
+    marks: &[bool],
+) -> Result<Items<OutCell>, Memory>
+    ensures { IfOk result (λ rows. rows ≡ map row_of (zip (zip keys.now measures.now) marks.now)) }
+{
+    let mut rows = Items::with_room(alloc, keys.len());
+    'cells: for ((key, measures), mark) in keys.iter().zip(measures).zip(marks) {
+        rows.push(out_cell(key, measures, *mark)?)?;
     }
     Ok(rows)
 }
 
-fn out_cell(updated: &KeySet, key: &Key, measures: &Key) -> Result<OutCell, Memory>
-    ensures { IfOk result (λ cell. cell ≡ spec_out_cell updated.now (key.now, measures.now)) }
+fn out_cell(key: &Key, measures: &Key, updated: bool) -> Result<OutCell, Memory>
+    ensures { IfOk result (λ cell. cell ≡ row_of ((key.now, measures.now), updated)) }
 {
     Ok(OutCell {
         key: key.copy()?,
         measures: measures.copy()?,
-        updated: updated.has(key),
+        updated,
     })
 }

@@ -1,11 +1,12 @@
 //! Cells of which it is known what stood when a turn began.
-ghost use Rattle.std.specs.Prelude.{◌≡◌, None, slice_index_or, is_some, if◌then◌else◌, IfOk};
+ghost use Rattle.std.specs.Prelude.{◌≡◌, None, Some, slice_index_or, IfOk};
 ghost use Rattle.std.specs.Map.{keys_of};
-ghost use Rattle.std.specs.Option.{IsSome, option_map};
+ghost use Rattle.std.specs.Option.{IsSome};
 ghost use Rattle.mq_values.specs.declared.value.Value.TheVariants as value;
 ghost use Rattle.mq_ir.specs.Partitions.{cell_at};
 ghost use Rattle.mq_cells.specs.Stores.{cell_name};
-ghost use Rattle.mq_seq.specs.Tracks.{assign, begun_track, measure_from, noted, noted_if_any, put};
+ghost use Rattle.mq_dim_index.specs.Places.{place_of};
+ghost use Rattle.mq_seq.specs.Tracks.{assign, begun_track, measure_from, noted_if_any, put};
 
 use crate::cell_map::CellMap;
 use crate::noted::Noted;
@@ -65,14 +66,22 @@ impl Tracked {
         Ok(Tracked { cells, noted })
     }
 
-    /// The cells with measure `m` of the cell at `key` set to `v`; where there is no such cell, they are as before.
-    pub fn assigned(self, alloc: Global, key: &Key, m: u32, v: Value) -> Result<Tracked, Memory>
+    /// The cells with measure `m` of the cell at `key`, which stands at place `at`, set to `v`.
+    pub fn assigned_at(
+        self,
+        alloc: Global,
+        key: &Key,
+        at: usize,
+        m: u32,
+        v: Value,
+    ) -> Result<Tracked, Memory>
+        requires { place_of (keys_of self.cells) key.now ≡ Some at }
         ensures cells { IfOk result (λ t. t ≡ assign self key.now m v) }
         ensures same_keys { IfOk result (λ t. keys_of t.cells ≡ keys_of self.cells) }
     {
         let Tracked { mut cells, noted } = self;
-        let noted = noted_if_there(noted, key, &cells)?;
-        cells.assign(alloc, key, m, v)?;
+        let noted = noted_with(noted, key, &cells)?;
+        cells.assign_at(alloc, at, m, v)?;
         Ok(Tracked { cells, noted })
     }
 
@@ -97,26 +106,6 @@ fn noted_with(noted: Option<Noted>, key: &Key, cells: &CellMap) -> Result<Option
 {
     match noted {
         Some(mut firsts) => {
-            firsts.note(key, cells)?;
-            Ok(Some(firsts))
-        }
-        None => Ok(None),
-    }
-}
-
-// What is noted, with the cell at `key` before it changes, where there is such a cell.
-fn noted_if_there(
-    firsts: Option<Noted>,
-    key: &Key,
-    cells: &CellMap,
-) -> Result<Option<Noted>, Memory>
-    ensures { IfOk result (λ more. more ≡ option_map (λ firsts. if is_some (cell_at cells.now key.now) then noted firsts key.now cells.now else firsts) firsts) }
-{
-    match firsts {
-        Some(mut firsts) => {
-            if cells.get(key).is_none() {
-                return Ok(Some(firsts));
-            }
             firsts.note(key, cells)?;
             Ok(Some(firsts))
         }

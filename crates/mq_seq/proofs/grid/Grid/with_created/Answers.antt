@@ -1,4 +1,4 @@
-use Rattle.std.proofs.Common.{sym, ap, ◌∙◌}
+use Rattle.std.proofs.Common.{length, sym, ap, ◌∙◌}
 use Rattle.std.specs.Map.{keys_of}
 use Rattle.mq_ir.specs.Unfolding.{model_of}
 use Rattle.mq_seq.specs.Steps.{State}
@@ -15,9 +15,9 @@ with_one-requires-clause-one_more c =
 pub invariant_of-result : goal.invariant_of-result
 invariant_of-result c =
     let grid = c.self.inside in
-    let keys = c.in_ok-keys.ensures ∙ c.index-then-is_none.ensures ∙ ap keys_of c.cells-then-is_none-2.ensures in
+    let keys = c.in_ok-keys.ensures.keys ∙ c.index-then-is_none.ensures ∙ ap keys_of c.cells-then-is_none-2.ensures in
     let wide = created_wide (model_of c.args.m.now) grid.cells c.in_ok-cells.cells c.args.created.now c.in_ok-cells.ensures grid.width c.args.self.width (ap (λ (s : State). s.width) c.self.view_is) c.self.invariant.1 c.requires in
-    (keys, wide, c.self.invariant.2)
+    (keys, wide, c.self.invariant.2, c.in_ok-keys.ensures.one_each ∙ ap length (sym c.in_ok-keys.ensures.keys))
 
 pub seated-requires-clause-wide : goal.seated-requires-clause-wide
 seated-requires-clause-wide c =
