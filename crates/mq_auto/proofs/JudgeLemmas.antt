@@ -1,9 +1,13 @@
 -- What is found of a partition: the fault of its input, or what is found of its keys.
-use Rattle.std.proofs.Common.{◌≡◌, [], Option, Some, None, Result, Ok, Err, length, refl, sym, ap, ◌∙◌}
+use Rattle.std.proofs.Common.{◌≡◌, ℕ, ◌+◌, ◌<◌, false, List, [], ◌∷◌, ◌++◌, Option, Some, None, Result, Ok, Err, Ordering, Less, Equal, Greater, get_or, length, take, refl, sym, ap, ◌∙◌}
 use Rattle.std.specs.Map.{keys_of}
 use Rattle.std.specs.Option.{option_map, option_map_or, option_or}
+use Rattle.std.specs.Ordering.{is_ne}
 use Rattle.std.specs.Prelude.{nat_lt, if◌then◌else◌}
 use Rattle.std.specs.Result.{result_unwrap_or}
+use Rattle.std.proofs.lemmas.List.{map-append, take_more}
+use Rattle.mq_values.specs.Order.{cmp_key}
+use Rattle.mq_values.specs.OrderTells.{same_key}
 use Rattle.mq_values.specs.declared.faults.FaultKind.TheVariants as kind
 use Rattle.mq_values.specs.declared.faults.QueryFault.{QueryFault}
 use Rattle.mq_values.specs.declared.limits.TheConstants.{MAX_CELLS_OF_PARTITION}
@@ -15,6 +19,7 @@ use Rattle.mq_ir.specs.declared.query.PartShape.{PartShape}
 use Rattle.mq_ir.specs.Automatic.{automatic, levelled_shape, shape_found, slot_cells, slots_in}
 use Rattle.mq_ir.specs.Iteration.{input_fault, part_result}
 use Rattle.mq_ir.specs.Keys.{Tuple}
+use Rattle.mq_ir.specs.Partitions.{Cells}
 use Rattle.mq_ir.specs.Placed.{Placed, at_partition, placed_fault}
 use Rattle.mq_ir.specs.Results.{◌>>=◌, marked}
 use Rattle.mq_ir.specs.Shape.{bare_shape}
@@ -26,6 +31,20 @@ use Rattle.mq_auto.specs.declared.verdict.Verdict.TheVariants.{Done, Broken}
 use Rattle.mq_single_lefts.specs.Conditions.{IsReady}
 use Rattle.mq_auto.specs.Findings.{IsJudged}
 use Rattle.mq_auto.specs.Meaning.{judged, result_with, verdict_on}
+
+-- one cell more at its key
+pub one_more_at : (cells : Cells) (keys : List Tuple) (i : ℕ) (cell : Tuple × Tuple) (key : Tuple) → i < length cells → i < length keys → cell ≡ get_or cells i cell → key ≡ get_or keys i key
+    → is_ne (cmp_key cell.0 key) ≡ false → keys_of (take i cells) ≡ take i keys → keys_of (take (i + 1) cells) ≡ take (i + 1) keys
+one_more_at cells keys i cell key l m at is same h =
+    ap keys_of (take_more cells i cell l ∙ ap (λ (c : Tuple × Tuple). take i cells ++ c ∷ []) (sym at))
+    ∙ map-append (λ (c : Tuple × Tuple). c.0) (take i cells) (cell ∷ [])
+    ∙ (λ j. h j ++ same_key cell.0 key (equal (cmp_key cell.0 key) same) j ∷ [])
+    ∙ sym (take_more keys i key m ∙ ap (λ (k : Tuple). take i keys ++ k ∷ []) (sym is))
+  where
+    equal : (r : Ordering) → is_ne r ≡ false → r ≡ Equal
+    equal Less e = cc
+    equal Equal e = refl
+    equal Greater e = cc
 
 -- the fault, where there is one
 abbrev fault_in : QueryFault → Result PartShape QueryFault → QueryFault
@@ -63,11 +82,16 @@ module _ (model : Model) (p : PartInput) (none : None ≡ option_map (at_partiti
   found_is = ap (λ (o : Option Placed). option_map_or Err o (levelled_shape model (keys_of p.cells))) (no_fault p.key (input_fault p) none)
 
   pub shape_judged : (shape : PartShape) (leveled : Leveled) → Ok shape ≡ shape_meant model (keys_of p.cells) → IsShapeOf model (keys_of p.cells) shape → AreRoundsOf model shape leveled.rounds → IsJudged model p (Ok (shape, leveled))
-  shape_judged shape leveled is of rounds = record { exact = by (levelled_shape model (keys_of p.cells)) refl is; rounds = (of.own, rounds) }
+  shape_judged shape leveled is of rounds =
+      record { exact = by (levelled_shape model (keys_of p.cells)) refl is; rounds = record { exact = own (levelled_shape model (keys_of p.cells)) is ∙ sym (ap (levelled_shape model) of.base); own = of.own; rounds = rounds } }
     where
       by : (r : Result PartShape Placed) → levelled_shape model (keys_of p.cells) ≡ r → Ok shape ≡ marked (at_partition []) r → Ok shape ≡ marked (at_partition p.key) (shape_found model p)
       by (Ok s) e h = h ∙ sym (ap (marked (at_partition p.key)) (found_is ∙ e))
       by (Err f) e h = cc
+
+      own : (r : Result PartShape Placed) → Ok shape ≡ marked (at_partition []) r → Ok shape ≡ r
+      own (Ok s) h = let e : shape ≡ s = cc in ap Ok e
+      own (Err f) h = cc
 
   pub fault_judged : (fault : QueryFault) (key : Tuple) → key ≡ p.key → Err fault ≡ shape_meant model (keys_of p.cells)
       → IsJudged model p (Err (record { kind = fault.kind; rule = fault.rule; partition = key; cell = fault.cell }))

@@ -4,20 +4,27 @@ use Rattle.std.specs.List.{list_any}
 use Rattle.std.specs.Option.{option_and_then, option_map}
 use Rattle.mq_ir.specs.declared.query.PartInput.{PartInput}
 use Rattle.mq_ir.specs.declared.query.PartResult.{PartResult}
+use Rattle.mq_ir.specs.declared.query.PartShape.{PartShape}
 use Rattle.mq_ir.specs.declared.query.PartResult.TheVariants.{Fault}
-use Rattle.mq_ir.specs.Automatic.{own_fault, shape_found}
+use Rattle.mq_ir.specs.Automatic.{levelled_shape, own_fault, shape_found}
 use Rattle.mq_ir.specs.Keys.{Tuple, is_among, is_same}
 use Rattle.mq_ir.specs.Placed.{at_partition}
 use Rattle.mq_ir.specs.Results.{marked}
 use Rattle.mq_ir.specs.Shape.{Assignment}
 use Rattle.mq_ir.specs.Slots.{Slots}
 use Rattle.mq_ir.specs.Unfolding.{Model}
+use Rattle.mq_levels.specs.declared.dealing.Leveled.{Leveled}
 use Rattle.mq_auto_shape.specs.Found.{AreRoundsOf, Found, shape_in}
 use Rattle.mq_auto.specs.Walks.{AreOwn}
 
--- a shape with its rounds
+-- a shape of the model with its rounds: it is what the keys of its input come to
+pub record IsLevelled (model : Model) (found : PartShape × Leveled) : Type 0 where
+  pub exact : Ok found.0 ≡ levelled_shape model found.0.base
+  pub own : AreOwn found.0
+  pub rounds : AreRoundsOf model found.0 found.1.rounds
+
 abbrev pub HasRounds : Model → Found → Type 0
-HasRounds model (Ok (shape, leveled)) = AreOwn shape × AreRoundsOf model shape leveled.rounds
+HasRounds model (Ok found) = IsLevelled model found
 HasRounds model (Err fault) = Unit {0}
 
 -- what is found of a partition: its shape or the first fault, and with the shape its rounds

@@ -1,12 +1,13 @@
 //! What is found of a partition before its values.
-ghost use Rattle.std.specs.Prelude.{◌≡◌, Ok, Err, IfOk};
+ghost use Rattle.std.specs.Prelude.{◌≡◌, true, None, Ok, Err, IfOk, IfSome};
+ghost use Rattle.std.specs.Map as map;
 ghost use Rattle.std.specs.Option.{option_map};
 ghost use Rattle.mq_ir.specs.Automatic.{shape_found};
 ghost use Rattle.mq_ir.specs.Iteration as spec;
 ghost use Rattle.mq_ir.specs.Placed.{at_partition};
 ghost use Rattle.mq_ir.specs.Unfolding.{model_of};
 ghost use Rattle.mq_single_lefts.specs.Conditions.{IsReady};
-ghost use Rattle.mq_auto.specs.Findings.{IsJudged};
+ghost use Rattle.mq_auto.specs.Findings.{IsJudged, IsLevelled};
 
 use crate::input_keys::keys_of;
 use mq_auto_shape::shape_of;
@@ -35,6 +36,51 @@ pub fn judge(
         Ok(found) => Ok(Ok(found)),
         Err(fault) => Ok(Err(in_partition(fault, key))),
     }
+}
+
+/// The same, where a shape of the model was found before with its rounds: it serves where the input has no fault and its
+/// cells are at the same keys.
+pub fn judge_after(
+    alloc: Global,
+    m: &Model<'_>,
+    p: &PartInput,
+    last: Option<(PartShape, Leveled)>,
+) -> Result<Result<(PartShape, Leveled), QueryFault>, Memory>
+    requires ready { IsReady m.now.part.now p.now }
+    requires last { IfSome last (IsLevelled (model_of m.now)) }
+    ensures { IfOk result (IsJudged (model_of m.now) p.now) }
+{
+    if let Some(found) = last {
+        if serves(p, &found.0) {
+            return Ok(Ok(found));
+        }
+    }
+    judge(alloc, m, p)
+}
+
+// Whether a shape serves for an input.
+fn serves(p: &PartInput, shape: &PartShape) -> bool
+    ensures sound { result ≡ true → spec.input_fault p.now ≡ None }
+    ensures same { result ≡ true → map.keys_of p.now.cells ≡ shape.now.base }
+{
+    p.repeated.is_none()
+        && p.cells.len() <= MAX_CELLS_OF_PARTITION
+        && are_at(p.cells.as_slice(), shape.base.as_slice())
+}
+
+// Whether these cells are at these keys, one at each.
+fn are_at(cells: &[(Key, Key)], keys: &[Key]) -> bool
+    ensures { result ≡ true → map.keys_of cells.now ≡ keys.now }
+{
+    if cells.len() != keys.len() {
+        return false;
+    }
+    for i in 0..cells.len() {
+        if cells[i].0.cmp(&keys[i]).is_ne() {
+            return false;
+        }
+    }
+    true
 }
 
 // Why the rules may not begin with this input: a tuple stands twice, or there are too many cells.

@@ -8,8 +8,8 @@ pub walk_rounds-requires : goal.walk_rounds-requires
 walk_rounds-requires g c =
     let judged = rw c.in-Ok.is at c.in_ok-judged.ensures in
     record {
-      own = judged.rounds.0;
-      rounds = subst (AreRoundsOf (model_of c.args.m.now) c.in-Ok.shape) (sym c.as_slice.ensures) judged.rounds.1;
+      own = judged.rounds.own;
+      rounds = subst (AreRoundsOf (model_of c.args.m.now) c.in-Ok.shape) (sym c.as_slice.ensures) judged.rounds.rounds;
     }
 
 pub returns-in_ok-walk_rounds-in-Ok-clause-verdict : goal.returns-in_ok-walk_rounds-in-Ok-clause-verdict
