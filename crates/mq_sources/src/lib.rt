@@ -8,6 +8,7 @@ mod faults;
 mod joined_rows;
 mod lists;
 mod sources;
+mod whole_tables;
 
 pub use arrays::references_over;
 pub use lists::lists_over;

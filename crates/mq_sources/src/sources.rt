@@ -7,6 +7,7 @@ ghost use Rattle.mq_ir.specs.Results.{marked};
 ghost use Rattle.mq_join.specs.Rows.{rows_in};
 
 use crate::joined_rows::{JoinedRow, joined_rows};
+use crate::whole_tables::whole_rows;
 use mq_group::{groups, items};
 use mq_ir::{FromPart, ItemPart};
 use mq_join::base_rows_in;
@@ -17,6 +18,21 @@ use std::alloc::Global;
 /// The items of a query for each base row or group over these tables, or the first fault: all filters come before all
 /// items (docs/MEANING.md, "Groups and items"). A fault has no rule, no partition and no cell.
 pub fn items_over<T: TableSet>(
+    alloc: Global,
+    tables: &T,
+    from: &FromPart,
+    part: &ItemPart,
+) -> Result<Items<Key>, Fail<QueryFault>>
+    ensures { Gives result (marked (plain_fault 0) (spec.items_over (T.tables tables.now) from.now part.now)) }
+{
+    match whole_rows(alloc, tables, from, part)? {
+        Some(rows) => Ok(rows),
+        None => items_walked(alloc, tables, from, part),
+    }
+}
+
+// The same by a walk over the base rows.
+fn items_walked<T: TableSet>(
     alloc: Global,
     tables: &T,
     from: &FromPart,

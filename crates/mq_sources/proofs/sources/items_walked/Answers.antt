@@ -8,7 +8,7 @@ use Rattle.mq_ir.specs.Results.{marked}
 use Rattle.mq_join.specs.Rows.{rows_in}
 use Rattle.mq_sources.specs.declared.joined_rows.JoinedRow.{JoinedRow}
 use Rattle.mq_sources.proofs.FaultLemmas.{first_exit, then_second}
-use Rattle.mq_sources.proofs.sources.items_over.Goals as goal
+use Rattle.mq_sources.proofs.sources.items_walked.Goals as goal
 
 pub returns-in_err-base : goal.returns-in_err-base
 returns-in_err-base g c =
