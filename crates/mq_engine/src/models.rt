@@ -1,8 +1,9 @@
 //! The rows of a query with MODEL: its partitions one after another, ascending.
-ghost use Rattle.std.specs.Prelude.{◌≡◌, []};
+ghost use Rattle.std.specs.Prelude.{◌≡◌, [], IfOk};
 ghost use Rattle.std.specs.List.{All};
 ghost use Rattle.mq_values.specs.Answers.{Gives, result_map};
 ghost use Rattle.mq_ir.specs.Answer as spec;
+ghost use Rattle.mq_ir.specs.Partitions as input;
 ghost use Rattle.mq_ir.specs.Placed.{at_partition};
 ghost use Rattle.mq_ir.specs.References.{reference_over};
 ghost use Rattle.mq_ir.specs.Results.{each, each_in_turn, marked};
@@ -18,7 +19,7 @@ use mq_ir::{Model as Lent, ModelPart, OutCell, PartInput, PartResult, RefArray};
 use mq_shape::partitions;
 use mq_sources::{lists_over, references_over};
 use mq_tables::TableSet;
-use mq_values::{Fail, FaultKind, Items, Key, MAX_CELLS_OF_QUERY, QueryFault};
+use mq_values::{Fail, FaultKind, Items, Key, MAX_CELLS_OF_QUERY, Memory, QueryFault};
 use std::alloc::Global;
 use std::marker::Model;
 
@@ -27,11 +28,11 @@ use std::marker::Model;
 pub fn model_rows<T: TableSet>(
     alloc: Global,
     tables: &T,
-    items: &[Key],
+    items: Items<Key>,
     part: &ModelPart,
 ) -> Result<Vec<ModelRow>, Fail<QueryFault>>
-    requires { MayRun part.now items.now }
-    ensures { Gives (result_map (λ rows. rows.items) result) (spec.model_rows (T.tables tables.now) items.now part.now) }
+    requires { MayRun part.now items }
+    ensures { Gives (result_map (λ rows. rows.items) result) (spec.model_rows (T.tables tables.now) items part.now) }
 {
     let refs = arrays_over(alloc, tables, part)?;
     let lists = lists_over(alloc, tables, part)?;
@@ -40,8 +41,15 @@ pub fn model_rows<T: TableSet>(
         lists: lists.as_slice(),
         refs: refs.as_slice(),
     };
-    let inputs = partitions(alloc, part, items)?;
+    let inputs = inputs_of(alloc, part, items)?;
     all_partitions(alloc, &model, &inputs)
+}
+
+// The partitions of these items, which are let go before the rules run: their values stand in the cells.
+fn inputs_of(alloc: Global, part: &ModelPart, items: Items<Key>) -> Result<Items<PartInput>, Memory>
+    ensures { IfOk result (λ inputs. inputs ≡ input.partitions part.now items) }
+{
+    partitions(alloc, part, items.as_slice())
 }
 
 // The arrays of the references, or the first fault of one of them.
