@@ -15,6 +15,7 @@ ghost use Rattle.mq_engine.specs.Models.{MayRun, gathered_rows};
 use crate::faults::partition_fault;
 use crate::model_rows::ModelRow;
 use crate::results::result_of;
+use mq_auto::AutoRunner;
 use mq_ir::{Model as Lent, ModelPart, OutCell, PartInput, PartResult, RefArray};
 use mq_shape::partitions;
 use mq_sources::{lists_over, references_over};
@@ -76,7 +77,7 @@ fn all_partitions(
     Ok(gathered.rows)
 }
 
-// What all partitions make, one after another.
+// What all partitions make, one after another; one runner runs over them all.
 fn gathered_of(
     alloc: Global,
     m: &Lent<'_>,
@@ -85,9 +86,10 @@ fn gathered_of(
     requires { All (IsReady m.now.part.now) inputs.now }
     ensures { Gives result (each_in_turn (spec.partition_step (model_of m.now)) inputs.now (0, [])) }
 {
+    let mut runner = AutoRunner::new(m);
     let mut gathered = Gathered::new(alloc);
     for p in inputs {
-        gathered = with_partition(alloc, m, p, gathered)?;
+        gathered = with_partition(alloc, m, p, &mut runner, gathered)?;
     }
     Ok(gathered)
 }
@@ -127,12 +129,15 @@ fn with_partition(
     alloc: Global,
     m: &Lent<'_>,
     p: &PartInput,
+    runner: &mut AutoRunner<'_>,
     gathered: Gathered,
 ) -> Result<Gathered, Fail<QueryFault>>
-    requires { IsReady m.now.part.now p.now }
-    ensures { Gives result (spec.partition_step (model_of m.now) p.now gathered) }
+    requires ready { IsReady m.now.part.now p.now }
+    requires runner { runner.old ≡ model_of m.now }
+    ensures exact { Gives result (spec.partition_step (model_of m.now) p.now gathered) }
+    ensures same { runner.new ≡ runner.old }
 {
-    match result_of(alloc, m, p)? {
+    match result_of(alloc, m, p, runner)? {
         PartResult::Rows(cells) => with_cells(m, &p.key, gathered, cells),
         PartResult::Fault(fault) => Err(Fail::Cause(fault)),
     }
