@@ -1,8 +1,9 @@
 //! The rows of a query with MODEL: its partitions one after another, ascending.
-ghost use Rattle.std.specs.Prelude.{◌≡◌, []};
+ghost use Rattle.std.specs.Prelude.{◌≡◌, [], IfOk};
 ghost use Rattle.std.specs.List.{All};
 ghost use Rattle.mq_values.specs.Answers.{Gives, result_map};
 ghost use Rattle.mq_ir.specs.Answer as spec;
+ghost use Rattle.mq_ir.specs.Partitions as input;
 ghost use Rattle.mq_ir.specs.Placed.{at_partition};
 ghost use Rattle.mq_ir.specs.References.{reference_over};
 ghost use Rattle.mq_ir.specs.Results.{each, each_in_turn, marked};
@@ -14,11 +15,12 @@ ghost use Rattle.mq_engine.specs.Models.{MayRun, gathered_rows};
 use crate::faults::partition_fault;
 use crate::model_rows::ModelRow;
 use crate::results::result_of;
+use mq_auto::AutoRunner;
 use mq_ir::{Model as Lent, ModelPart, OutCell, PartInput, PartResult, RefArray};
 use mq_shape::partitions;
 use mq_sources::{lists_over, references_over};
 use mq_tables::TableSet;
-use mq_values::{Fail, FaultKind, Items, Key, MAX_CELLS_OF_QUERY, QueryFault};
+use mq_values::{Fail, FaultKind, Items, Key, MAX_CELLS_OF_QUERY, Memory, QueryFault};
 use std::alloc::Global;
 use std::marker::Model;
 
@@ -27,11 +29,11 @@ use std::marker::Model;
 pub fn model_rows<T: TableSet>(
     alloc: Global,
     tables: &T,
-    items: &[Key],
+    items: Items<Key>,
     part: &ModelPart,
 ) -> Result<Vec<ModelRow>, Fail<QueryFault>>
-    requires { MayRun part.now items.now }
-    ensures { Gives (result_map (λ rows. rows.items) result) (spec.model_rows (T.tables tables.now) items.now part.now) }
+    requires { MayRun part.now items }
+    ensures { Gives (result_map (λ rows. rows.items) result) (spec.model_rows (T.tables tables.now) items part.now) }
 {
     let refs = arrays_over(alloc, tables, part)?;
     let lists = lists_over(alloc, tables, part)?;
@@ -40,8 +42,15 @@ pub fn model_rows<T: TableSet>(
         lists: lists.as_slice(),
         refs: refs.as_slice(),
     };
-    let inputs = partitions(alloc, part, items)?;
+    let inputs = inputs_of(alloc, part, items)?;
     all_partitions(alloc, &model, &inputs)
+}
+
+// The partitions of these items, which are let go before the rules run: their values stand in the cells.
+fn inputs_of(alloc: Global, part: &ModelPart, items: Items<Key>) -> Result<Items<PartInput>, Memory>
+    ensures { IfOk result (λ inputs. inputs ≡ input.partitions part.now items) }
+{
+    partitions(alloc, part, items.as_slice())
 }
 
 // The arrays of the references, or the first fault of one of them.
@@ -68,7 +77,7 @@ fn all_partitions(
     Ok(gathered.rows)
 }
 
-// What all partitions make, one after another.
+// What all partitions make, one after another; one runner runs over them all.
 fn gathered_of(
     alloc: Global,
     m: &Lent<'_>,
@@ -77,9 +86,10 @@ fn gathered_of(
     requires { All (IsReady m.now.part.now) inputs.now }
     ensures { Gives result (each_in_turn (spec.partition_step (model_of m.now)) inputs.now (0, [])) }
 {
+    let mut runner = AutoRunner::new(m);
     let mut gathered = Gathered::new(alloc);
     for p in inputs {
-        gathered = with_partition(alloc, m, p, gathered)?;
+        gathered = with_partition(alloc, m, p, &mut runner, gathered)?;
     }
     Ok(gathered)
 }
@@ -119,12 +129,15 @@ fn with_partition(
     alloc: Global,
     m: &Lent<'_>,
     p: &PartInput,
+    runner: &mut AutoRunner<'_>,
     gathered: Gathered,
 ) -> Result<Gathered, Fail<QueryFault>>
-    requires { IsReady m.now.part.now p.now }
-    ensures { Gives result (spec.partition_step (model_of m.now) p.now gathered) }
+    requires ready { IsReady m.now.part.now p.now }
+    requires runner { runner.old ≡ model_of m.now }
+    ensures exact { Gives result (spec.partition_step (model_of m.now) p.now gathered) }
+    ensures same { runner.new ≡ runner.old }
 {
-    match result_of(alloc, m, p)? {
+    match result_of(alloc, m, p, runner)? {
         PartResult::Rows(cells) => with_cells(m, &p.key, gathered, cells),
         PartResult::Fault(fault) => Err(Fail::Cause(fault)),
     }

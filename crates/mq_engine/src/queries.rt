@@ -40,7 +40,7 @@ fn rows_over<T: TableSet>(
 {
     let items = items_over(alloc, tables, &q.from, &q.items)?;
     match &q.model {
-        Some(part) => shown_cells(alloc, tables, q, part, items.as_slice()),
+        Some(part) => shown_cells(alloc, tables, q, part, items),
         None => Ok(shown_items(alloc, q, items)?),
     }
 }
@@ -51,10 +51,10 @@ fn shown_cells<T: TableSet>(
     tables: &T,
     q: &BoundQuery,
     part: &ModelPart,
-    items: &[Key],
+    items: Items<Key>,
 ) -> Result<Items<Key>, Fail<QueryFault>>
-    requires { MayRun part.now items.now }
-    ensures { Gives result (result_map (printing.printed_rows q.now) (spec.model_rows (T.tables tables.now) items.now part.now)) }
+    requires { MayRun part.now items }
+    ensures { Gives result (result_map (printing.printed_rows q.now) (spec.model_rows (T.tables tables.now) items part.now)) }
 {
     let rows = model_rows(alloc, tables, items, part)?;
     Ok(printed_rows(alloc, q, rows)?)

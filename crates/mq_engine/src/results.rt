@@ -4,21 +4,28 @@ ghost use Rattle.mq_ir.specs.Answer.{result_in};
 ghost use Rattle.mq_ir.specs.Unfolding.{model_of};
 ghost use Rattle.mq_single_lefts.specs.Conditions.{IsReady};
 
-use mq_auto::run_auto;
+use mq_auto::AutoRunner;
 use mq_ir::{Model, PartInput, PartResult};
 use mq_seq::run_seq;
 use mq_values::Memory;
 use std::alloc::Global;
 
 /// What the rules of a model make of a partition, in automatic or sequential order as the model says: its cells, or the
-/// first fault (docs/MEANING.md, "Answers"). `Memory` is the only error.
-pub fn result_of(alloc: Global, m: &Model<'_>, p: &PartInput) -> Result<PartResult, Memory>
-    requires { IsReady m.now.part.now p.now }
-    ensures { IfOk result (λ r. r ≡ result_in (model_of m.now) p.now) }
+/// first fault (docs/MEANING.md, "Answers"). The runner runs the model over its partitions where the order is automatic.
+/// `Memory` is the only error.
+pub fn result_of(
+    alloc: Global,
+    m: &Model<'_>,
+    p: &PartInput,
+    runner: &mut AutoRunner<'_>,
+) -> Result<PartResult, Memory>
+    requires ready { IsReady m.now.part.now p.now }
+    requires runner { runner.old ≡ model_of m.now }
+    ensures exact { IfOk result (λ r. r ≡ result_in (model_of m.now) p.now) }
+    ensures same { runner.new ≡ runner.old }
 {
     if m.part.auto {
-        let (_shape, result) = run_auto(alloc, m, p)?;
-        Ok(result)
+        runner.run(alloc, p)
     } else {
         run_seq(alloc, m, p)
     }

@@ -7,10 +7,10 @@ use Rattle.mq_engine.proofs.RowLemmas.{rows_gathered}
 use Rattle.mq_engine.proofs.models.model_rows.Goals as goal
 
 pub all_partitions-requires : goal.all_partitions-requires
-all_partitions-requires g c = subst (All (IsReady c.args.part.now)) (sym c.in_ok-inputs.ensures) (all_ready c.args.part.now c.args.items.now c.requires)
+all_partitions-requires g c = subst (All (IsReady c.args.part.now)) (sym c.in_ok-inputs.ensures) (all_ready c.args.part.now c.args.items c.requires)
 
 pub returns : goal.returns
 returns g c =
-    rows_gathered (g.T.TableSet.tables c.args.tables.now) c.args.part.now c.args.items.now (cells_of_arrays c.as_slice-2.result.now) c.as_slice.result.now c.in_ok-inputs.inputs _
+    rows_gathered (g.T.TableSet.tables c.args.tables.now) c.args.part.now c.args.items (cells_of_arrays c.as_slice-2.result.now) c.as_slice.result.now c.in_ok-inputs.inputs _
     (c.in_ok-refs.ensures ∙ ap (λ arrays. Ok (cells_of_arrays arrays)) (sym c.as_slice-2.ensures))
     (c.in_ok-lists.ensures ∙ ap Ok (sym c.as_slice.ensures)) c.in_ok-inputs.ensures c.all_partitions.ensures

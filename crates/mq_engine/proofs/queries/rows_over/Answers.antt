@@ -1,11 +1,7 @@
-use Rattle.std.proofs.Common.{List, sym, ap, ◌∙◌, subst}
+use Rattle.std.proofs.Common.{subst}
 use Rattle.std.specs.Option.{IfSome}
 use Rattle.std.proofs.lemmas.Result.{err_from_is_err_and}
-use Rattle.mq_values.specs.Answers.{Gives, result_map}
-use Rattle.mq_ir.specs.Answer.{model_rows}
-use Rattle.mq_ir.specs.Partitions.{Tuple}
-use Rattle.mq_ir.specs.Printing.{printed_rows}
-use Rattle.mq_engine.specs.Models.{MayRun}
+use Rattle.mq_values.specs.Answers.{Gives}
 use Rattle.mq_engine.specs.Queries.{HasModel}
 use Rattle.mq_engine.proofs.AnswerLemmas.{items_have, may_run, no_items, with_model, without_model}
 use Rattle.mq_engine.proofs.queries.rows_over.Goals as goal
@@ -21,15 +17,14 @@ shown_cells-requires g c =
     let items = c.in_ok-items.items in
     let long = items_have (g.T.TableSet.tables c.args.tables.now) q.from q.items items c.in_ok-items.ensures in
     let model = subst (λ o. IfSome o (HasModel q)) c.in-Some.is c.requires in
-    subst (MayRun c.in-Some.part) (sym c.as_slice.ensures) (may_run q c.in-Some.part items model long)
+    may_run q c.in-Some.part items model long
 
 pub returns-in-Some : goal.returns-in-Some
 returns-in-Some g c =
     let tables = g.T.TableSet.tables c.args.tables.now in
     let q = c.args.q.now in
     subst (Gives c.shown_cells.result)
-    (ap (λ (items : List Tuple). result_map (printed_rows q) (model_rows tables items c.in-Some.part)) c.as_slice.ensures
-    ∙ with_model tables q c.in_ok-items.items c.in-Some.part c.in_ok-items.ensures c.in-Some.is)
+    (with_model tables q c.in_ok-items.items c.in-Some.part c.in_ok-items.ensures c.in-Some.is)
     c.shown_cells.ensures
 
 pub shown_items-requires : goal.shown_items-requires
