@@ -1,5 +1,6 @@
 pub mod ColumnLemmas
 pub mod FaultLemmas
+pub mod GridLemmas
 pub mod LookedLemmas
 pub mod PlaceLemmas
 pub mod SearchLemmas

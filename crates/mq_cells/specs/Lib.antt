@@ -2,5 +2,6 @@ pub mod AscentLaws
 pub mod Ascents
 pub mod Columns
 pub mod Faults
+pub mod Grids
 pub mod Looked
 pub mod Stores

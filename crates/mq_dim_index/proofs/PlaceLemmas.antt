@@ -55,7 +55,7 @@ module _ {K : Type 0} {R : K → K → Ordering} (o : IsTotalOrder R) (x : K) wh
       ∙ ap (λ l. y ∷ l) (kept_here ys at s.1 (omega arith) h)
 
   -- the place of x
-  found_here : (ys : List K) (at : ℕ) → IsStrictlySortedBy R ys → at < length ys → HoldsAt (λ y. R y x ≡ Equal) ys at → position (is_at (R x)) ys ≡ Some at
+  pub found_here : (ys : List K) (at : ℕ) → IsStrictlySortedBy R ys → at < length ys → HoldsAt (λ y. R y x ≡ Equal) ys at → position (is_at (R x)) ys ≡ Some at
   found_here ys at s l h = (λ i. cond (ltb (first i) (length ys)) (Some (first i)) None) ∙ ap (λ b. cond b (Some at) None) ((Decides-ltb at (length ys)).1 l)
     where
       first : position_or_len (is_at (R x)) ys ≡ at

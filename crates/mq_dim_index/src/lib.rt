@@ -4,6 +4,8 @@
 #![tactic(auto)]
 
 mod dim_index;
+mod near;
 mod search;
 
 pub use dim_index::DimIndex;
+pub use near::place_near;

@@ -4,7 +4,6 @@ mod LeftLemmas
 mod MapLemmas
 mod MarkLemmas
 mod MeaningLemmas
-mod NearLemmas
 mod NoteLemmas
 mod PlaceLemmas
 mod StepLemmas

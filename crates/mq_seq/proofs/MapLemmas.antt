@@ -1,20 +1,25 @@
 -- Cells whose keys stand in one list, and their measures at the same places of another.
-use Rattle.std.proofs.Common.{◌≡◌, ℕ, suc, ◌+◌, ◌<◌, ◌≤◌, List, [], ◌∷◌, Bool, true, false, not, ◌||◌, cond, get_or, length, Some, None, Ordering, Less, Equal, Greater, refl, sym, ap, ◌∙◌, ◌⊎◌, inl, inr, arith}
-use Rattle.std.specs.Prelude.{nat_lt, slice_get, slice_set}
+use Rattle.std.proofs.Common.{◌≡◌, ℕ, suc, ◌+◌, ◌<◌, ◌≤◌, List, [], ◌∷◌, Bool, true, false, not, ◌||◌, cond, get_or, length, Option, Some, None, Ordering, Less, Equal, Greater, refl, sym, ap, ◌∙◌, ◌⊎◌, inl, inr, arith}
+use Rattle.std.specs.Prelude.{nat_lt, slice_get, slice_index_or, slice_set}
 use Rattle.std.specs.BTreeMap.{is_at}
 use Rattle.std.specs.List.{AllByRecursion, insert, zip}
 use Rattle.std.specs.List.Sorted.{IsStrictlySortedBy}
 use Rattle.std.specs.Map.{keys_of, values_of}
+use Rattle.std.specs.Option.{option_map_or}
 use Rattle.std.specs.Ordering.{is_eq, match_ordering}
 use Rattle.std.proofs.lemmas.Bool.Decides.{Decides-ltb}
 use Rattle.std.proofs.lemmas.Bool.{cases_lt}
 use Rattle.std.proofs.lemmas.List.Quantifiers.{position-Some}
+use Rattle.std.proofs.lemmas.Map.Entries.{length-keys_of, length-values_of}
 use Rattle.std.proofs.lemmas.Map.Keys.{any_passes_from_place, sorted_head, sorted_tail}
 use Rattle.std.proofs.lemmas.Option.{slice_get_past, slice_get_read, slice_get-get_or}
 use Rattle.mq_values.specs.Order.{cmp_key}
 use Rattle.mq_values.specs.OrderLaws.{key_total}
+use Rattle.mq_values.specs.declared.value.Value.TheVariants.{Null}
 use Rattle.mq_ir.specs.Keys.{Tuple}
 use Rattle.mq_ir.specs.Partitions.{Cells, cell_at, with_cell}
+use Rattle.mq_ir.specs.Reads.{measure_at}
+use Rattle.mq_cells.specs.Stores.{cell_name}
 use Rattle.mq_dim_index.specs.Places.{is_there, place_of, with_key}
 use Rattle.mq_seq.proofs.PlaceLemmas.{first_place, place_in, the_place}
 
@@ -202,3 +207,9 @@ pub sole_set : {A : Type 0} (xs : List A) (m : ℕ) (x : A) → m ≡ 0 → leng
 sole_set [] m x e h = absurd (omega arith)
 sole_set (y ∷ []) m x e h = sym (ap (λ n. slice_set (y ∷ []) n x) e)
 sole_set (y ∷ z ∷ zs) m x e h = absurd (omega arith)
+
+-- no measure is read where no cell has the key
+pub nothing_there : (cells : Cells) (key : Tuple) (m : ℕ) → place_of (keys_of cells) key ≡ None → measure_at cells (cell_name key m) ≡ Null
+nothing_there cells key m e =
+    ap (λ (o : Option Tuple). option_map_or (λ (ms : Tuple). slice_index_or ms m Null) o Null)
+    (ap (λ es. cell_at es key) (sym (parted cells)) ∙ no_measures key (keys_of cells) (values_of cells) (length-values_of cells ∙ sym (length-keys_of cells)) e)

@@ -11,8 +11,7 @@ ghost use Rattle.mq_ir.specs.Reads.{measure_at};
 ghost use Rattle.mq_cells.specs.Stores.{cell_name};
 ghost use Rattle.mq_dim_index.specs.Places.{is_there, place_of};
 
-use crate::near::place_in;
-use mq_dim_index::DimIndex;
+use mq_dim_index::{DimIndex, place_near};
 use mq_values::{Items, Key, Memory, Value};
 use std::alloc::Global;
 use std::marker::Model;
@@ -108,7 +107,7 @@ impl CellMap {
     pub fn place_near(&self, key: &[Value], near: usize) -> Option<usize>
         ensures { result ≡ place_of (keys_of self.now) key.now }
     {
-        place_in(&self.keys, key, near)
+        place_near(self.keys.keys(), key, near)
     }
 
     /// Measure `m` of the cell at place `at`, or null where there is none.

@@ -10,7 +10,6 @@ mod changing;
 mod grid;
 mod lefts;
 mod lent_values;
-mod near;
 mod noted;
 mod outcomes;
 mod prepared;

@@ -1,5 +1,5 @@
 use Rattle.std.proofs.Common.{sym}
-use Rattle.mq_seq.proofs.NearLemmas.{nothing_there}
+use Rattle.mq_seq.proofs.MapLemmas.{nothing_there}
 use Rattle.mq_seq.proofs.lent_values.LentValuesWorths.value.Goals as goal
 
 pub returns-in-None-clause-exact : goal.returns-in-None-clause-exact

@@ -1,8 +1,8 @@
 use Rattle.std.proofs.Common.{ap, sym, ◌∙◌}
 use Rattle.std.specs.Ordering.{is_eq}
 use Rattle.mq_values.specs.Order.{cmp_key}
-use Rattle.mq_seq.proofs.NearLemmas.{stands_here}
-use Rattle.mq_seq.proofs.near.place_if_there.Goals as goal
+use Rattle.mq_dim_index.proofs.NearLemmas.{stands_here}
+use Rattle.mq_dim_index.proofs.near.place_if_there.Goals as goal
 
 pub returns-in-Some : goal.returns-in-Some
 returns-in-Some c =

@@ -4,20 +4,21 @@ ghost use Rattle.std.specs.List.Sorted.{IsStrictlySortedBy};
 ghost use Rattle.mq_values.specs.Order.{cmp_key};
 ghost use Rattle.mq_dim_index.specs.Places.{place_of};
 
-use mq_dim_index::DimIndex;
+use crate::search::search;
 use mq_values::{Key, Value};
 use std::cmp::Ordering;
 
-/// The number of the place at which `key` stands, or `None` where it is not there. The place `near` and the one beside it
-/// on the side of the key are looked at before all others.
-pub fn place_in(index: &DimIndex, key: &[Value], near: usize) -> Option<usize>
-    ensures { result ≡ place_of index.now key.now }
+/// The number of the place at which `key` stands among these ascending keys, or `None` where it is not there. The place `near`
+/// and the one beside it on the side of the key are looked at before all others.
+pub fn place_near(keys: &[Key], key: &[Value], near: usize) -> Option<usize>
+    requires { IsStrictlySortedBy cmp_key keys.now }
+    ensures { result ≡ place_of keys.now key.now }
 {
-    match place_around(index.keys(), key, near) {
+    match place_around(keys, key, near) {
         Some(at) => Some(at),
-        None => match index.find(key) {
-            Some(at) => Some(at as usize),
-            None => None,
+        None => match search(keys, key) {
+            Ok(at) => Some(at),
+            Err(_) => None,
         },
     }
 }
