@@ -4,4 +4,5 @@ pub mod GridLemmas
 pub mod LookedLemmas
 pub mod PlaceLemmas
 pub mod SearchLemmas
+pub mod SoundLemmas
 pub mod WholeLemmas

@@ -1,5 +1,5 @@
 -- Cells in order, and what a search among them finds.
-use Rattle.std.proofs.Common.{◌≡◌, ℕ, zero, suc, ◌<◌, [], ◌∷◌, false, length, get_or, Some, None, Result, Ok, Err, Less, Equal, refl, sym, subst, ap, ◌∙◌, arith}
+use Rattle.std.proofs.Common.{◌≡◌, ℕ, zero, suc, ◌<◌, [], ◌∷◌, true, false, length, get_or, Some, None, Result, Ok, Err, Ordering, Less, Equal, Greater, refl, sym, subst, ap, ◌∙◌, arith}
 use Rattle.std.specs.BTreeMap.{is_at}
 use Rattle.std.specs.List.Sorted.{IsBinarySearchResult, IsStrictlySortedBy}
 use Rattle.std.specs.Ordering.{is_eq, on}
@@ -12,6 +12,11 @@ use Rattle.mq_ir.specs.Partitions.{Cells, cell_at}
 use Rattle.mq_cells.specs.Ascents.{CellsAscend}
 use Rattle.mq_cells.specs.AscentLaws.{at_no_place, turned}
 
+pub is_equal : (r : Ordering) → is_eq r ≡ true → r ≡ Equal
+is_equal Less h = cc
+is_equal Equal h = refl
+is_equal Greater h = cc
+
 module _ (key : Tuple) where
   no_cell : (cells : Cells) → ((k : ℕ) (d : Tuple × Tuple) → k < length cells → is_same key (get_or cells k d).0 ≡ false) → cell_at cells key ≡ None
   no_cell [] h = refl
@@ -21,7 +26,7 @@ module _ (key : Tuple) where
   missed_cell cells (Ok place) at s told is = cc
   missed_cell cells (Err place) at s told is = sym (no_cell cells (at_no_place (λ (cell : Tuple × Tuple). cell.0) cells key s place told))
 
-  first_cell : (cells : Cells) (at : ℕ) (d : Tuple × Tuple) → CellsAscend cells → at < length cells → cmp_key (get_or cells at d).0 key ≡ Equal → cell_at cells key ≡ Some (get_or cells at d).1
+  pub first_cell : (cells : Cells) (at : ℕ) (d : Tuple × Tuple) → CellsAscend cells → at < length cells → cmp_key (get_or cells at d).0 key ≡ Equal → cell_at cells key ≡ Some (get_or cells at d).1
   unfolding IsStrictlySortedBy
   first_cell [] at d s l h = absurd (omega arith)
   first_cell (e ∷ es) zero d s l h = lookup_head (is_at (cmp_key key)) e es (ap is_eq (turned e.0 key Equal h))

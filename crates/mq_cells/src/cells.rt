@@ -1,8 +1,12 @@
 //! What every store of cells does.
 ghost use Rattle.std.specs.Prelude.{◌≡◌, ◌≤◌, ℕ, Option, Some, None, length, IfOk, IfSome, OnOk, OnErr};
+ghost use Rattle.mq_ir.specs.declared.query.CellName.{CellName};
+ghost use Rattle.mq_ir.specs.declared.query.Slot.TheVariants.{Done};
+ghost use Rattle.mq_cells.specs.GridStores.{value_lent};
 ghost use Rattle.mq_cells.specs.Stores.{CellInput, IsWhole, Results, DiffersAt, cell_name, counted, first_faulted, slot_at};
 ghost use Rattle.mq_cells.specs.declared.bounds.TheConstants.{MAX_ASSIGNMENTS};
 
+use crate::lent::LentCells;
 use mq_ir::{PartShape, Slot};
 use mq_values::{Key, Memory};
 use std::alloc::Global;
@@ -33,6 +37,11 @@ pub trait Cells {
     /// nothing: a store answers it wherever it has no such tuple at hand. Nothing is read, and no memory is taken.
     fn whole(&self, key: &Key, count: u32) -> Option<&Key>
         ensures { IfSome result (λ measures. IsWhole (input self.now) (results self.now) key.now count measures.now) };
+
+    /// The values of all measures, lent, where each measure has one: none is a fault or poisoned. `None` says nothing: a store
+    /// answers it too where it has them not at hand. What is read of what is lent is not counted. It takes no memory.
+    fn lent(&self) -> Option<LentCells<'_>>
+        ensures { IfSome result (λ lent. (c : CellName) → slot_at (input self.now) (results self.now) c ≡ Done (value_lent lent c)) };
 
     /// Puts `s` at measure `m` of the cell at `key`, in place of what stands there. After `Memory` nothing is changed.
     fn put(&mut self, key: &Key, m: u32, s: Slot) -> Result<(), Memory>

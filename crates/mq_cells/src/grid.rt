@@ -1,5 +1,5 @@
 //! Items at measures of cells.
-ghost use Rattle.std.specs.Prelude.{◌≡◌, ◌<◌, ◌≤◌, ℕ, [], None, Some, length, slice_index_or, IfSome, OnOk, OnErr};
+ghost use Rattle.std.specs.Prelude.{◌≡◌, ◌<◌, ◌≤◌, ℕ, [], false, None, Some, length, slice_index_or, IfSome, OnOk, OnErr};
 ghost use Rattle.std.specs.List.Sorted.{IsStrictlySortedBy};
 ghost use Rattle.std.specs.Option.{option_copied};
 ghost use Rattle.mq_values.specs.Order.{cmp_key};
@@ -59,6 +59,16 @@ impl<'a, T: Drop> Grid<'a, T> {
         match self.columns.get(m as usize) {
             Some(column) => column.get(at),
             None => None,
+        }
+    }
+
+    /// Whether something stands at some measure of the cell at `key`. It takes no memory.
+    pub fn has(&self, key: &[Value]) -> bool
+        ensures { result ≡ false → (m : ℕ) → item_at self.now key.now m ≡ None }
+    {
+        match place_near(self.keys, key, 0) {
+            Some(at) => self.columns.iter().any(|column| column.get(at).is_some()),
+            None => false,
         }
     }
 

@@ -8,6 +8,7 @@ ghost use Rattle.mq_cells.specs.Stores.{DiffersAt, cell_name, is_named};
 use crate::cells::Cells;
 use crate::faults::least_fault;
 use crate::held::Held;
+use crate::lent::LentCells;
 use crate::slots::copy_slot;
 use mq_ir::{CellName, PartShape, Slot};
 use mq_values::{Key, Memory, Value};
@@ -67,6 +68,10 @@ impl Cells for LookCells {
     }
 
     fn whole(&self, _key: &Key, _count: u32) -> Option<&Key> {
+        None
+    }
+
+    fn lent(&self) -> Option<LentCells<'_>> {
         None
     }
 

@@ -8,6 +8,7 @@ use crate::columns::Columns;
 use crate::faults::least_fault;
 use crate::held::Held;
 use crate::input::InputCells;
+use crate::lent::LentCells;
 use crate::slots::copy_slot;
 use mq_ir::{PartInput, PartShape, Slot};
 use mq_values::{Key, Memory};
@@ -70,6 +71,10 @@ impl Cells for PlainCells<'_> {
         } else {
             None
         }
+    }
+
+    fn lent(&self) -> Option<LentCells<'_>> {
+        None
     }
 
     fn put(&mut self, key: &Key, m: u32, s: Slot) -> Result<(), Memory> {

@@ -2,7 +2,7 @@ use Rattle.std.proofs.Common.{length, sym, ap, subst, ◌∙◌}
 use Rattle.mq_ir.specs.Partitions.{cell_at}
 use Rattle.mq_cells.specs.Columns.{Store, results_in}
 use Rattle.mq_cells.specs.Stores.{IsWhole}
-use Rattle.mq_cells.proofs.WholeLemmas.{whole_cell}
+use Rattle.mq_cells.proofs.WholeLemmas.{nothing_at, whole_cell}
 use Rattle.mq_cells.proofs.plain.PlainCellsCells.whole.Goals as goal
 
 pub returns-then-not-has : goal.returns-then-not-has
@@ -10,4 +10,5 @@ returns-then-not-has c =
     let key = c.args.key.now in
     let measures = c.in-Some.measures.now in
     subst (λ (s : Store). IsWhole (cell_at s.cells) (results_in s.columns) key c.args.count measures) c.self.view_is
-    (whole_cell c.self.inside.input c.self.inside.results key measures c.args.count (sym c.in-Some.ensures) (ap length (sym c.as_slice.ensures) ∙ c.if-as_slice-count.true) (sym c.has.ensures ∙ c.if-not-has.true))
+    (whole_cell c.self.inside.input (results_in c.self.inside.results) key measures c.args.count (sym c.in-Some.ensures) (ap length (sym c.as_slice.ensures) ∙ c.if-as_slice-count.true)
+    (λ m. nothing_at key c.self.inside.results m (sym c.has.ensures ∙ c.if-not-has.true)))
