@@ -1,12 +1,10 @@
 -- Grids without a fault.
-use Rattle.std.proofs.Common.{◌≡◌, ℕ, ◌==◌, ◌&&◌, Bool, true, false, Option, Some, None, Result, Ok, Err, OnErr, cond, refl, sym, ap, ◌∙◌}
+use Rattle.std.proofs.Common.{◌≡◌, ℕ, ◌==◌, ◌&&◌, Bool, true, false, Option, Some, None, Result, Ok, Err, OnErr, cond, refl, ap, ◌∙◌}
 use Rattle.std.specs.Prelude.{unwrap_or}
-use Rattle.mq_values.specs.declared.value.Value.{Value}
 use Rattle.mq_ir.specs.declared.query.CellName.{CellName}
 use Rattle.mq_ir.specs.declared.query.Slot.{Slot}
 use Rattle.mq_ir.specs.declared.query.Slot.TheVariants.{Done, Faulted, Poisoned}
 use Rattle.mq_ir.specs.Keys.{Tuple, is_same}
-use Rattle.mq_ir.specs.Partitions.{Cells, cell_at}
 use Rattle.mq_ir.specs.Slots.{done_value}
 use Rattle.mq_cells.specs.Grids.{Grid, ItemDiffers, item_at}
 use Rattle.mq_cells.specs.GridStores.{AreSound, is_sound, results_over}

@@ -43,7 +43,7 @@ impl<'a> LentCells<'a> {
     }
 
     /// The value of measure `m` of the cell at `key`.
-    pub fn value(&mut self, key: &[Value], m: u32) -> Result<Value, Memory>
+    pub fn read(&mut self, key: &[Value], m: u32) -> Result<Value, Memory>
         ensures exact { IfOk result (λ v. v ≡ value_lent self.old (cell_name key.now m)) }
         ensures same { self.new ≡ self.old }
     {

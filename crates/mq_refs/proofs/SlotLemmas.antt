@@ -1,19 +1,22 @@
 -- The slot of a target from what was seen at its looks.
-use Rattle.std.proofs.Common.{◌≡◌, ℕ, List, Bool, true, false, Some, None, refl, sym, ap, ◌∙◌, subst}
+use Rattle.std.proofs.Common.{◌≡◌, ℕ, List, [], ◌∷◌, Bool, true, false, Some, None, refl, sym, ap, ◌∙◌, subst}
 use Rattle.std.specs.Prelude.{if◌then◌else◌}
 use Rattle.std.specs.List.{list_all}
+use Rattle.std.proofs.lemmas.Bool.{and_from}
 use Rattle.mq_values.specs.Convert.{cast_of}
+use Rattle.mq_ir.specs.declared.query.CellName.{CellName}
 use Rattle.mq_ir.specs.declared.query.Look.{Look}
+use Rattle.mq_ir.specs.declared.query.Look.TheVariants.{Measure, Presence}
 use Rattle.mq_ir.specs.declared.query.PartShape.{PartShape}
 use Rattle.mq_ir.specs.declared.query.Rule.{Rule}
 use Rattle.mq_ir.specs.declared.query.Slot.{Slot}
-use Rattle.mq_ir.specs.declared.query.Slot.TheVariants.{Poisoned}
+use Rattle.mq_ir.specs.declared.query.Slot.TheVariants.{Done, Poisoned}
 use Rattle.mq_ir.specs.Keys.{Tuple}
 use Rattle.mq_ir.specs.Looks.{looks_of}
 use Rattle.mq_ir.specs.ReadLaws.{ReadsItsLooks}
 use Rattle.mq_ir.specs.Reads.{Measures, Site, measure_kind, right_value}
 use Rattle.mq_ir.specs.Results.{◌>>=◌}
-use Rattle.mq_ir.specs.Slots.{Slots, cell_slot, done_value, is_known, site_in, slot_of}
+use Rattle.mq_ir.specs.Slots.{Slots, cell_slot, done_value, is_done, is_known, site_in, slot_of}
 use Rattle.mq_ir.specs.Unfolding.{Model}
 use Rattle.mq_ir.specs.Worth.{Found, as_value}
 use Rattle.mq_refs.specs.Sightings.{AreSteady, seen_at, seen_if_known, value_seen}
@@ -66,3 +69,16 @@ module _ (model : Model) (shape : PartShape) (turn : ℕ) (rule : Rule) (target 
   slot_unseen looks same h =
       let there : Measures = λ c. done_value (slots c) in
       sym (ap (λ b. if b then slot_over there else Poisoned) (not_seen slots looked (h ∙ ap (seen_if_known slots) same)))
+
+  known : ((c : CellName) → is_done (slots c) ≡ true) → (looks : List Look) → list_all (is_known slots) looks ≡ true
+  known all [] = refl
+  known all (Measure c ∷ looks) = and_from (is_done (slots c)) (list_all (is_known slots) looks) (all c) (known all looks)
+  known all (Presence key ∷ looks) = known all looks
+
+  -- the slot over measures that all have values
+  pub slot_of_lent : (worths : Measures) (result : Slot) → ((c : CellName) → slots c ≡ Done (worths c)) → result ≡ slot_over worths → result ≡ cell_slot model shape turn rule target slots
+  slot_of_lent worths result all is =
+      let there : Measures = λ c. done_value (slots c) in
+      is
+      ∙ (λ i. slot_over (λ c. sym (ap done_value (all c)) i))
+      ∙ sym (ap (λ b. if b then slot_over there else Poisoned) (known (λ c. ap is_done (all c)) looked))

@@ -4,6 +4,7 @@
 #![tactic(auto)]
 
 mod inside;
+mod lent;
 mod looks;
 mod names;
 mod order;
@@ -27,5 +28,5 @@ pub use order::{InOrder, UNKNOWN_ORDER, arrays_ascend, keys_ascend};
 pub use reading::{flag, is_there};
 pub use references::{kind_in, reference_cell};
 pub use standpoint::Standpoint;
-pub use targets::{eval_cell, eval_cell_in, right_value_over};
+pub use targets::{eval_cell, eval_cell_in, eval_cell_lent, right_value_over};
 pub use worths::Worths;

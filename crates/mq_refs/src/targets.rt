@@ -7,7 +7,6 @@ ghost use Rattle.mq_ir.specs.Slots.{cell_slot, site_in, slot_of};
 ghost use Rattle.mq_ir.specs.Unfolding.{model_of};
 ghost use Rattle.mq_cells.specs.Stores.{slot_at};
 ghost use Rattle.mq_refs.specs.Orders.{IsInOrder};
-ghost use Rattle.mq_refs.specs.Sightings as sightings;
 ghost use Rattle.mq_refs.specs.Sightings.{measures_in};
 ghost use Rattle.mq_refs.specs.Sites.{site_of};
 
@@ -86,6 +85,37 @@ pub fn eval_cell_in<C: Cells>(
     }
 }
 
+/// The same as `eval_cell_in`, but that no looks are listed where the store lends its values: the right side is evaluated over
+/// them at once, and a measure is read when the right side comes to it. How many are read is not said.
+pub fn eval_cell_lent<C: Cells>(
+    alloc: Global,
+    r: &Rule,
+    m: &Model<'_>,
+    target: &Key,
+    turn: u32,
+    s: &PartShape,
+    order: InOrder,
+    cells: &mut C,
+) -> Result<Slot, Memory>
+    requires { IsInOrder order m.now s.now }
+    ensures exact { IfOk result (λ slot. slot
+        ≡ cell_slot (model_of m.now) s.now turn r.now target.now (slot_at (C.input cells.old) (C.results cells.old))) }
+    ensures same_input { C.input cells.new ≡ C.input cells.old }
+    ensures same_results { C.results cells.new ≡ C.results cells.old }
+{
+    if let Some(lent) = cells.lent() {
+        let at = Standpoint {
+            model: m,
+            shape: s,
+            target,
+            turn,
+        };
+        let here = OrderedStandpoint { at: &at, order };
+        return slot_over(alloc, &here, r, lent);
+    }
+    eval_cell_in(alloc, r, m, target, turn, s, order, cells)
+}
+
 /// The value that rule `r` assigns to `target` in turn `turn`, over the cells of `s`, where every measure has a value, which
 /// `worths` gives: the value of the right side, converted to the kind of the rule's measure, or its first fault. A measure
 /// is read when the right side comes to it. `order` says which keys are in order, as `eval_cell_in` has it.
@@ -112,17 +142,17 @@ pub fn right_value_over<W: Worths + Drop>(
     right_value(alloc, &here, r, worths)
 }
 
-// The value of a right side over what was seen, or its fault.
-fn slot_over(
+// The value of a right side over these measures, or its fault.
+fn slot_over<W: Worths + Drop>(
     alloc: Global,
     here: &OrderedStandpoint<'_>,
     r: &Rule,
-    seen: Seen,
+    worths: W,
 ) -> Result<Slot, Memory>
     ensures { IfOk result (λ slot. slot
-        ≡ slot_of (spec.right_value (site_of here.now.at.now) here.now.at.now.shape.now.base (sightings.value_seen seen) r.now)) }
+        ≡ slot_of (spec.right_value (site_of here.now.at.now) here.now.at.now.shape.now.base (W.worth worths) r.now)) }
 {
-    match right_value(alloc, here, r, seen) {
+    match right_value(alloc, here, r, worths) {
         Ok(v) => Ok(Slot::Done(v)),
         Err(Fail::Cause(fault)) => Ok(Slot::Faulted(fault)),
         Err(Fail::Memory) => Err(Memory),
