@@ -6,14 +6,13 @@ use Rattle.std.specs.List.{All, AllByRecursion, find, list_any}
 use Rattle.std.specs.List.Sorted.{IsStrictlySortedBy}
 use Rattle.std.proofs.lemmas.List.Elements.{All-from_recursion}
 use Rattle.std.specs.Map.{keys_of, lookup}
-use Rattle.std.specs.Option.{option_map}
 use Rattle.std.specs.Ordering.{is_eq, is_gt, match_ordering, nat_cmp, ordering_then}
 use Rattle.mq_values.specs.Order.{cmp_key}
 use Rattle.mq_values.specs.OrderLaws.{key_total}
 use Rattle.mq_ir.specs.Keys.{Tuple, is_same}
 use Rattle.mq_ir.specs.Partitions.{placed}
 use Rattle.mq_ir.specs.Shape.{Assignment, assigns, cmp_assignment}
-use Rattle.mq_auto_shape.specs.Walk.{Node, cmp_node, node_in, number_at}
+use Rattle.mq_auto_shape.specs.Walk.{Node, cmp_node, node_in}
 
 tied : (r s : Ordering) → is_eq (ordering_then r s) ≡ (is_eq r && is_eq s)
 tied Less s = refl
@@ -30,28 +29,16 @@ node_total = then_total (on_total (λ (x : Node). x.0) key_total) (on_total (λ 
 pub turned : (x y : Node) → (is_same x.0 y.0 && (x.1 == y.1)) ≡ (is_same y.0 x.0 && (y.1 == x.1))
 turned x y = sym (at_node x y) ∙ (eq_by_cmp_equiv node_total).symm x y ∙ at_node y x
 
-pub found_number : (es : List (Node × ℕ)) (key : Tuple) (m : ℕ) → lookup (is_at (cmp_node (key, m))) es ≡ number_at (map node_in es) key m
-found_number [] key m = refl
-found_number (e ∷ es) key m = by (is_eq (cmp_node (key, m) e.0)) (assigns m key (node_in e)) (at_node (key, m) e.0) (found_number es key m)
+pub found_any : (es : List (Node × ℕ)) (key : Tuple) (m : ℕ) → is_some (lookup (is_at (cmp_node (key, m))) es) ≡ list_any (assigns m key) (map node_in es)
+found_any [] key m = refl
+found_any (e ∷ es) key m = by (is_eq (cmp_node (key, m) e.0)) (assigns m key (node_in e)) (at_node (key, m) e.0) (found_any es key m)
   where
-    by : (a b : Bool) → a ≡ b → lookup (is_at (cmp_node (key, m))) es ≡ number_at (map node_in es) key m
-        → cond a (Some e.1) (lookup (is_at (cmp_node (key, m))) es) ≡ option_map (λ (x : Assignment). x.2) (cond b (Some (node_in e)) (find (assigns m key) (map node_in es)))
+    by : (a b : Bool) → a ≡ b → is_some (lookup (is_at (cmp_node (key, m))) es) ≡ list_any (assigns m key) (map node_in es)
+        → is_some (cond a (Some e.1) (lookup (is_at (cmp_node (key, m))) es)) ≡ (b || list_any (assigns m key) (map node_in es))
     by true true h rest = refl
     by true false h rest = cc
     by false true h rest = cc
     by false false h rest = rest
-
-is_found : (p : Assignment → Bool) (xs : List Assignment) → is_some (option_map (λ (x : Assignment). x.2) (find p xs)) ≡ list_any p xs
-is_found p [] = refl
-is_found p (x ∷ xs) = by (p x) (is_found p xs)
-  where
-    by : (b : Bool) → is_some (option_map (λ (x : Assignment). x.2) (find p xs)) ≡ list_any p xs
-        → is_some (option_map (λ (x : Assignment). x.2) (cond b (Some x) (find p xs))) ≡ (b || list_any p xs)
-    by true h = refl
-    by false h = h
-
-pub found_any : (es : List (Node × ℕ)) (key : Tuple) (m : ℕ) → is_some (lookup (is_at (cmp_node (key, m))) es) ≡ list_any (assigns m key) (map node_in es)
-found_any es key m = ap is_some (found_number es key m) ∙ is_found (assigns m key) (map node_in es)
 
 pub put_new : (es : List (Node × ℕ)) (key : Tuple) (m number : ℕ) → None ≡ lookup (is_at (cmp_node (key, m))) es
     → map node_in (insert_entry cmp_node es (key, m) number) ≡ placed cmp_assignment (key, m, number) (map node_in es)
@@ -78,15 +65,6 @@ pub put_kept : (es fs : List (Node × ℕ)) (now : List Assignment) (key : Tuple
     → map node_in fs ≡ placed cmp_assignment (key, m, number) now
 put_kept es fs now key m number old h o f v =
     ap (map node_in) f ∙ put_new es key m number (not_had old (lookup (is_at (cmp_node (key, m))) es) h o) ∙ ap (placed cmp_assignment (key, m, number)) v
-
--- a node put into the map, whether it had one or not
-pub set_done : (es fs : List (Node × ℕ)) (now : List Assignment) (key : Tuple) (m number : ℕ)
-    → ((q : Node) → lookup (is_at (cmp_node q)) fs ≡ cond (is_at (cmp_node (key, m)) q) (Some number) (lookup (is_at (cmp_node q)) es))
-    → map node_in es ≡ now → (k : Tuple) (j : ℕ)
-    → number_at (map node_in fs) k j ≡ (if is_same key k && (m == j) then Some number else number_at now k j)
-set_done es fs now key m number u v k j =
-    sym (found_number fs k j) ∙ u (k, j) ∙ (λ i. cond (at_node (key, m) (k, j) i) (Some number) (found_number es k j i))
-    ∙ ap (λ (s : List Assignment). cond (is_same key k && (m == j)) (Some number) (number_at s k j)) v
 
 itself : (x : Node) → (is_same x.0 x.0 && (x.1 == x.1)) ≡ true
 itself x = sym (at_node x x) ∙ (eq_by_cmp_equiv node_total).refl x

@@ -1,6 +1,6 @@
 -- The walk over the rules, where what is assigned is kept in its order.
 use Rattle.std.specs.Prelude.{ℕ, List, [], ◌∷◌, ◌++◌, map, Option, Some, None, Result, Ok, Err, nat_lt, if◌then◌else◌}
-use Rattle.std.specs.List.{enumerate_from, find}
+use Rattle.std.specs.List.{enumerate_from}
 use Rattle.std.specs.Option.{option_map, option_map_or, option_or}
 use Rattle.std.specs.Ordering.{is_gt, nat_cmp, ordering_then}
 use Rattle.std.specs.declared.cmp.Ordering.{Ordering}
@@ -13,7 +13,7 @@ use Rattle.mq_ir.specs.Keys.{Tuple}
 use Rattle.mq_ir.specs.Partitions.{ascending, placed}
 use Rattle.mq_ir.specs.Placed.{Placed, placed_fault}
 use Rattle.mq_ir.specs.Results.{◌>>=◌, each_in_turn}
-use Rattle.mq_ir.specs.Shape.{Assignment, Growing, assigns, cmp_assignment, shape_fault}
+use Rattle.mq_ir.specs.Shape.{Assignment, Growing, cmp_assignment, shape_fault}
 use Rattle.mq_ir.specs.Targets.{targets}
 use Rattle.mq_ir.specs.Unfolding.{Model}
 use Rattle.mq_single_lefts.specs.Lefts.{lefts_of}
@@ -42,10 +42,6 @@ cmp_node x y = ordering_then (cmp_key x.0 y.0) (nat_cmp x.1 y.1)
 -- a node with a number, as an assignment
 abbrev pub node_in : Node × ℕ → Assignment
 node_in e = (e.0.0, e.0.1, e.1)
-
--- the number that stands behind a measure of a cell, where one does
-abbrev pub number_at : List Assignment → Tuple → ℕ → Option ℕ
-number_at nodes key m = option_map (λ a. a.2) (find (assigns m key) nodes)
 
 -- why a single left side may not assign its targets: one is assigned again, or there are too many cells
 abbrev pub fault_in : ℕ → Option Tuple → ℕ → Option Placed

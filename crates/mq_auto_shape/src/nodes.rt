@@ -1,12 +1,11 @@
 //! Measures of cells to be looked up.
-ghost use Rattle.std.specs.Prelude.{◌≡◌, ℕ, [], ◌==◌, ◌&&◌, Some, if◌then◌else◌, map, IfOk, OnOk};
+ghost use Rattle.std.specs.Prelude.{◌≡◌, [], Some, map, IfOk, OnOk};
 ghost use Rattle.std.specs.List.{All, find, list_any};
 ghost use Rattle.std.specs.List.Sorted.{IsStrictlySortedBy};
 ghost use Rattle.std.specs.Map.{keys_of};
-ghost use Rattle.mq_ir.specs.Keys.{Tuple, is_same};
 ghost use Rattle.mq_ir.specs.Partitions.{placed};
 ghost use Rattle.mq_ir.specs.Shape.{assigns, cmp_assignment};
-ghost use Rattle.mq_auto_shape.specs.Walk.{cmp_node, node_in, number_at};
+ghost use Rattle.mq_auto_shape.specs.Walk.{cmp_node, node_in};
 
 use mq_values::{Items, Key, Memory};
 use std::alloc::Global;
@@ -39,14 +38,6 @@ impl NodeMap {
         }
     }
 
-    /// The number of measure `m` of the cell at `key`, or `None` where it has none.
-    pub fn get(&self, key: &Key, m: u32) -> Result<Option<u32>, Memory>
-        ensures { IfOk result (λ number. number ≡ number_at self.now key.now m) }
-    {
-        let node = (key.copy()?, m);
-        Ok(self.numbers.get(&node).copied())
-    }
-
     /// Whether measure `m` of the cell at `key` has a number.
     pub fn has(&self, key: &Key, m: u32) -> Result<bool, Memory>
         ensures { IfOk result (λ has. has ≡ list_any (assigns m key.now) self.now) }
@@ -64,15 +55,6 @@ impl NodeMap {
         if had {
             return Err(Memory);
         }
-        Ok(())
-    }
-
-    /// Gives a measure its number, in place of the one that it has.
-    pub fn set(&mut self, key: Key, m: u32, number: u32) -> Result<(), Memory>
-        ensures { OnOk result ((k : Tuple) (j : ℕ) → number_at self.new k j
-            ≡ (if is_same key k && (m == j) then Some number else number_at self.old k j)) }
-    {
-        self.numbers.insert((key, m), number)?;
         Ok(())
     }
 

@@ -1,6 +1,8 @@
 //! Which assignments each assignment looks at.
 ghost use Rattle.std.specs.Prelude.{◌≡◌, ◌≤◌, length, map, IfOk, OnOk};
 ghost use Rattle.std.specs.List.{All, filter_map};
+ghost use Rattle.std.specs.List.Sorted.{IsStrictlySortedBy};
+ghost use Rattle.mq_values.specs.Order.{cmp_key};
 ghost use Rattle.mq_levels.specs.Levels.{reads_in};
 ghost use Rattle.mq_ir.specs.Unfolding.{model_of};
 ghost use Rattle.mq_refs.specs.Orders.{IsInOrder};
@@ -8,27 +10,27 @@ ghost use Rattle.mq_auto_shape.specs.Found.{IsRuled};
 ghost use Rattle.mq_auto_shape.specs.Edges.{PlacesAre, number_looked, reads_of};
 ghost use Rattle.mq_cells.specs.declared.bounds.TheConstants.{MAX_ASSIGNMENTS};
 
-use crate::nodes::NodeMap;
-use mq_cells::MAX_ASSIGNMENTS;
+use mq_cells::{Grid, MAX_ASSIGNMENTS};
 use mq_ir::{Look, Model, PartShape};
 use mq_refs::{InOrder, keys_ascend, looks_in};
 use mq_values::{Key, Memory};
 use std::alloc::Global;
 
 /// For each assignment of a shape the places of those that its rule looks at. `Memory` comes too where there are more
-/// than a `u32` can number, or one is by a rule that is not there.
+/// than a `u32` can number, or one is by a rule or of a cell that is not there.
 pub fn all_reads(alloc: Global, m: &Model<'_>, shape: &PartShape) -> Result<Vec<Vec<u32>>, Memory>
+    requires ascend { IsStrictlySortedBy cmp_key shape.now.cells }
     ensures reads { IfOk result (λ reads. reads_in reads.items ≡ map (reads_of (model_of m.now) shape.now) shape.now.assigned) }
     ensures ruled { OnOk result (All (IsRuled (model_of m.now)) shape.now.assigned) }
     ensures few { OnOk result (length shape.now.assigned ≤ MAX_ASSIGNMENTS) }
 {
-    let assigned = shape.assigned.as_slice();
-    let places = places_of(alloc, assigned)?;
+    let places = places_of(alloc, shape)?;
     let order = InOrder {
         base: false,
         refs: false,
         cells: keys_ascend(shape.cells.as_slice()),
     };
+    let assigned = shape.assigned.as_slice();
     let mut reads = Vec::with_capacity(alloc, assigned.len())?;
     'assigned: for a in assigned {
         reads.push(reads_at(alloc, m, shape, order, &places, a)?)?;
@@ -36,23 +38,26 @@ pub fn all_reads(alloc: Global, m: &Model<'_>, shape: &PartShape) -> Result<Vec<
     Ok(reads)
 }
 
-// The place of each measure that is assigned.
-fn places_of(alloc: Global, assigned: &[(Key, u32, u32)]) -> Result<NodeMap, Memory>
-    ensures places { IfOk result (λ nodes. PlacesAre nodes assigned.now) }
-    ensures few { OnOk result (length assigned.now ≤ MAX_ASSIGNMENTS) }
+// The place of each measure that is assigned. `Memory` comes too where its cell is not there.
+fn places_of(alloc: Global, shape: &PartShape) -> Result<Grid<'_, u32>, Memory>
+    requires ascend { IsStrictlySortedBy cmp_key shape.now.cells }
+    ensures places { IfOk result (λ grid. PlacesAre grid shape.now.assigned) }
+    ensures few { OnOk result (length shape.now.assigned ≤ MAX_ASSIGNMENTS) }
 {
+    let assigned = shape.assigned.as_slice();
     if assigned.len() > MAX_ASSIGNMENTS {
         return Err(Memory);
     }
-    let mut nodes = NodeMap::new(alloc);
+    let mut grid = Grid::new(alloc, shape.cells.as_slice());
+    let mut near = 0;
     let mut at = assigned.len();
     // From the last to the first: the first of those that are alike counts.
     'placing: while at > 0 {
         at -= 1;
         let a = &assigned[at];
-        nodes.set(a.0.copy()?, a.1, at as u32)?;
+        grid.put(a.0.as_slice(), a.1, at as u32, &mut near)?;
     }
-    Ok(nodes)
+    Ok(grid)
 }
 
 // The places of what the rule of an assignment looks at.
@@ -61,7 +66,7 @@ fn reads_at(
     m: &Model<'_>,
     shape: &PartShape,
     order: InOrder,
-    places: &NodeMap,
+    places: &Grid<'_, u32>,
     a: &(Key, u32, u32),
 ) -> Result<Vec<u32>, Memory>
     requires order { IsInOrder order m.now shape.now }
@@ -80,12 +85,13 @@ fn reads_at(
 }
 
 // The places of those among these looks that are assigned.
-fn places_looked(alloc: Global, places: &NodeMap, looks: &[Look]) -> Result<Vec<u32>, Memory>
+fn places_looked(alloc: Global, places: &Grid<'_, u32>, looks: &[Look]) -> Result<Vec<u32>, Memory>
     ensures { IfOk result (λ reads. reads.items ≡ filter_map (number_looked places.now) looks.now) }
 {
-    let mut reads = Vec::new(alloc);
+    let mut reads = Vec::with_capacity(alloc, looks.len())?;
+    let mut near = 0;
     for look in looks {
-        if let Some(place) = place_looked(places, look)? {
+        if let Some(place) = place_looked(places, look, &mut near) {
             reads.push(place)?;
         }
     }
@@ -93,11 +99,11 @@ fn places_looked(alloc: Global, places: &NodeMap, looks: &[Look]) -> Result<Vec<
 }
 
 // The place of a look, where it is one of a measure that is assigned.
-fn place_looked(places: &NodeMap, look: &Look) -> Result<Option<u32>, Memory>
-    ensures { IfOk result (λ place. place ≡ number_looked places.now look.now) }
+fn place_looked(places: &Grid<'_, u32>, look: &Look, near: &mut usize) -> Option<u32>
+    ensures { result ≡ number_looked places.now look.now }
 {
     match look {
-        Look::Measure(name) => places.get(&name.key, name.measure),
-        Look::Presence(_) => Ok(None),
+        Look::Measure(name) => places.get(name.key.as_slice(), name.measure, near).copied(),
+        Look::Presence(_) => None,
     }
 }

@@ -1,7 +1,9 @@
 //! The shape of an input, with its rounds.
 ghost use Rattle.std.specs.Prelude.{◌≡◌, ◌≤◌, [], Some, length, IfOk};
 ghost use Rattle.std.specs.List.{All, find};
+ghost use Rattle.std.specs.List.Sorted.{IsStrictlySortedBy};
 ghost use Rattle.mq_values.specs.Answers.{Gives};
+ghost use Rattle.mq_values.specs.Order.{cmp_key};
 ghost use Rattle.mq_ir.specs.Automatic.{cycle_in, levelled_shape};
 ghost use Rattle.mq_ir.specs.Shape as spec;
 ghost use Rattle.mq_ir.specs.Shape.{assigns};
@@ -76,6 +78,7 @@ fn leveled_over(
     m: &Model<'_>,
     shape: &PartShape,
 ) -> Result<Leveled, Fail<PlacedFault>>
+    requires ascend { IsStrictlySortedBy cmp_key shape.now.cells }
     requires own { All (λ a. find (assigns a.1 a.0) shape.now.assigned ≡ Some a) shape.now.assigned }
     ensures exact { FindsLevels result (cycle_in (model_of m.now) shape.now) }
     ensures ruled { IfOk result (λ _. All (IsRuled (model_of m.now)) shape.now.assigned) }

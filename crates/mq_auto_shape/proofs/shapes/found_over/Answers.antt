@@ -4,7 +4,7 @@ use Rattle.mq_auto_shape.proofs.OutcomeLemmas.{cycle_then, shape_fault_first, sh
 use Rattle.mq_auto_shape.proofs.shapes.found_over.Goals as goal
 
 pub leveled_over-requires : goal.leveled_over-requires
-leveled_over-requires c = record { own = c.in_ok-shape.ensures.grown.own }
+leveled_over-requires c = record { ascend = c.in_ok-shape.ensures.grown.ascend; own = c.in_ok-shape.ensures.grown.own }
 
 pub returns-in_err-shape-clause-exact : goal.returns-in_err-shape-clause-exact
 returns-in_err-shape-clause-exact c =
