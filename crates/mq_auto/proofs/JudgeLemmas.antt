@@ -83,7 +83,7 @@ module _ (model : Model) (p : PartInput) (none : None ≡ option_map (at_partiti
 
   pub shape_judged : (shape : PartShape) (leveled : Leveled) → Ok shape ≡ shape_meant model (keys_of p.cells) → IsShapeOf model (keys_of p.cells) shape → AreRoundsOf model shape leveled.rounds → IsJudged model p (Ok (shape, leveled))
   shape_judged shape leveled is of rounds =
-      record { exact = by (levelled_shape model (keys_of p.cells)) refl is; rounds = record { exact = own (levelled_shape model (keys_of p.cells)) is ∙ sym (ap (levelled_shape model) of.base); own = of.own; rounds = rounds } }
+      record { exact = by (levelled_shape model (keys_of p.cells)) refl is; rounds = record { exact = own (levelled_shape model (keys_of p.cells)) is ∙ sym (ap (levelled_shape model) of.base); ascend = of.ascend; own = of.own; rounds = rounds } }
     where
       by : (r : Result PartShape Placed) → levelled_shape model (keys_of p.cells) ≡ r → Ok shape ≡ marked (at_partition []) r → Ok shape ≡ marked (at_partition p.key) (shape_found model p)
       by (Ok s) e h = h ∙ sym (ap (marked (at_partition p.key)) (found_is ∙ e))

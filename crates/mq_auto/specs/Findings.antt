@@ -1,7 +1,9 @@
 -- What is found on the way.
 use Rattle.std.specs.Prelude.{◌≡◌, List, Option, Ok, Err}
 use Rattle.std.specs.List.{list_any}
+use Rattle.std.specs.List.Sorted.{IsStrictlySortedBy}
 use Rattle.std.specs.Option.{option_and_then, option_map}
+use Rattle.mq_values.specs.Order.{cmp_key}
 use Rattle.mq_ir.specs.declared.query.PartInput.{PartInput}
 use Rattle.mq_ir.specs.declared.query.PartResult.{PartResult}
 use Rattle.mq_ir.specs.declared.query.PartShape.{PartShape}
@@ -20,6 +22,7 @@ use Rattle.mq_auto.specs.Walks.{AreOwn}
 -- a shape of the model with its rounds: it is what the keys of its input come to
 pub record IsLevelled (model : Model) (found : PartShape × Leveled) : Type 0 where
   pub exact : Ok found.0 ≡ levelled_shape model found.0.base
+  pub ascend : IsStrictlySortedBy cmp_key found.0.cells
   pub own : AreOwn found.0
   pub rounds : AreRoundsOf model found.0 found.1.rounds
 

@@ -1,5 +1,7 @@
 //! A model that runs over one partition after another.
 ghost use Rattle.std.specs.Prelude.{◌≡◌, IfOk};
+ghost use Rattle.std.specs.List.Sorted.{IsStrictlySortedBy};
+ghost use Rattle.mq_values.specs.Order.{cmp_key};
 ghost use Rattle.mq_ir.specs.Automatic.{automatic, slots_in};
 ghost use Rattle.mq_ir.specs.Unfolding.{model_of};
 ghost use Rattle.mq_auto_shape.specs.Found.{AreRoundsOf};
@@ -10,7 +12,7 @@ ghost use Rattle.mq_auto.specs.Walks.{AreOwn};
 use crate::judging::judge_after;
 use crate::results::result_of;
 use crate::walking::walk_rounds;
-use mq_cells::PlainCells;
+use mq_cells::GridCells;
 use mq_ir::{Model as Lent, PartInput, PartResult, PartShape};
 use mq_levels::Leveled;
 use mq_values::{Items, Memory};
@@ -80,10 +82,11 @@ fn result_over(
     rounds: &[Items<u32>],
 ) -> Result<PartResult, Memory>
     requires own { AreOwn shape.now }
+    requires ascend { IsStrictlySortedBy cmp_key shape.now.cells }
     requires rounds { AreRoundsOf (model_of m.now) shape.now rounds.now }
     ensures { IfOk result (λ r. r ≡ result_with (model_of m.now) p.now.key shape.now (slots_in (model_of m.now) shape.now p.now.cells)) }
 {
-    let mut cells = PlainCells::new(alloc, p)?;
+    let mut cells = GridCells::new(alloc, p, shape.cells.as_slice());
     walk_rounds(alloc, m, shape, rounds, &mut cells)?;
     result_of(alloc, m, &p.key, shape, &mut cells)
 }

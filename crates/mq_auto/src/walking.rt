@@ -14,7 +14,7 @@ ghost use Rattle.mq_auto.specs.Walks.{AreFoundAt, AreOwn, IsFoundAt, IsPut, mode
 use crate::work::Work;
 use mq_cells::Cells;
 use mq_ir::{Model, PartShape, Rule, steps_read_their_looks};
-use mq_refs::{InOrder, arrays_ascend, eval_cell_in, keys_ascend};
+use mq_refs::{InOrder, arrays_ascend, eval_cell_lent, keys_ascend};
 use mq_values::{Items, Key, Memory};
 use std::alloc::Global;
 
@@ -97,7 +97,7 @@ fn assign<C: Cells>(
     let Some(rule) = rule_numbered(work.model, assignment.2) else {
         return Err(Memory);
     };
-    let slot = eval_cell_in(
+    let slot = eval_cell_lent(
         alloc,
         rule,
         work.model,

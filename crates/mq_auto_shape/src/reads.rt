@@ -12,7 +12,7 @@ ghost use Rattle.mq_cells.specs.declared.bounds.TheConstants.{MAX_ASSIGNMENTS};
 
 use mq_cells::{Grid, MAX_ASSIGNMENTS};
 use mq_ir::{Look, Model, PartShape};
-use mq_refs::{InOrder, keys_ascend, looks_in};
+use mq_refs::{InOrder, looks_in};
 use mq_values::{Key, Memory};
 use std::alloc::Global;
 
@@ -28,7 +28,7 @@ pub fn all_reads(alloc: Global, m: &Model<'_>, shape: &PartShape) -> Result<Vec<
     let order = InOrder {
         base: false,
         refs: false,
-        cells: keys_ascend(shape.cells.as_slice()),
+        cells: true,
     };
     let assigned = shape.assigned.as_slice();
     let mut reads = Vec::with_capacity(alloc, assigned.len())?;
@@ -88,7 +88,7 @@ fn reads_at(
 fn places_looked(alloc: Global, places: &Grid<'_, u32>, looks: &[Look]) -> Result<Vec<u32>, Memory>
     ensures { IfOk result (λ reads. reads.items ≡ filter_map (number_looked places.now) looks.now) }
 {
-    let mut reads = Vec::with_capacity(alloc, looks.len())?;
+    let mut reads = Vec::new(alloc);
     let mut near = 0;
     for look in looks {
         if let Some(place) = place_looked(places, look, &mut near) {

@@ -10,5 +10,5 @@ returns-clause-put g c =
     let a = c.args.assignment.now in
     let there : Some c.in-Some.rule.now ≡ slice_get model.part.rules (a.2 - 1) = c.in-Some.ensures in
     on_ok_weaker c.put.result
-    (λ differs rule at. put_is model c.args.work.now.shape.now (g.C.Cells.input c.args.cells.now) (g.C.Cells.results c.args.cells.now) (g.C.Cells.results c.eval_cell_in.new.cells)
+    (λ differs rule at. put_is model c.args.work.now.shape.now (g.C.Cells.input c.args.cells.now) (g.C.Cells.results c.args.cells.now) (g.C.Cells.results c.eval_cell_lent.new.cells)
     (g.C.Cells.results c.put.new.self) a c.in-Some.rule.now rule c.in_ok-slot.slot c.in_ok-slot.ensures.same_results there c.in_ok-slot.ensures.exact differs at) c.put.ensures.ok
