@@ -26,8 +26,10 @@ pub fn rows<C: Cells>(
 {
     let updated = updated_keys(alloc, s.assigned.as_slice())?;
     let mut rows = Items::with_room(alloc, s.cells.len());
+    // Cells come in the order of the input's, so each is found beside the last one.
+    let mut near = 0;
     'listing: for key in s.cells.as_slice() {
-        let cell = out_cell(alloc, m, s, &updated, key, cells)?;
+        let cell = out_cell(alloc, m, s, &updated, key, &mut near, cells)?;
         rows.push(cell)?;
     }
     Ok(rows)
@@ -40,6 +42,7 @@ fn out_cell<C: Cells>(
     s: &PartShape,
     updated: &KeySet,
     key: &Key,
+    near: &mut usize,
     cells: &mut C,
 ) -> Result<OutCell, Memory>
     requires { AreUpdated s.now.assigned updated.now }
@@ -48,7 +51,7 @@ fn out_cell<C: Cells>(
     ensures same_results { C.results cells.new ≡ C.results cells.old }
 {
     let updated = updated.has(key);
-    let measures = measures_of(alloc, m.part.measures.len(), key, updated, cells)?;
+    let measures = measures_of(alloc, m.part.measures.len(), key, updated, near, cells)?;
     Ok(OutCell {
         key: key.copy()?,
         measures,
@@ -62,6 +65,7 @@ fn measures_of<C: Cells>(
     count: usize,
     key: &Key,
     is_assigned: bool,
+    near: &mut usize,
     cells: &mut C,
 ) -> Result<Key, Memory>
     ensures exact { IfOk result (λ values. values
@@ -73,7 +77,7 @@ fn measures_of<C: Cells>(
         return Err(Memory);
     };
     if !is_assigned {
-        if let Some(measures) = cells.whole(key, count) {
+        if let Some(measures) = cells.whole(key, count, near) {
             let copy = measures.copy()?;
             return Ok(copy);
         }

@@ -34,8 +34,9 @@ pub trait Cells {
         ensures same_results { results self.new ≡ results self.old };
 
     /// The values that stand at all `count` measures of the cell at `key`, as a tuple that is there already. `None` says
-    /// nothing: a store answers it wherever it has no such tuple at hand. Nothing is read, and no memory is taken.
-    fn whole(&self, key: &Key, count: u32) -> Option<&Key>
+    /// nothing: a store answers it wherever it has no such tuple at hand. The cell is looked for at the place `near` of the
+    /// input and behind it before all others, and `near` is where it was found then. Nothing is read, and no memory is taken.
+    fn whole(&self, key: &Key, count: u32, near: &mut usize) -> Option<&Key>
         ensures { IfSome result (λ measures. IsWhole (input self.now) (results self.now) key.now count measures.now) };
 
     /// The values of all measures, lent, where each measure has one: none is a fault or poisoned. `None` says nothing: a store

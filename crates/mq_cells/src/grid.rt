@@ -63,10 +63,10 @@ impl<'a, T: Drop> Grid<'a, T> {
     }
 
     /// Whether something stands at some measure of the cell at `key`. It takes no memory.
-    pub fn has(&self, key: &[Value]) -> bool
+    pub fn has(&self, key: &[Value], near: usize) -> bool
         ensures { result ≡ false → (m : ℕ) → item_at self.now key.now m ≡ None }
     {
-        match place_near(self.keys, key, 0) {
+        match place_near(self.keys, key, near) {
             Some(at) => self.columns.iter().any(|column| column.get(at).is_some()),
             None => false,
         }

@@ -83,11 +83,11 @@ impl Cells for GridCells<'_> {
         slot_in(&self.input, &self.results, key, m, &mut self.near)
     }
 
-    fn whole(&self, key: &Key, count: u32) -> Option<&Key> {
-        let Some(measures) = self.input.get(key) else {
+    fn whole(&self, key: &Key, count: u32, near: &mut usize) -> Option<&Key> {
+        let Some(measures) = self.input.get_near(key.as_slice(), near) else {
             return None;
         };
-        if measures.as_slice().len() == count as usize && !self.results.has(key.as_slice()) {
+        if measures.as_slice().len() == count as usize && !self.results.has(key.as_slice(), *near) {
             Some(measures)
         } else {
             None
@@ -96,7 +96,7 @@ impl Cells for GridCells<'_> {
 
     fn lent(&self) -> Option<LentCells<'_>> {
         if self.sound {
-            Some(LentCells::new(&self.input, &self.results))
+            Some(LentCells::new(&self.input, &self.results, self.near))
         } else {
             None
         }

@@ -29,16 +29,16 @@ impl<'a> Model for LentCells<'a> {
 }
 
 impl<'a> LentCells<'a> {
-    /// These cells, and what stands over them.
-    pub fn new(input: &'a InputCells<'a>, results: &'a Grid<'a, Slot>) -> LentCells<'a>
+    /// These cells, and what stands over them. The first one is looked for beside the place `near`.
+    pub fn new(input: &'a InputCells<'a>, results: &'a Grid<'a, Slot>, near: usize) -> LentCells<'a>
         ensures cells { result.cells ≡ input.now }
         ensures grid { result.grid ≡ results.now }
     {
         LentCells {
             input,
             results,
-            near_input: 0,
-            near: 0,
+            near_input: near,
+            near,
         }
     }
 

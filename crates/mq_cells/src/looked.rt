@@ -67,7 +67,7 @@ impl Cells for LookCells {
         }
     }
 
-    fn whole(&self, _key: &Key, _count: u32) -> Option<&Key> {
+    fn whole(&self, _key: &Key, _count: u32, _near: &mut usize) -> Option<&Key> {
         None
     }
 

@@ -62,8 +62,8 @@ impl Cells for PlainCells<'_> {
         }
     }
 
-    fn whole(&self, key: &Key, count: u32) -> Option<&Key> {
-        let Some(measures) = self.input.get(key) else {
+    fn whole(&self, key: &Key, count: u32, near: &mut usize) -> Option<&Key> {
+        let Some(measures) = self.input.get_near(key.as_slice(), near) else {
             return None;
         };
         if measures.as_slice().len() == count as usize && !self.results.has(key) {

@@ -12,5 +12,6 @@ returns-then-not-has c =
     let key = c.args.key.now in
     let measures = c.in-Some.measures.now in
     subst (λ (s : GridStore). IsWhole (cell_at s.cells) (results_over s.grid) key c.args.count measures) c.self.view_is
-    (whole_cell c.self.inside.input (results_over c.self.inside.results) key measures c.args.count (sym c.in-Some.ensures) (ap length (sym c.as_slice.ensures) ∙ c.if-as_slice-count.true)
+    (whole_cell c.self.inside.input (results_over c.self.inside.results) key measures c.args.count (ap (λ (k : Tuple). cell_at c.self.inside.input k) (sym c.as_slice.ensures) ∙ sym c.in-Some.ensures)
+    (ap length (sym c.as_slice-2.ensures) ∙ c.if-as_slice-count.true)
     (λ m. subst (λ (k : Tuple). item_at c.self.inside.results k m ≡ None) c.as_slice-then-as_slice-count.ensures (c.has.ensures c.if-not-has.true m)))

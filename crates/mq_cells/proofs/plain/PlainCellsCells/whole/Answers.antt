@@ -1,4 +1,5 @@
 use Rattle.std.proofs.Common.{length, sym, ap, subst, ◌∙◌}
+use Rattle.mq_ir.specs.Keys.{Tuple}
 use Rattle.mq_ir.specs.Partitions.{cell_at}
 use Rattle.mq_cells.specs.Columns.{Store, results_in}
 use Rattle.mq_cells.specs.Stores.{IsWhole}
@@ -10,5 +11,6 @@ returns-then-not-has c =
     let key = c.args.key.now in
     let measures = c.in-Some.measures.now in
     subst (λ (s : Store). IsWhole (cell_at s.cells) (results_in s.columns) key c.args.count measures) c.self.view_is
-    (whole_cell c.self.inside.input (results_in c.self.inside.results) key measures c.args.count (sym c.in-Some.ensures) (ap length (sym c.as_slice.ensures) ∙ c.if-as_slice-count.true)
+    (whole_cell c.self.inside.input (results_in c.self.inside.results) key measures c.args.count (ap (λ (k : Tuple). cell_at c.self.inside.input k) (sym c.as_slice.ensures) ∙ sym c.in-Some.ensures)
+    (ap length (sym c.as_slice-2.ensures) ∙ c.if-as_slice-count.true)
     (λ m. nothing_at key c.self.inside.results m (sym c.has.ensures ∙ c.if-not-has.true)))
