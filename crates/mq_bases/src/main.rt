@@ -5,6 +5,7 @@
 
 mod models;
 mod queries;
+mod questions;
 mod rows;
 mod scene;
 mod shows;

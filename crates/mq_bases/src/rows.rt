@@ -53,6 +53,7 @@ fn add_answer(
         "put" => stores::put(alloc, scene, text),
         "clear" => stores::clear(alloc, scene, text),
         "get" => stores::add_got(alloc, scene, text, answer),
+        "lent" => stores::add_lent(alloc, scene, text, answer),
         "whole" => stores::add_whole(alloc, scene, text, answer),
         "assigned" => stores::set_assigned(alloc, scene, text),
         "looked" => stores::add_looked(alloc, text, answer),

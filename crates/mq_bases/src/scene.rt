@@ -1,6 +1,7 @@
 //! What is asked about: rows, a store of the cells of a partition, and what is assigned in it.
 
-use mq_cells::{Cells, PlainCells, copy_slot};
+use mq_cells::{Cells, GridCells, PlainCells, copy_slot};
+use mq_dim_index::DimIndex;
 use mq_ir::{PartInput, PartShape, Slot};
 use mq_values::{Items, Key, Memory};
 use std::alloc::Global;
@@ -36,15 +37,36 @@ impl Scene {
     }
 
     /// A store of the input's cells, in which all was put and taken away that the rows so far say.
-    pub fn store(&self, alloc: Global) -> Result<PlainCells<'_>, Memory> {
+    pub fn plain(&self, alloc: Global) -> Result<PlainCells<'_>, Memory> {
         let mut cells = PlainCells::new(alloc, &self.input)?;
+        self.change(&mut cells)?;
+        Ok(cells)
+    }
+
+    /// The same store, made for the cells with these keys: `changed_keys` gives them.
+    pub fn grid<'a>(&'a self, alloc: Global, index: &'a DimIndex) -> Result<GridCells<'a>, Memory> {
+        let mut cells = GridCells::new(alloc, &self.input, index.keys());
+        self.change(&mut cells)?;
+        Ok(cells)
+    }
+
+    /// The keys of the cells at which something was put or taken away.
+    pub fn changed_keys(&self, alloc: Global) -> Result<DimIndex, Memory> {
+        let mut index = DimIndex::new(alloc, &[])?;
+        for change in &self.changes {
+            index.insert(change.key.copy()?)?;
+        }
+        Ok(index)
+    }
+
+    fn change<C: Cells>(&self, cells: &mut C) -> Result<(), Memory> {
         for change in &self.changes {
             match &change.slot {
                 Some(slot) => cells.put(&change.key, change.measure, copy_slot(slot)?)?,
                 None => cells.clear(&change.key, change.measure),
             }
         }
-        Ok(cells)
+        Ok(())
     }
 }
 

@@ -1,14 +1,15 @@
-//! What is asked of a store alone.
+//! What is put into stores, and asked of them.
 
+use crate::questions::{Question, add_answers};
 use crate::scene::{Change, Scene};
 use crate::shows::add_slot;
-use mq_cells::{Cells, LookCells};
+use mq_cells::{Cells, LentCells, LookCells};
 use mq_ir::Slot;
-use mq_notation::answers::{add, add_number};
+use mq_notation::answers::add;
 use mq_notation::lists::{add_values, key};
 use mq_notation::literals::{fault, number_of, value};
 use mq_notation::notation::{Read, no_tree};
-use mq_values::{Items, Key};
+use mq_values::{Items, Key, Memory};
 use std::alloc::Global;
 
 /// A measure of a cell: its number, and behind a blank the key.
@@ -48,8 +49,7 @@ pub(crate) fn clear(alloc: Global, scene: &mut Scene, text: &str) -> Read<()> {
 pub(crate) fn add_got(alloc: Global, scene: &Scene, text: &str, answer: &mut Vec<u8>) -> Read<()> {
     let (measure, key) = name(alloc, text)?;
     add("\t", answer)?;
-    let slot = scene.store(alloc)?.get(alloc, &key, measure)?;
-    Ok(add_slot(&slot, answer)?)
+    add_answers(alloc, scene, &Question::Slot(measure, key), answer)
 }
 
 /// All measures of a cell: how many, and behind a blank the key.
@@ -61,10 +61,35 @@ pub(crate) fn add_whole(
 ) -> Read<()> {
     let (count, key) = name(alloc, text)?;
     add("\t", answer)?;
-    match scene.store(alloc)?.whole(&key, count) {
-        Some(measures) => Ok(add_values(measures.as_slice(), answer)?),
+    add_answers(alloc, scene, &Question::Whole(count, key), answer)
+}
+
+/// Measures of cells with semicolons between them, read one behind the other from what the store of known cells lends.
+pub(crate) fn add_lent(alloc: Global, scene: &Scene, text: &str, answer: &mut Vec<u8>) -> Read<()> {
+    let mut names = Vec::new(alloc);
+    for one in text.split(" ; ") {
+        names.push(name(alloc, one)?)?;
+    }
+    add("\t", answer)?;
+    let index = scene.changed_keys(alloc)?;
+    match scene.grid(alloc, &index)?.lent() {
+        Some(lent) => Ok(add_read(alloc, lent, &names, answer)?),
         None => Ok(add("none", answer)?),
     }
+}
+
+fn add_read(
+    alloc: Global,
+    lent: LentCells<'_>,
+    names: &[(u32, Key)],
+    answer: &mut Vec<u8>,
+) -> Result<(), Memory> {
+    let mut lent = lent;
+    let mut values = Vec::new(alloc);
+    for (measure, key) in names {
+        values.push(lent.read(key.as_slice(), *measure)?)?;
+    }
+    add_values(&values, answer)
 }
 
 /// Assignments with semicolons between them: rule, measure and key.
@@ -84,13 +109,7 @@ pub(crate) fn set_assigned(alloc: Global, scene: &mut Scene, text: &str) -> Read
 /// The number of the first fault.
 pub(crate) fn add_first_fault(alloc: Global, scene: &Scene, answer: &mut Vec<u8>) -> Read<()> {
     add("\t", answer)?;
-    if u32::try_from(scene.shape.assigned.len()).is_err() {
-        return no_tree();
-    }
-    match scene.store(alloc)?.first_fault(&scene.shape) {
-        Some(number) => Ok(add_number(number as u64, answer)?),
-        None => Ok(add("none", answer)?),
-    }
+    add_answers(alloc, scene, &Question::FirstFault, answer)
 }
 
 /// A store of a few results with one that is put, read, taken away and read again.
