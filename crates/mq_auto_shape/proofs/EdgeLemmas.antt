@@ -2,12 +2,10 @@
 use Rattle.std.proofs.Common.{◌≡◌, ℕ, zero, suc, ◌+◌, ◌<◌, ◌≤◌, Bool, true, false, cond, List, [], ◌∷◌, ◌++◌, drop, length, get_or, map, Option, Some, None, slice_get, refl, sym, ap, subst, arith, ◌∙◌, eqb}
 use Rattle.std.specs.Prelude.{slice_index_or}
 use Rattle.std.specs.List.{All, cons_option, filter_map, find, position_from}
-use Rattle.std.specs.Option.{option_map_or}
 use Rattle.std.specs.Ordering.{is_eq}
 use Rattle.std.specs.declared.cmp.Ordering.{Ordering}
 use Rattle.std.specs.declared.cmp.Ordering.TheVariants.{Less, Equal, Greater}
 use Rattle.std.proofs.lemmas.Bool.{and_parts, eqb-true}
-use Rattle.std.proofs.lemmas.List.{drop_all}
 use Rattle.std.proofs.lemmas.List.Elements.{All-cons, All-head, All-nil, All-tail}
 use Rattle.mq_values.specs.Order.{cmp_key}
 use Rattle.mq_values.specs.OrderTells.{same_key}
@@ -15,16 +13,13 @@ use Rattle.mq_ir.specs.declared.query.CellName.{CellName}
 use Rattle.mq_ir.specs.declared.query.Look.{Look}
 use Rattle.mq_ir.specs.declared.query.Look.TheVariants.{Measure, Presence}
 use Rattle.mq_ir.specs.declared.query.PartShape.{PartShape}
-use Rattle.mq_ir.specs.declared.query.Rule.{Rule}
 use Rattle.mq_ir.specs.Automatic.{node_of}
 use Rattle.mq_ir.specs.Keys.{Tuple, is_same}
-use Rattle.mq_ir.specs.Looks.{looks_of}
 use Rattle.mq_ir.specs.Shape.{Assignment, assigns}
-use Rattle.mq_ir.specs.Slots.{site_in}
 use Rattle.mq_ir.specs.Unfolding.{Model}
 use Rattle.mq_levels.specs.Levels.{ReadsNodes}
 use Rattle.mq_cells.specs.Grids.{Grid, ItemDiffers, item_at}
-use Rattle.mq_auto_shape.specs.Edges.{PlacesAre, looks_by, number_looked, place_looked, reads_of, rule_by}
+use Rattle.mq_auto_shape.specs.Edges.{PlacesAre, looks_by, number_looked, place_looked, reads_of}
 use Rattle.mq_auto_shape.proofs.NodeLemmas.{turned}
 use Rattle.mq_single_lefts.specs.StepLaws.{next_item}
 use Rattle.mq_auto_shape.proofs.StepLemmas.{item_before}
@@ -151,11 +146,6 @@ module _ (model : Model) (shape : PartShape) where
       subst ReadsNodes (sym e)
       (subst (λ n. All (λ list. All (λ read. read < n) list) (map (reads_of model shape) shape.assigned)) (sym (length_map (reads_of model shape) shape.assigned)) (each_below shape.assigned))
 
-  -- the looks of an assignment, by its rule
-  pub looks_found : (a : Assignment) (rule : Rule) (looks : List Look) → rule_by model a ≡ Some rule → looks ≡ looks_of (site_in model shape 0 a.0) rule.right
-      → looks ≡ looks_by model shape a
-  looks_found a rule looks h e = e ∙ sym (ap (λ (o : Option Rule). option_map_or (λ (r : Rule). looks_of (site_in model shape 0 a.0) r.right) o []) h)
-
 -- ---- lists that grow by what is found of one item after another
 pushed : {V : Type 0} (items : V → List ℕ) (lists : List V) (v : V) (rest : List (List ℕ)) → map items (lists ++ v ∷ []) ++ rest ≡ map items lists ++ items v ∷ rest
 pushed items [] v rest = refl
@@ -166,10 +156,3 @@ pub reads_more : {A V : Type 0} (f : A → List ℕ) (items : V → List ℕ) (x
 reads_more f items xs lists v i x all lt is h w =
     pushed items lists v (map f (drop (i + 1) xs)) ∙ (λ j. map items lists ++ h j ∷ map f (drop (i + 1) xs))
     ∙ sym (ap (λ l. map items lists ++ map f l) (next_item xs i x lt is)) ∙ w
-
-nothing_behind : {X : Type 0} (xs : List X) → xs ++ [] ≡ xs
-nothing_behind [] = refl
-nothing_behind (x ∷ xs) = ap (λ l. x ∷ l) (nothing_behind xs)
-
-pub reads_end : {A : Type 0} (f : A → List ℕ) (xs : List A) (lists all : List (List ℕ)) (i : ℕ) → length xs ≤ i → lists ++ map f (drop i xs) ≡ all → lists ≡ all
-reads_end f xs lists all i h w = sym (nothing_behind lists) ∙ sym (ap (λ l. lists ++ map f l) (drop_all i xs h)) ∙ w

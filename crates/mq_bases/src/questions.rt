@@ -53,7 +53,9 @@ fn answer_of<C: Cells>(
         Question::Slot(measure, key) => {
             add_slot(&cells.get(alloc, key, *measure)?, &mut answer)?;
         }
-        Question::Whole(count, key) => add_whole(cells.whole(key, *count), &mut answer)?,
+        Question::Whole(count, key) => {
+            add_whole(cells.whole(key, *count, &mut 0), &mut answer)?;
+        }
         Question::FirstFault => add_first_fault(cells, shape, &mut answer)?,
     }
     Ok(answer)

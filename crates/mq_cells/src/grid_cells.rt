@@ -21,7 +21,7 @@ use std::alloc::Global;
 use std::marker::Model;
 
 /// The cells of a partition: its input, which is lent, and the results that were put at cells with known keys. It lends all
-/// values while none of the results is a fault or poisoned. Contracts see it as its cells, the grid of its results and its
+/// values until a result is put that is a fault or poisoned. Contracts see it as its cells, the grid of its results and its
 /// looks (docs/MEANING.md, "Stores of cells").
 #[derive(Drop)]
 pub struct GridCells<'a> {

@@ -10,7 +10,6 @@ use Rattle.mq_ir.specs.declared.catalog.TableEntry.{TableEntry}
 use Rattle.mq_ir.specs.declared.catalog.ViewEntry.{ViewEntry}
 use Rattle.mq_ir.specs.declared.query.BoundQuery.{BoundQuery}
 use Rattle.mq_ir.specs.declared.statement.Change.{Change}
-use Rattle.mq_ir.specs.declared.statement.Schema.{Schema}
 use Rattle.mq_ir.specs.Partitions.{Tuple}
 use Rattle.mq_ir.specs.Statement.{View, tables_read, with_rows}
 use Rattle.mq_ir.specs.Tables.{Table, Tables, is_name, table_at}
@@ -27,11 +26,6 @@ module _ (k : Catalog) (tables : Tables) (views : List View) (same : k ≡ catal
 
   of_views : k.views ≡ map entry_of_view views
   of_views = ap (λ (c : Catalog). c.views) same
-
-  -- a table or a view is put behind the others
-  pub table_put : (after : Tables) (t : Table) (entries : List TableEntry) (entry : TableEntry) → after ≡ tables ++ t ∷ [] → entry ≡ entry_of_table t → entries ≡ k.tables ++ entry ∷ [] → named entries k.views ≡ catalog_from after views
-  table_put after t entries entry a e h =
-      same_names after views entries k.views (mapped_push entry_of_table tables t k.tables entries entry of_tables e h ∙ ap (map entry_of_table) (sym a)) of_views
 
   pub view_put : (after : List View) (v : View) (entries : List ViewEntry) (entry : ViewEntry) → after ≡ views ++ v ∷ [] → entry ≡ entry_of_view v → entries ≡ k.views ++ entry ∷ [] → named k.tables entries ≡ catalog_from tables after
   view_put after v entries entry a e h =
@@ -71,10 +65,6 @@ module _ (k : Catalog) (tables : Tables) (views : List View) (same : k ≡ catal
       → OnErr r (after ≡ tables) → k ≡ catalog_from after views
   rows_changed change (Ok count) after h e = let w = rows_are_put tables change after count h in rows_put w.0.table w.0.rows after w.1
   rows_changed change (Err cause) after h e = same ∙ ap (λ (ts : Tables). catalog_from ts views) (sym e)
-
--- the entries that are put there
-pub table_entry_is : (name other : List ℕ) (schema : Schema) (entry : TableEntry) → entry ≡ record { name = other; schema = schema } → other ≡ name → entry ≡ entry_of_table (record { name = name; schema = schema; rows = [] })
-table_entry_is name other schema entry e h = e ∙ ap (λ (n : List ℕ). entry_of_table (record { name = n; schema = schema; rows = [] })) h
 
 pub view_entry_is : (name other : List ℕ) (q : BoundQuery) (entry : ViewEntry) → entry ≡ record { name = other; reads = tables_read q } → other ≡ name → entry ≡ entry_of_view (record { name = name; query = q })
 view_entry_is name other q entry e h = e ∙ ap (λ (n : List ℕ). entry_of_view (record { name = n; query = q })) h

@@ -1,5 +1,5 @@
 -- One row more in its group.
-use Rattle.std.proofs.Common.{◌≡◌, ℕ, zero, suc, ◌+◌, ◌<◌, ◌≤◌, List, [], ◌∷◌, ◌++◌, Bool, true, false, ◌||◌, cond, length, map, take, take_all, get_or, Option, Some, None, refl, sym, ap, subst, add-one, ◌∙◌, arith}
+use Rattle.std.proofs.Common.{◌≡◌, ℕ, zero, suc, ◌+◌, ◌<◌, ◌≤◌, List, [], ◌∷◌, ◌++◌, Bool, true, false, ◌||◌, cond, length, map, take, get_or, Option, Some, None, refl, sym, ap, subst, add-one, ◌∙◌, arith}
 use Rattle.std.specs.Prelude.{if◌then◌else◌, slice_set}
 use Rattle.std.specs.BTreeMap.{BTreeMap, get, is_at}
 use Rattle.std.specs.List.{enumerate_from, filter}
@@ -148,12 +148,6 @@ number_below keys n numbers groups q g a e =
         by true o p h r = omega (arith, some_is 0 g h)
         by false None p h r = absurd (cc)
         by false (Some m) p h r = omega (arith, some_is (m + 1) g h, r m p)
-
-pub none_yet : (keys : List Tuple) (numbers : BTreeMap Tuple ℕ) → ((q : Tuple) → get cmp_key numbers q ≡ None) → AreGrouped keys 0 numbers []
-none_yet keys numbers h = record { numbered = h; grouped = refl }
-
-pub all_grouped : (keys : List Tuple) (n : ℕ) (numbers : BTreeMap Tuple ℕ) (groups : List (List ℕ)) → length keys ≤ n → AreGrouped keys n numbers groups → groups ≡ map (places_from 0 keys) (each_first keys)
-all_grouped keys n numbers groups h a = a.grouped ∙ ap (λ l. map (places_from 0 l) (each_first l)) (take_all n keys h)
 
 -- ---- groups of rows as groups of keys
 module _ {R : Type 0} (values : R → BaseRow) where

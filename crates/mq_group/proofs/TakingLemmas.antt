@@ -15,25 +15,12 @@ pub record Taking {A : Type 0} (f : A → Outcome) (xs : List A) (agg : Agg) (i 
   pub is : (each f xs >>= aggregate agg) ≡ (each f (drop i xs) >>= comes_to a)
 
 module _ {A : Type 0} (f : A → Outcome) (xs : List A) (agg : Agg) where
-  pub taking_start : (a : Aggregation) → ((vs : List Value) → comes_to a vs ≡ aggregate agg vs) → Taking f xs agg 0 a
-  taking_start a h = record { is = λ i. each f xs >>= (λ vs. sym (h vs) i) }
-
   next_item : (i : ℕ) (x : A) → i < length xs → x ≡ get_or xs i x → drop i xs ≡ x ∷ drop (i + 1) xs
   next_item i x h e = drop-cons xs i x h ∙ (λ j. sym e j ∷ drop (sym (add-one i) j) xs)
 
   one_taken : (a b : Aggregation) (v : Value) → ((vs : List Value) → comes_to b vs ≡ comes_to a (v ∷ vs)) → (r : Result (List Value) ValueFault) → ((r >>= (λ vs. Ok (v ∷ vs))) >>= comes_to a) ≡ (r >>= comes_to b)
   one_taken a b v h (Ok vs) = sym (h vs)
   one_taken a b v h (Err fault) = refl
-
-  pub taking_next : (i : ℕ) (a b : Aggregation) (x : A) (v : Value) → i < length xs → x ≡ get_or xs i x → f x ≡ Ok v
-      → ((vs : List Value) → comes_to b vs ≡ comes_to a (v ∷ vs)) → Taking f xs agg i a → Taking f xs agg (i + 1) b
-  taking_next i a b x v h e g t w = record {
-    is =
-        w.is
-        ∙ ap (λ l. each f l >>= comes_to a) (next_item i x h e)
-        ∙ ap (λ r. (r >>= (λ y. each f (drop (i + 1) xs) >>= (λ ys. Ok (y ∷ ys)))) >>= comes_to a) g
-        ∙ one_taken a b v t (each f (drop (i + 1) xs));
-  }
 
   pub taking_fault : (i : ℕ) (a : Aggregation) (x : A) (fault : ValueFault) → i < length xs → x ≡ get_or xs i x → f x ≡ Err fault → Taking f xs agg i a → (each f xs >>= aggregate agg) ≡ Err fault
   taking_fault i a x fault h e g w =

@@ -57,10 +57,6 @@ first_matched : (q : ℕ → Bool) (i n : ℕ) (o : Option ℕ) → IsFirst q i 
 first_matched q i n None h = tt
 first_matched q i n (Some p) h = (h.1, h.2)
 
-fewer_left : (q : ℕ → Bool) (n p : ℕ) (o : Option ℕ) → p < n → IsFirst q (p + 1) n o → left_from n o < n - p
-fewer_left q n p None h first = omega arith
-fewer_left q n p (Some k) h first = omega (arith, first.0, first.1)
-
 -- the walk stands at a row with the value that is looked up, or at its end
 pub record Stands (conditions : List Expr) (items : List (List Tuple)) (front : Places) (rows : List Tuple) (x : Index) (at : Option ℕ) : Type 0 where
   pub value : Value
@@ -96,12 +92,6 @@ module _ (conditions : List Expr) (items : List (List Tuple)) (front : Places) (
       let h : Stands conditions items front rows x (Some p) = subst (λ (o : Option ℕ). Stands conditions items front rows x o) is s in
       record { value = h.value; indexed = h.indexed; idle = h.idle; matched = first_matched (matches rows x.lookup.own h.value) (p + 1) (length rows) behind (next_first p behind h e) }
 
-  pub next_fewer : (p : ℕ) (at behind : Option ℕ) → at ≡ Some p → behind ≡ slice_index_or x.next.items p None → Stands conditions items front rows x at → left_from (length rows) behind < left_from (length rows) at
-  next_fewer p at behind is e s =
-      let h : Stands conditions items front rows x (Some p) = subst (λ (o : Option ℕ). Stands conditions items front rows x o) is s in
-      subst (λ (o : Option ℕ). left_from (length rows) behind < left_from (length rows) o) (sym is)
-      (fewer_left (matches rows x.lookup.own h.value) (length rows) p behind h.matched.0 (next_first p behind h e))
-
   pub matches_next : (p : ℕ) (at behind : Option ℕ) (kept more : List Joined) (now : Places) (whole : Result (List Joined) FaultKind) → at ≡ Some p → behind ≡ slice_index_or x.next.items p None → now ≡ front
       → place_step (joined_step conditions items) items now p kept ≡ Ok more → Stands conditions items front rows x at → rest_at step (length rows) kept at ≡ whole → rest_at step (length rows) more behind ≡ whole
   matches_next p at behind kept more now whole is e same g s w =
@@ -121,6 +111,3 @@ module _ (conditions : List Expr) (items : List (List Tuple)) (front : Places) (
       → Gives {T = List Joined} (Err e) whole
   matches_fault p at kept now e whole is same g s w =
       turns_fault (joined_step conditions items) items front now (length rows) p kept e whole same (matches_within p at is s) g (ap (λ (o : Option ℕ). rest_at step (length rows) kept o) (sym is) ∙ w)
-
-  pub matches_end : (at : Option ℕ) (kept : List Joined) (whole : Result (List Joined) FaultKind) → at ≡ None → rest_at step (length rows) kept at ≡ whole → whole ≡ Ok kept
-  matches_end at kept whole is w = sym w ∙ ap (λ (o : Option ℕ). rest_at step (length rows) kept o) is

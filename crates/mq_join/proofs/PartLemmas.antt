@@ -1,18 +1,17 @@
 -- The parts of base rows, and where they come from.
-use Rattle.std.proofs.Common.{◌≡◌, ℕ, zero, suc, ◌+◌, ◌<◌, ◌≤◌, List, [], ◌∷◌, ◌++◌, map, length, min, take, get_or, Result, Option, Some, None, refl, sym, ap, ◌∙◌, arith}
+use Rattle.std.proofs.Common.{◌≡◌, ℕ, zero, suc, ◌+◌, ◌<◌, ◌≤◌, List, [], ◌∷◌, ◌++◌, length, min, take, get_or, Option, Some, None, refl, sym, ap, ◌∙◌, arith}
 use Rattle.std.specs.Prelude.{slice_get, slice_index_or}
 use Rattle.std.specs.List.{filter_map, zip}
 use Rattle.std.specs.Option.{option_map, option_map_or, option_to_list, unwrap_or}
 use Rattle.std.proofs.lemmas.List.{get_or-map, get_or_default, length-map, take_more}
 use Rattle.std.proofs.lemmas.List.Elements.{filter_map-append}
-use Rattle.std.proofs.lemmas.Option.{slice_get-map, unwrap_or-slice_get}
 use Rattle.std.proofs.lemmas.Slice.Zip.{get_or-zip, length-zip}
 use Rattle.mq_ir.specs.declared.expression.Expr.{Expr}
 use Rattle.mq_ir.specs.BaseRows.{Places, rows_at}
 use Rattle.mq_ir.specs.Keys.{Tuple}
 use Rattle.mq_ir.specs.Tables.{Table, Tables, rows_of, table_at}
 use Rattle.mq_tables.specs.Rows.{rows_at as table_rows}
-use Rattle.mq_join.specs.Rows.{Joined, joined_at, part_at, places_in, rows_in}
+use Rattle.mq_join.specs.Rows.{joined_at, part_at}
 
 -- the rows of a table that is there, and of one that is not
 rows_or : (o : Option Table) (found : Option (List Tuple)) → option_map (λ (t : Table). t.rows) o ≡ found → option_map_or (λ (t : Table). t.rows) o [] ≡ unwrap_or found []
@@ -21,17 +20,6 @@ rows_or (Some t) found e = ap (λ o. unwrap_or o []) e
 
 pub rows_found : (tables : Tables) (name : List ℕ) (found : Option (List Tuple)) → found ≡ table_rows tables name → rows_of tables name ≡ unwrap_or found []
 rows_found tables name found e = rows_or (table_at tables name) found (sym e)
-
--- the row and the place of a part
-pub part_row : (row : Joined) (i : ℕ) (found : Option (Tuple × ℕ)) → slice_get row i ≡ found → slice_index_or (rows_in row) i [] ≡ unwrap_or (option_map (λ (p : Tuple × ℕ). p.0) found) []
-part_row row i found e =
-    sym (unwrap_or-slice_get (rows_in row) i [])
-    ∙ ap (λ o. unwrap_or o []) (slice_get-map (λ (p : Tuple × ℕ). p.0) row i ∙ ap (option_map (λ (p : Tuple × ℕ). p.0)) e)
-
-pub part_place : (row : Joined) (i : ℕ) (found : Option (Tuple × ℕ)) → slice_get row i ≡ found → slice_index_or (places_in row) i 0 ≡ unwrap_or (option_map (λ (p : Tuple × ℕ). p.1) found) 0
-part_place row i found e =
-    sym (unwrap_or-slice_get (places_in row) i 0)
-    ∙ ap (λ o. unwrap_or o 0) (slice_get-map (λ (p : Tuple × ℕ). p.1) row i ∙ ap (option_map (λ (p : Tuple × ℕ). p.1)) e)
 
 pub joined_long : (items : List (List Tuple)) (places : Places) → length (joined_at items places) ≡ min (length items) (length places)
 joined_long items places = length-map (zip items places) part_at ∙ length-zip items places

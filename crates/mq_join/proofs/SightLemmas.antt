@@ -159,10 +159,6 @@ module _ (n : ℕ) where
         (worth.Truth t.0, all_found_or (row_leaves rows) es p.0 t.0 p.1 t.1, all_found_or (row_leaves others) es p.0 t.0 p.2 t.1);
   }
 
-  -- a list of them, one by one
-  pub sees_none : AllSeeBelow n []
-  sees_none = record { found = λ rows others agree. ([], refl, refl) }
-
   one_more : (leaves : Leaf → Outcome) (es : List Expr) (e : Expr) (ws : List Worth) (w : Worth) → map (worth_of leaves) es ≡ all_found ws → worth_of leaves e ≡ Ok w
       → map (worth_of leaves) (es ++ e ∷ []) ≡ all_found (ws ++ w ∷ [])
   one_more leaves es e ws w h k =

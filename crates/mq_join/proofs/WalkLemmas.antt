@@ -3,7 +3,7 @@ use Rattle.std.proofs.Common.{◌≡◌, ℕ, ◌+◌, ◌-◌, ◌<◌, ◌≤�
 use Rattle.std.specs.Prelude.{slice_get}
 use Rattle.std.specs.List.{flat_map, range_with_len}
 use Rattle.std.specs.Option.{option_map}
-use Rattle.std.proofs.lemmas.List.{append-nil, drop_all, length_push, map-append, map-id}
+use Rattle.std.proofs.lemmas.List.{append-nil, drop_all, map-append, map-id}
 use Rattle.std.proofs.lemmas.Option.{get_or_from_slice_get, slice_get_past, slice_get_read, slice_get_within, slice_get-map}
 use Rattle.mq_values.specs.Answers.{Gives}
 use Rattle.mq_values.specs.declared.faults.FaultKind.{FaultKind}
@@ -13,7 +13,7 @@ use Rattle.mq_ir.specs.Keys.{Tuple}
 use Rattle.mq_ir.specs.Results.{each_in_turn}
 use Rattle.mq_join.specs.Rows.{Joined}
 use Rattle.mq_join.specs.Walk.{Step, counts_from, rows_at_place, rows_at_places, rows_behind}
-use Rattle.mq_join.proofs.TurnLemmas.{bind_ok, exit, rest_end, rest_fault, rest_next, rest_of, turns_flat}
+use Rattle.mq_join.proofs.TurnLemmas.{bind_ok, exit, rest_fault, rest_next, rest_of, turns_flat}
 
 front_one : (front : Places) (place : ℕ) (rests : List Places) → map (λ rest. front ++ rest) (map (λ rest. place ∷ rest) rests) ≡ map (λ rest. (front ++ place ∷ []) ++ rest) rests
 front_one front place [] = refl
@@ -61,13 +61,6 @@ behind_none step items front kept e =
     ap (λ counts. rows_behind step counts front kept) (past_place (map length items) (length front) (slice_get-map length items (length front) ∙ ap (option_map length) e))
     ∙ behind_all step front kept
 
--- a place more stands one item further
-pub one_further : (step : Step) (items : List (List Tuple)) (front after : Places) (place : ℕ) (kept : List Joined) → after ≡ front ++ place ∷ []
-    → rows_behind step (counts_from items (length after)) after kept ≡ rows_at_place step (counts_from items (length front + 1)) front place kept
-one_further step items front after place kept e =
-    ap (λ (tuple : Places). rows_behind step (counts_from items (length tuple)) tuple kept) e
-    ∙ ap (λ n. rows_behind step (counts_from items n) (front ++ place ∷ []) kept) (length_push front place)
-
 -- the walk from the first item on
 pub from_first : (step : Step) (items : List (List Tuple)) (kept : List Joined) → rows_behind step (counts_from items 0) [] kept ≡ each_in_turn step (all_places (map length items)) kept
 from_first step items kept = ap (λ tuples. each_in_turn step tuples kept) (map-id (all_places (map length items)))
@@ -92,10 +85,6 @@ pub turns_fault : (step : Step) (items : List (List Tuple)) (front now : Places)
 turns_fault step items front now n i kept e whole same h g w =
     exit (place_step step items now i kept) whole e g
     (λ fault is. sym w ∙ rest_fault (place_step step items front) n i kept fault h (ap (λ (t : Places). place_step step items t i kept) (sym same) ∙ is))
-
-pub turns_end : (step : Step) (items : List (List Tuple)) (front : Places) (n i : ℕ) (kept : List Joined) (whole : Result (List Joined) FaultKind) → n ≤ i
-    → rest_of (place_step step items front) n i kept ≡ whole → whole ≡ Ok kept
-turns_end step items front n i kept whole h w = sym w ∙ rest_end (place_step step items front) n i kept h
 
 -- there is one more item, as a look-up by place tells it
 pub some_item : (step : Step) (items : List (List Tuple)) (front : Places) (rows : List Tuple) (kept : List Joined) (at count : ℕ) → at ≡ length front → at < length items → rows ≡ get_or items at rows → count ≡ length rows

@@ -31,13 +31,6 @@ all_seen slots looks seen h = by (list_all (is_known slots) looks) refl h
     by true e g = (e, cc)
     by false e g = cc
 
-pub not_seen : (slots : Slots) (looks : List Look) → None ≡ seen_if_known slots looks → list_all (is_known slots) looks ≡ false
-not_seen slots looks h = by (list_all (is_known slots) looks) refl h
-  where
-    by : (b : Bool) → list_all (is_known slots) looks ≡ b → None ≡ (if b then Some (seen_at slots looks) else None) → list_all (is_known slots) looks ≡ false
-    by true e g = cc
-    by false e g = e
-
 pub steady_seen : (slots : Slots) (looks : List Look) (seen : List Sighting) → Some seen ≡ seen_if_known slots looks → AreSteady seen
 steady_seen slots looks seen h = subst AreSteady (sym (all_seen slots looks seen h).1) (steady_at slots looks)
 
@@ -64,11 +57,6 @@ module _ (model : Model) (shape : PartShape) (turn : ℕ) (rule : Rule) (target 
       ∙ ap (λ s. slot_over (value_seen s)) all.1
       ∙ ap slot_from (law (value_seen (seen_at slots looked)) there (agree_at slots looked))
       ∙ sym (ap (λ b. if b then slot_over there else Poisoned) all.0)
-
-  pub slot_unseen : (looks : List Look) → looks ≡ looked → None ≡ seen_if_known slots looks → Poisoned ≡ cell_slot model shape turn rule target slots
-  slot_unseen looks same h =
-      let there : Measures = λ c. done_value (slots c) in
-      sym (ap (λ b. if b then slot_over there else Poisoned) (not_seen slots looked (h ∙ ap (seen_if_known slots) same)))
 
   known : ((c : CellName) → is_done (slots c) ≡ true) → (looks : List Look) → list_all (is_known slots) looks ≡ true
   known all [] = refl

@@ -1,16 +1,13 @@
 -- Left sides that are the same in every turn.
-use Rattle.std.proofs.Common.{◌≡◌, ℕ, List, [], ◌∷◌, map, true, not, Result, Ok, Err, Some, refl, sym, ap, ◌∙◌}
+use Rattle.std.proofs.Common.{◌≡◌, ℕ, List, [], ◌∷◌, true, Result, Ok, Err, Some, refl, sym, ap, ◌∙◌}
 use Rattle.std.specs.Prelude.{if◌then◌else◌}
-use Rattle.std.specs.List.{filter}
 use Rattle.std.specs.Option.{option_map_or}
-use Rattle.mq_values.specs.declared.operators.Mode.TheVariants.{Upsert, UpsertAll}
 use Rattle.mq_ir.specs.declared.query.Rule.{Rule}
 use Rattle.mq_ir.specs.declared.query.SingleLeft.{SingleLeft}
-use Rattle.mq_ir.specs.Keys.{Tuple, each_first, is_among}
-use Rattle.mq_ir.specs.Partitions.{ascending}
+use Rattle.mq_ir.specs.Keys.{Tuple, is_among}
 use Rattle.mq_ir.specs.Placed.{placed_fault}
 use Rattle.mq_ir.specs.Results.{◌>>=◌, each_in_turn, marked}
-use Rattle.mq_ir.specs.Targets.{Targets, cmp_targets, is_symbolic, meets_left, meets_symbols, named, projected, targets}
+use Rattle.mq_ir.specs.Targets.{Targets}
 use Rattle.mq_ir.specs.Unfolding.{Model, unfold_rule}
 use Rattle.mq_unfold.specs.LeftSides.{rule_of}
 use Rattle.mq_single_lefts.specs.declared.fixed.Fixed.{Fixed}
@@ -38,22 +35,5 @@ fixed_rule model turn number rule f s w e there =
 
 -- ---- its target, where the cell is there
 module _ (left : SingleLeft) (set : List Tuple) (key : Tuple) (names : NamesKey left.places key) (there : is_among set key ≡ true) where
-  abbrev from_keys : List Tuple → Targets
-  from_keys keys =
-      let cells = ascending (cmp_targets left) keys in
-      record { cells = cells; created = filter (λ key. not (is_among set key)) cells }
-
   abbrev itself : Targets
   itself = record { cells = key ∷ []; created = [] }
-
-  own_alone : from_keys (key ∷ []) ≡ itself
-  own_alone = ap (λ b. record { cells = key ∷ []; created = if not b then key ∷ [] else [] }) there
-
-  own_of : (others : List Tuple) → from_keys (if is_symbolic left then others else named left ∷ []) ≡ itself
-  own_of others = ap (λ b. from_keys (if b then others else named left ∷ [])) names.positional ∙ ap (λ k. from_keys (k ∷ [])) (sym names.names) ∙ own_alone
-
-  pub own_upsert : targets left Upsert set ≡ itself
-  own_upsert = own_of (filter (meets_left left) set)
-
-  pub own_upsert_all : targets left UpsertAll set ≡ itself
-  own_upsert_all = own_of (each_first (map (projected left) (filter (meets_symbols left) set)))

@@ -1,5 +1,5 @@
 -- Loops over a list: what a fold has made so far, and what is not found yet.
-use Rattle.std.proofs.Common.{◌≡◌, ℕ, ◌+◌, ◌<◌, ◌≤◌, List, Bool, true, false, drop, length, get_or, Some, None, refl, sym, ap, ◌∙◌}
+use Rattle.std.proofs.Common.{◌≡◌, ℕ, ◌+◌, ◌<◌, ◌≤◌, List, Bool, true, false, drop, length, get_or, Some, refl, sym, ap, ◌∙◌}
 use Rattle.std.specs.Prelude.{if◌then◌else◌}
 use Rattle.std.specs.List.{find, fold}
 use Rattle.std.proofs.lemmas.List.{drop_all}
@@ -24,9 +24,6 @@ fold_end f first xs i now h w = sym (w.is ∙ ap (fold f now) (drop_all i xs h))
 pub record Sought {A : Type 0} (test : A → Bool) (xs : List A) (i : ℕ) : Type 0 where
   pub is : find test xs ≡ find test (drop i xs)
 
-pub seek_start : {A : Type 0} (test : A → Bool) (xs : List A) → Sought test xs 0
-seek_start test xs = record { is = refl }
-
 at_item : {A : Type 0} (test : A → Bool) (xs : List A) (i : ℕ) (x : A) (b : Bool) → i < length xs → x ≡ get_or xs i x → test x ≡ b → Sought test xs i → find test xs ≡ (if b then Some x else find test (drop (i + 1) xs))
 at_item test xs i x b h e g w = w.is ∙ ap (find test) (next_item xs i x h e) ∙ ap (λ t. if t then Some x else find test (drop (i + 1) xs)) g
 
@@ -35,6 +32,3 @@ seek_next test xs i x h e g w = record { is = at_item test xs i x false h e g w 
 
 pub seek_found : {A : Type 0} (test : A → Bool) (xs : List A) (i : ℕ) (x : A) → i < length xs → x ≡ get_or xs i x → test x ≡ true → Sought test xs i → Some x ≡ find test xs
 seek_found test xs i x h e g w = sym (at_item test xs i x true h e g w)
-
-pub seek_end : {A : Type 0} (test : A → Bool) (xs : List A) (i : ℕ) → length xs ≤ i → Sought test xs i → None ≡ find test xs
-seek_end test xs i h w = sym (w.is ∙ ap (find test) (drop_all i xs h))

@@ -1,5 +1,5 @@
 -- Turns, one after another.
-use Rattle.std.proofs.Common.{◌≡◌, ℕ, suc, ◌+◌, ◌-◌, ◌<◌, ◌≤◌, Bool, true, false, Result, Ok, Err, sym, ap, ◌∙◌, arith}
+use Rattle.std.proofs.Common.{◌≡◌, ℕ, suc, ◌+◌, ◌-◌, ◌<◌, ◌≤◌, Bool, true, false, Result, Ok, Err, ap, ◌∙◌, arith}
 use Rattle.mq_values.specs.Answers.{Gives}
 use Rattle.mq_values.specs.declared.memory.Fail.{Fail}
 use Rattle.mq_ir.specs.Placed.{Placed}
@@ -13,9 +13,6 @@ pub record Rounds (model : Model) (count : ℕ) (first : State) (turn : ℕ) (no
   pub is : turns_done model 0 count first ≡ turns_done model turn (count - turn) now
 
 module _ (model : Model) (count : ℕ) (first : State) where
-  pub rounds_start : Rounds model count first 0 first
-  rounds_start = let e : count - 0 ≡ count = omega arith in record { is = ap (λ n. turns_done model 0 n first) (sym e) }
-
   -- what comes behind a turn
   abbrev behind : ℕ → State × Bool → Result State Placed
   behind turn ended = elim ended.1 [ true ↦ Ok ended.0 | false ↦ turns_done model (turn + 1) (count - (turn + 1)) ended.0 ]
@@ -33,9 +30,6 @@ module _ (model : Model) (count : ℕ) (first : State) where
   pub rounds_last : (turn : ℕ) (now next : State) → turn < count → turn_with model turn (until_in model) now ≡ Ok (next, true)
       → Rounds model count first turn now → turns_done model 0 count first ≡ Ok next
   rounds_last turn now next h g w = one_more turn now h w ∙ ap (λ r. r >>= behind turn) g
-
-  pub rounds_end : (turn : ℕ) (now : State) → count ≤ turn → Rounds model count first turn now → turns_done model 0 count first ≡ Ok now
-  rounds_end turn now h w = let e : count - turn ≡ 0 = omega arith in w.is ∙ ap (λ n. turns_done model turn n now) e
 
   pub rounds_exit : (turn : ℕ) (now : State) (e : Fail Placed) → turn < count → Rounds model count first turn now
       → Gives {T = State × Bool} (Err e) (turn_with model turn (until_in model) now) → Gives {T = State} (Err e) (turns_done model 0 count first)

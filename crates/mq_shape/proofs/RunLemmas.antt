@@ -1,19 +1,18 @@
 -- Rows in the order of their partition keys, run by run.
-use Rattle.std.proofs.Common.{◌≡◌, ℕ, zero, suc, ◌+◌, ◌<◌, ◌≤◌, List, [], ◌∷◌, ◌++◌, Bool, true, false, not, cond, length, map, take, take_all, drop, get_or, Ordering, Less, Equal, Greater, refl, sym, ap, subst, ◌∙◌, append_assoc, add-one, drop-cons, arith}
+use Rattle.std.proofs.Common.{◌≡◌, ℕ, zero, suc, ◌+◌, ◌<◌, ◌≤◌, List, [], ◌∷◌, ◌++◌, Bool, true, false, not, cond, length, map, take, take_all, drop, get_or, Ordering, Less, Equal, Greater, refl, sym, ap, subst, ◌∙◌, add-one, drop-cons, arith}
 use Rattle.std.specs.Prelude.{if◌then◌else◌, ◌==◌}
-use Rattle.std.proofs.lemmas.List.{append-nil, drop_all, take_more}
+use Rattle.std.proofs.lemmas.List.{append-nil, take_more}
 use Rattle.std.specs.Cmp.{IsTotalOrder, on_total, tied_itself}
 use Rattle.std.specs.List.{filter}
-use Rattle.std.specs.Ordering.{is_eq, is_gt, is_lt, is_ne, on, ordering_reverse}
+use Rattle.std.specs.Ordering.{is_eq, is_gt, is_lt, is_ne, ordering_reverse}
 use Rattle.mq_values.specs.Order.{cmp_key}
 use Rattle.mq_values.specs.OrderLaws.{key_total}
 use Rattle.mq_ir.specs.declared.query.ModelPart.{ModelPart}
-use Rattle.mq_ir.specs.declared.query.PartInput.{PartInput}
 use Rattle.mq_ir.specs.Keys.{Tuple, each_first, is_same}
-use Rattle.mq_ir.specs.Partitions.{ascending, input_of, partition_keys, partitions}
+use Rattle.mq_ir.specs.Partitions.{ascending, input_of, partitions}
 use Rattle.mq_sort.specs.Rising.{Low, Rising}
 use Rattle.mq_shape.specs.Runs.{by_parts, has_parts, input_from, inputs_in}
-use Rattle.mq_shape.proofs.KeyLemmas.{first_ascending, first_kept, kept_mapped, kept_twice, other_way, same_is, same_itself}
+use Rattle.mq_shape.proofs.KeyLemmas.{first_ascending, first_kept, kept_mapped, kept_twice, same_is, same_itself}
 use Rattle.mq_sort.specs.SortLaws.{kept_ascending, less_on, mapped_ascending, none_front}
 
 next_item : {A : Type 0} (xs : List A) (i : ℕ) (x : A) → i < length xs → x ≡ get_or xs i x → drop i xs ≡ x ∷ drop (i + 1) xs
@@ -108,37 +107,10 @@ module _ (parts : ℕ) (first : Tuple) where
     pub least : Low (by_parts parts) first (drop i rows)
     pub rising : Rising (by_parts parts) (drop i rows)
 
-  pub in_run_start : (rows : List Tuple) → Low (by_parts parts) first rows → Rising (by_parts parts) rows → InRun rows 0
-  in_run_start rows l r = record { run = refl; others = refl; least = l; rising = r }
-
-  ne_is : (r : Ordering) → is_ne r ≡ false → is_eq r ≡ true
-  ne_is Less h = cc
-  ne_is Equal h = refl
-  ne_is Greater h = cc
-
   less_is : (r s : Ordering) → is_ne r ≡ true → s ≡ ordering_reverse r → is_lt s ≡ false → r ≡ Less
   less_is Less s h e l = refl
   less_is Equal s h e l = cc
   less_is Greater s h e l = let t : is_lt s ≡ true = ap is_lt e in cc
-
-  pub in_run_next : (rows : List Tuple) (i : ℕ) (row : Tuple) → i < length rows → row ≡ get_or rows i row → is_ne (by_parts parts first row) ≡ false → InRun rows i → InRun rows (i + 1)
-  in_run_next rows i row h e n w =
-      let at : drop i rows ≡ row ∷ drop (i + 1) rows = next_item rows i row h e in
-      let is_own : own row ≡ true = ne_is (by_parts parts first row) n in
-      record {
-        run =
-            w.run
-            ∙ ap (λ l. take i rows ++ filter own l) at
-            ∙ ap (λ b. take i rows ++ cond b (row ∷ filter own (drop (i + 1) rows)) (filter own (drop (i + 1) rows))) is_own
-            ∙ sym (append_assoc (take i rows) (row ∷ []) (filter own (drop (i + 1) rows)))
-            ∙ ap (λ l. l ++ filter own (drop (i + 1) rows)) (sym (one_more rows i row h e));
-        others =
-            w.others
-            ∙ ap (filter (λ row. not (own row))) at
-            ∙ ap (λ b. cond (not b) (row ∷ filter (λ row. not (own row)) (drop (i + 1) rows)) (filter (λ row. not (own row)) (drop (i + 1) rows))) is_own;
-        least = (subst (Low (by_parts parts) first) at w.least).1;
-        rising = (subst (Rising (by_parts parts)) at w.rising).1;
-      }
 
   -- the run ends before this row, or with all rows
   pub record RunIs (rows : List Tuple) (i : ℕ) : Type 0 where
@@ -170,12 +142,6 @@ module _ (parts : ℕ) (first : Tuple) where
             ∙ ap (λ l. row ∷ l) (all_other row row (drop (i + 1) rows) less r.0)
             ∙ sym at);
       }
-
-  pub in_run_end : (rows : List Tuple) (i : ℕ) → length rows ≤ i → InRun rows i → RunIs rows i
-  in_run_end rows i h w = record {
-    run = sym (w.run ∙ ap (λ l. take i rows ++ filter own l) (drop_all i rows h) ∙ append-nil (take i rows));
-    others = drop_all i rows h ∙ sym (w.others ∙ ap (filter (λ row. not (own row))) (drop_all i rows h));
-  }
 
 -- ---- the loop over the runs
 module _ (parts : ℕ) where

@@ -1,30 +1,22 @@
 -- Left sides that do not know the turn.
-use Rattle.std.proofs.Common.{◌≡◌, ℕ, ◌+◌, List, [], ◌∷◌, length, map, Result, Ok, Err, Some, refl, sym, ap, ◌∙◌}
-use Rattle.std.specs.Prelude.{if◌then◌else◌, nat_lt}
+use Rattle.std.proofs.Common.{◌≡◌, ℕ, ◌+◌, List, [], ◌∷◌, Ok, refl, sym, ap, ◌∙◌}
+use Rattle.std.specs.Prelude.{if◌then◌else◌}
 use Rattle.std.specs.List.{All, enumerate_from}
 use Rattle.mq_values.specs.Convert.{cast_of}
-use Rattle.mq_values.specs.declared.faults.FaultKind.TheVariants.{TooManyUnfolded}
-use Rattle.mq_values.specs.declared.limits.TheConstants.{MAX_SINGLE_LEFT_SIDES}
 use Rattle.mq_values.specs.declared.value.Value.{Value}
 use Rattle.mq_ir.specs.declared.expression.Expr.TheVariants as expr
 use Rattle.mq_ir.specs.declared.query.LeftItem.{LeftItem}
 use Rattle.mq_ir.specs.declared.query.LeftItem.TheVariants.{At}
 use Rattle.mq_ir.specs.declared.query.Left.TheVariants.{Places}
-use Rattle.mq_ir.specs.declared.query.Rule.{Rule}
-use Rattle.mq_ir.specs.declared.query.SingleLeft.{SingleLeft}
 use Rattle.mq_ir.specs.declared.query.SinglePlace.TheVariants as place
 use Rattle.mq_ir.specs.Combinations.{combinations}
 use Rattle.mq_ir.specs.Expression.{Outcome, ev}
 use Rattle.mq_ir.specs.ExpressionLaws.{worth_lit}
-use Rattle.mq_ir.specs.Placed.{kind_of, placed_fault}
-use Rattle.mq_ir.specs.Results.{◌>>=◌, each, marked}
-use Rattle.mq_ir.specs.Unfolding.{Model, item_places, kind_at, left_leaves, single, unfold_rule}
+use Rattle.mq_ir.specs.Results.{◌>>=◌, each}
+use Rattle.mq_ir.specs.Unfolding.{Model, item_places, kind_at, left_leaves}
 use Rattle.mq_ir.specs.Worth.{as_value}
-use Rattle.mq_unfold.specs.LeftSides.{left_sides_of, rule_of}
 use Rattle.mq_single_lefts.specs.EachLaws.{Each, each_in}
 use Rattle.mq_single_lefts.specs.FixedLefts.{IsSteady, IsSteadyLeft}
-use Rattle.mq_single_lefts.specs.Lefts.{lefts_of}
-use Rattle.mq_single_lefts.proofs.LeftLemmas.{lefts_there}
 
 -- a literal is the same in every turn
 pub literal_steady : (v : Value) → IsSteady (At (expr.Lit v))
@@ -41,15 +33,3 @@ each_steady model turn other n (item ∷ items) a =
 
 pub places_steady : (items : List LeftItem) → All IsSteady items → IsSteadyLeft (Places items)
 places_steady items a = λ model turn other. ap (λ r. r >>= (λ lists. Ok (combinations lists))) (each_steady model turn other 0 items (each_in IsSteady items a))
-
-marked_ok : {A E F : Type 0} (mark : E → F) (r : Result A E) (x : A) → marked mark r ≡ Ok x → r ≡ Ok x
-marked_ok mark (Ok y) x h = let e : y ≡ x = cc in ap Ok e
-marked_ok mark (Err fault) x h = absurd (cc)
-
--- a steady left side that gives one in the first turn gives it in every turn
-pub always_is : (model : Model) (number : ℕ) (rule : Rule) (left : SingleLeft) → rule_of model.part.rules number ≡ Some rule → IsSteadyLeft rule.left
-    → lefts_of model 0 number rule ≡ Ok (left ∷ []) → (turn : ℕ) → left_sides_of model number turn ≡ Ok (left ∷ [])
-always_is model number rule left there steady is turn =
-    lefts_there model number turn rule there
-    ∙ ap (λ r. marked kind_of r >>= (λ all. if nat_lt MAX_SINGLE_LEFT_SIDES (length all) then Err TooManyUnfolded else Ok (map (single rule) all))) (steady model turn 0)
-    ∙ marked_ok (placed_fault number []) (unfold_rule model rule 0) (left ∷ []) is

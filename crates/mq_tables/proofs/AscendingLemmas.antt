@@ -11,7 +11,7 @@ use Rattle.std.proofs.lemmas.List.Sorted.{searchable_from_sorted}
 use Rattle.std.proofs.lemmas.Option.{slice_get-get_or}
 use Rattle.std.proofs.lemmas.Map.Keys.{Less-from_sorted, any_passes_from_place}
 use Rattle.std.proofs.lemmas.Map.Views.{any-filter_same}
-use Rattle.std.proofs.lemmas.List.{take_all, take_more}
+use Rattle.std.proofs.lemmas.List.{take_more}
 use Rattle.mq_values.specs.Order.{cmp_key}
 use Rattle.mq_values.specs.OrderLaws.{key_total}
 use Rattle.mq_ir.specs.Keys.{Tuple, is_among, is_same}
@@ -188,6 +188,3 @@ gathered_next keys set after i key copy h e c a g = record {
         ∙ ap (λ k. is_among (take i keys ++ k ∷ []) q) (sym e)
         ∙ among_both (take i keys) (key ∷ []) q
         ∙ last_first (is_among (take i keys) q) (is_same q key)
-
-pub gathered_all : (keys set : List Tuple) (i : ℕ) → length keys ≤ i → Gathered keys i set → HoldsSame keys set
-gathered_all keys set i h g q = g.same q ∙ ap (λ l. is_among l q) (take_all i keys h)

@@ -67,10 +67,6 @@ pub after_size : (tables : Tables) (change : Change) (name : List ℕ) (t : Tabl
 after_size tables change name t n h s =
     of_table tables change t (ap (table_at tables) (sym n) ∙ h) ∙ ap (λ o. unless_refused o (drafted t change >>= keyed t)) s
 
-pub rows_refused : (tables : Tables) (change : Change) (name : List ℕ) (t : Table) (e : Refused) → name ≡ table_of change → table_at tables name ≡ Some t → size_fault tables t (rows_added change) ≡ None
-    → drafted t change ≡ Err e → staging tables change ≡ Err e
-rows_refused tables change name t e n h s d = after_size tables change name t n h s ∙ ap (λ r. r >>= keyed t) d
-
 -- a draft is what it comes to once its keys are judged
 pub after_draft : (tables : Tables) (change : Change) (name : List ℕ) (t : Table) (draft : Draft) → name ≡ table_of change → table_at tables name ≡ Some t
     → size_fault tables t (rows_added change) ≡ None → drafted t change ≡ Ok draft → staging tables change ≡ keyed t draft

@@ -40,10 +40,6 @@ repeated_alike a b h (k ∷ keys) =
     ap (λ t. if t then Some k else first_repeated (k ∷ a) keys) (h k)
     ∙ ap (λ r. if is_among b k then Some k else r) (repeated_alike (k ∷ a) (k ∷ b) (λ q. ap (λ t. is_same q k || t) (h q)) keys)
 
--- a key that is not new
-pub repeated_here : (earlier keys : List Tuple) (k : Tuple) → is_among earlier k ≡ true → first_repeated earlier (k ∷ keys) ≡ Some k
-repeated_here earlier keys k e = ap (λ t. if t then Some k else first_repeated (k ∷ earlier) keys) e
-
 -- where there is a key at all
 pub where_keyed : {A : Type 0} (columns : List ℕ) (x : Option A) → (columns ≡ [] → ⊥) → elim columns [ [] ↦ None | _ ∷ _ ↦ x ] ≡ x
 where_keyed [] x h = absurd (h refl)
@@ -56,11 +52,6 @@ next_key schema rows keys i row key h e k =
     ap (λ l. first_repeated keys (map (row_key schema) l)) (next_item rows i row h e)
     ∙ ap (λ q. first_repeated keys (q ∷ map (row_key schema) (drop (i + 1) rows))) (sym k)
 
-pub was_there : (b c : Bool) → b ≡ not c → b ≡ false → c ≡ true
-was_there true c e f = absurd (cc)
-was_there false true e f = refl
-was_there false false e f = absurd (cc)
-
 pub was_new : (b c : Bool) → b ≡ not c → b ≡ true → c ≡ false
 was_new false c e f = absurd (cc)
 was_new true false e f = refl
@@ -69,11 +60,3 @@ was_new true true e f = absurd (cc)
 -- the fault of the keys, where there is a key
 pub keyed_fault : (schema : Schema) (rows : List Tuple) → (schema.key ≡ [] → ⊥) → key_fault schema rows ≡ option_map refused.DuplicateKey (first_repeated [] (map (row_key schema) rows))
 keyed_fault schema rows h = where_keyed schema.key (option_map refused.DuplicateKey (first_repeated [] (map (row_key schema) rows))) h
-
--- where there is none
-pub no_key : (schema : Schema) (rows : List Tuple) → schema.key ≡ [] → key_fault schema rows ≡ None
-no_key schema rows h = without schema.key (option_map refused.DuplicateKey (first_repeated [] (map (row_key schema) rows))) h
-  where
-    without : {A : Type 0} (columns : List ℕ) (x : Option A) → columns ≡ [] → ◌≡◌ {A = Option A} (elim columns [ [] ↦ None | _ ∷ _ ↦ x ]) None
-    without [] x e = refl
-    without (c ∷ cs) x e = absurd (cc)

@@ -1,18 +1,16 @@
 -- Keys that are kept in runs, and new keys behind them.
-use Rattle.std.proofs.Common.{◌≡◌, ℕ, ◌+◌, ◌<◌, ◌≤◌, List, [], ◌∷◌, ◌++◌, Bool, true, false, not, ◌||◌, length, map, take, drop, get_or, Some, None, refl, sym, ap, ◌∙◌}
+use Rattle.std.proofs.Common.{◌≡◌, ℕ, ◌+◌, ◌<◌, ◌≤◌, List, [], ◌∷◌, ◌++◌, Bool, true, false, not, ◌||◌, length, map, take, drop, get_or, Some, refl, sym, ap, ◌∙◌}
 use Rattle.std.specs.Prelude.{if◌then◌else◌}
 use Rattle.std.specs.BTreeSet.{insert_key}
-use Rattle.std.specs.Option.{option_map}
 use Rattle.std.proofs.lemmas.Grind.{flat_map-append}
-use Rattle.std.proofs.lemmas.List.{append-nil, drop_all, take-append-drop}
+use Rattle.std.proofs.lemmas.List.{take-append-drop}
 use Rattle.std.proofs.lemmas.List.Folds.{list_any-append}
 use Rattle.mq_values.specs.Order.{cmp_key}
-use Rattle.mq_values.specs.declared.faults.Refused.TheVariants as refused
 use Rattle.mq_ir.specs.declared.statement.Schema.{Schema}
 use Rattle.mq_ir.specs.Changes.{first_repeated, row_key}
 use Rattle.mq_ir.specs.Keys.{Tuple, is_among, is_same}
 use Rattle.mq_tables.specs.KeyOrder.{HoldsBoth, PutsTo, all_keys}
-use Rattle.mq_tables.proofs.KeyLemmas.{among_inserted, next_key, repeated_alike, repeated_here, swapped, was_new, was_there}
+use Rattle.mq_tables.proofs.KeyLemmas.{among_inserted, next_key, repeated_alike, swapped, was_new}
 use Rattle.mq_tables.proofs.Walks.{next_item}
 
 pub among_both : (a b : List Tuple) (q : Tuple) → is_among (a ++ b) q ≡ (is_among a q || is_among b q)
@@ -34,33 +32,9 @@ or_false false = refl
 abbrev pub IsSought : List (List Tuple) → ℕ → Tuple → Type 0
 IsSought runs i key = is_among (all_keys (drop i runs)) key ≡ is_among (all_keys runs) key
 
-here_or_behind : (runs : List (List Tuple)) (i : ℕ) (run : List Tuple) (q : Tuple) → i < length runs → run ≡ get_or runs i run
-    → is_among (all_keys (drop i runs)) q ≡ (is_among run q || is_among (all_keys (drop (i + 1) runs)) q)
-here_or_behind runs i run q h e = ap (λ l. is_among (all_keys l) q) (next_item runs i run h e) ∙ among_both run (all_keys (drop (i + 1) runs)) q
-
-pub sought_here : (runs : List (List Tuple)) (i : ℕ) (run : List Tuple) (key : Tuple) → i < length runs → run ≡ get_or runs i run → is_among run key ≡ true → IsSought runs i key → is_among (all_keys runs) key ≡ true
-sought_here runs i run key h e t s =
-    sym s ∙ here_or_behind runs i run key h e ∙ ap (λ b. b || is_among (all_keys (drop (i + 1) runs)) key) t
-
-pub sought_next : (runs : List (List Tuple)) (i : ℕ) (run : List Tuple) (key : Tuple) → i < length runs → run ≡ get_or runs i run → is_among run key ≡ false → IsSought runs i key → IsSought runs (i + 1) key
-sought_next runs i run key h e f s =
-    sym (ap (λ b. b || is_among (all_keys (drop (i + 1) runs)) key) f) ∙ sym (here_or_behind runs i run key h e) ∙ s
-
-pub sought_end : (runs : List (List Tuple)) (i : ℕ) (key : Tuple) → length runs ≤ i → IsSought runs i key → is_among (all_keys runs) key ≡ false
-sought_end runs i key h s = sym s ∙ ap (λ l. is_among (all_keys l) key) (drop_all i runs h)
-
 -- ---- keys are put together: those that are left to put, and those that are there
 abbrev pub Joining : List Tuple → List Tuple → List Tuple → List Tuple → Type 0
 Joining some others left there = (q : Tuple) → (is_among left q || is_among there q) ≡ (is_among some q || is_among others q)
-
-pub joining_run : (runs : List (List Tuple)) (others there after : List Tuple) (i : ℕ) (run : List Tuple) → i < length runs → run ≡ get_or runs i run → HoldsBoth run there after
-    → Joining (all_keys runs) others (all_keys (drop i runs)) there → Joining (all_keys runs) others (all_keys (drop (i + 1) runs)) after
-joining_run runs others there after i run h e b j q =
-    let rest = is_among (all_keys (drop (i + 1) runs)) q in
-    ap (λ t. rest || t) (b q)
-    ∙ sym (moved (is_among run q) rest (is_among there q))
-    ∙ sym (ap (λ t. t || is_among there q) (here_or_behind runs i run q h e))
-    ∙ j q
 
 pub joining_key : (some others there after left rest : List Tuple) (key copy : Tuple) → left ≡ key ∷ rest → copy ≡ key → after ≡ insert_key cmp_key there copy
     → Joining some others left there → Joining some others rest after
@@ -70,9 +44,6 @@ joining_key some others there after left rest key copy e c a j q =
     ∙ sym (moved (is_same q key) (is_among rest q) (is_among there q))
     ∙ sym (ap (λ l. is_among l q || is_among there q) e)
     ∙ j q
-
-pub joined_all : (some others there left : List Tuple) → left ≡ [] → Joining some others left there → HoldsBoth some others there
-joined_all some others there left e j q = sym (ap (λ l. is_among l q || is_among there q) e) ∙ j q
 
 -- the runs that stay, and what the others come to with new keys
 pub own_with : (runs stay : List (List Tuple)) (n : ℕ) (keys own all : List Tuple) → stay ≡ take n runs → HoldsBoth (all_keys (drop n runs)) keys own → all_keys runs ≡ all → HoldsBoth keys all (all_keys stay ++ own)
@@ -110,12 +81,6 @@ pub record Adding (schema : Schema) (earlier : List Tuple) (rows : List Tuple) (
   pub is : first_repeated (earlier ++ keys) (map (row_key schema) (drop i rows)) ≡ first_repeated earlier (map (row_key schema) rows)
   pub among : (q : Tuple) → (is_among (map (row_key schema) (drop i rows)) q || is_among keys q) ≡ is_among (map (row_key schema) rows) q
 
-pub adding_start : (schema : Schema) (earlier rows keys : List Tuple) → keys ≡ [] → Adding schema earlier rows 0 keys
-adding_start schema earlier rows keys e = record {
-  is = ap (λ l. first_repeated (earlier ++ l) (map (row_key schema) rows)) e ∙ ap (λ l. first_repeated l (map (row_key schema) rows)) (append-nil earlier);
-  among = λ q. ap (λ l. is_among (map (row_key schema) rows) q || is_among l q) e ∙ or_false (is_among (map (row_key schema) rows) q);
-}
-
 next_among : (schema : Schema) (rows : List Tuple) (i : ℕ) (row key q : Tuple) → i < length rows → row ≡ get_or rows i row → key ≡ row_key schema row
     → is_among (map (row_key schema) (drop i rows)) q ≡ (is_same q key || is_among (map (row_key schema) (drop (i + 1) rows)) q)
 next_among schema rows i row key q h e k =
@@ -146,20 +111,3 @@ adding_next schema earlier rows keys after i row key added h e k a t n adding = 
         ∙ ap (λ b. is_among earlier q || b) (n q)
         ∙ swapped (is_among earlier q) (is_same q key) (is_among keys q)
         ∙ sym (ap (λ b. is_same q key || b) (among_both earlier keys q))
-
-pub adding_repeated : (schema : Schema) (earlier rows keys : List Tuple) (i : ℕ) (row key : Tuple) (added : Bool) → i < length rows → row ≡ get_or rows i row → key ≡ row_key schema row
-    → added ≡ not (is_among earlier key || is_among keys key) → added ≡ false → Adding schema earlier rows i keys
-    → option_map refused.DuplicateKey (first_repeated earlier (map (row_key schema) rows)) ≡ Some (refused.DuplicateKey key)
-adding_repeated schema earlier rows keys i row key added h e k a t adding =
-    ap (option_map refused.DuplicateKey)
-    (sym adding.is
-    ∙ next_key schema rows (earlier ++ keys) i row key h e k
-    ∙ repeated_here (earlier ++ keys) (map (row_key schema) (drop (i + 1) rows)) key
-    (among_both earlier keys key ∙ was_there added (is_among earlier key || is_among keys key) a t))
-
-pub adding_end : (schema : Schema) (earlier rows keys : List Tuple) (i : ℕ) → length rows ≤ i → Adding schema earlier rows i keys
-    → (first_repeated earlier (map (row_key schema) rows) ≡ None) × ((q : Tuple) → is_among keys q ≡ is_among (map (row_key schema) rows) q)
-adding_end schema earlier rows keys i h adding = (
-  sym adding.is ∙ ap (λ l. first_repeated (earlier ++ keys) (map (row_key schema) l)) (drop_all i rows h),
-  λ q. sym (ap (λ l. is_among (map (row_key schema) l) q || is_among keys q) (drop_all i rows h)) ∙ adding.among q,
-)

@@ -78,10 +78,6 @@ module _ (schema : Schema) (rows : List Tuple) (old : ℕ) where
       ap (λ o. unless_refused o (Ok rows)) (grown_refused order e k known (ap (λ (l : List Tuple). option_map refused.DuplicateKey (first_repeated order (map (row_key schema) l))) (sym p) ∙ h))
   grown_exit order part fail.Memory p k known h = tt
 
--- the keys of no row
-pub of_none : (schema : Schema) (rows : List Tuple) → AreKeys (map (row_key schema) (take 0 rows)) []
-of_none schema rows = record { all = λ q. refl; apart = refl }
-
 -- keys that are kept repeat none
 pub kept_apart : (schema : Schema) (rows order : List Tuple) → schema.key ≢ [] → AreKeys (map (row_key schema) rows) order → key_fault schema rows ≡ None
 kept_apart schema rows order k known = keyed_fault schema rows k ∙ ap (option_map refused.DuplicateKey) known.apart

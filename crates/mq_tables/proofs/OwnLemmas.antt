@@ -1,7 +1,7 @@
 -- Keys that nobody else holds, in two parts.
 use Rattle.std.proofs.Common.{◌≡◌, List, [], ◌∷◌, ◌++◌, Bool, true, false, not, ◌&&◌, ◌||◌, refl, sym, ap, ◌∙◌}
 use Rattle.mq_ir.specs.Keys.{Tuple, is_among, is_same}
-use Rattle.mq_tables.specs.KeyOrder.{HoldsBoth, Loses, PutsTo}
+use Rattle.mq_tables.specs.KeyOrder.{HoldsBoth, PutsTo}
 use Rattle.mq_tables.proofs.KeyOrderLemmas.{among_both, or_false}
 
 -- a key is put to the one part or to the other
@@ -15,21 +15,6 @@ put_first last after behind key h q =
     grouped : (a b c : Bool) → ((a || b) || c) ≡ (a || (b || c))
     grouped true b c = refl
     grouped false b c = refl
-
-pub put_second : (last behind : List Tuple) (key : Tuple) → PutsTo key (last ++ behind) (last ++ (behind ++ key ∷ []))
-put_second last behind key q =
-    among_both last (behind ++ key ∷ []) q
-    ∙ ap (λ b. is_among last q || b) (among_both behind (key ∷ []) q)
-    ∙ turned (is_among last q) (is_among behind q) (is_same q key)
-    ∙ ap (λ b. is_same q key || b) (sym (among_both last behind q))
-  where
-    turned : (a b c : Bool) → (a || (b || (c || false))) ≡ (c || (a || b))
-    turned true b true = refl
-    turned true b false = refl
-    turned false true true = refl
-    turned false true false = refl
-    turned false false true = refl
-    turned false false false = refl
 
 pub new_to_both : (last behind all : List Tuple) (key : Tuple) → last ++ behind ≡ all → is_among last key ≡ false → is_among behind key ≡ false → true ≡ not (is_among all key)
 new_to_both last behind all key e f g =
@@ -74,29 +59,3 @@ both_from_union others last after u q = u q ∙ turned (is_among last q) (is_amo
     turned true false = refl
     turned false true = refl
     turned false false = refl
-
-pub put_all_first : (last after behind others : List Tuple) → HoldsBoth others last after → HoldsBoth others (last ++ behind) (after ++ behind)
-put_all_first last after behind others h q =
-    among_both after behind q
-    ∙ ap (λ b. b || is_among behind q) (h q)
-    ∙ grouped (is_among others q) (is_among last q) (is_among behind q)
-    ∙ ap (λ b. is_among others q || b) (sym (among_both last behind q))
-  where
-    grouped : (a b c : Bool) → ((a || b) || c) ≡ (a || (b || c))
-    grouped true b c = refl
-    grouped false b c = refl
-
--- keys are taken out of both parts
-pub lost_both : (last behind gone first second : List Tuple) → Loses last gone first → Loses behind gone second → Loses (last ++ behind) gone (first ++ second)
-lost_both last behind gone first second h k q =
-    among_both first second q
-    ∙ (λ i. h q i || k q i)
-    ∙ spread (is_among last q) (is_among behind q) (not (is_among gone q))
-    ∙ ap (λ b. b && not (is_among gone q)) (sym (among_both last behind q))
-  where
-    spread : (a b c : Bool) → ((a && c) || (b && c)) ≡ ((a || b) && c)
-    spread true true true = refl
-    spread true true false = refl
-    spread true false true = refl
-    spread true false false = refl
-    spread false b c = refl

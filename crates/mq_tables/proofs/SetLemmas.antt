@@ -1,5 +1,5 @@
 -- The columns that are set, one after another.
-use Rattle.std.proofs.Common.{◌≡◌, ℕ, ◌+◌, ◌<◌, ◌≤◌, List, [], ◌∷◌, ◌++◌, length, get_or, Result, Ok, Err, refl, ap, sym, ◌∙◌}
+use Rattle.std.proofs.Common.{◌≡◌, ℕ, ◌+◌, ◌<◌, ◌≤◌, List, [], ◌∷◌, ◌++◌, length, get_or, Result, Ok, refl, ap, sym, ◌∙◌}
 use Rattle.std.specs.Prelude.{slice_set}
 use Rattle.std.proofs.lemmas.List.Sums.{fold_push}
 use Rattle.mq_values.specs.declared.faults.Refused.{Refused}
@@ -9,8 +9,8 @@ use Rattle.mq_ir.specs.declared.statement.Schema.{Schema}
 use Rattle.mq_ir.specs.Changes.{with_values}
 use Rattle.mq_ir.specs.Keys.{Tuple}
 use Rattle.mq_ir.specs.Results.{◌>>=◌}
-use Rattle.mq_tables.specs.Drafts.{row_set, set_value}
-use Rattle.mq_tables.proofs.Walks.{Walked, walk_start, walk_next, walk_end, walk_fault}
+use Rattle.mq_tables.specs.Drafts.{set_value}
+use Rattle.mq_tables.proofs.Walks.{Walked, walk_next}
 
 -- what a SET gives: the column with its value
 abbrev pub set_of : Schema → ℕ → Tuple → ℕ × Expr → Result (ℕ × Value) Refused
@@ -25,9 +25,6 @@ pub record Setting (schema : Schema) (number : ℕ) (row : Tuple) (sets : List (
   pub walk : Walked (set_of schema number row) sets i done
   pub values_are : values ≡ with_values row done
 
-pub setting_start : (schema : Schema) (number : ℕ) (row : Tuple) (sets : List (ℕ × Expr)) (values : Tuple) → values ≡ row → Setting schema number row sets 0 values
-setting_start schema number row sets values e = record { done = []; walk = walk_start (set_of schema number row) sets [] refl; values_are = e }
-
 pub setting_next : (schema : Schema) (number : ℕ) (row : Tuple) (sets : List (ℕ × Expr)) (i : ℕ) (values after : Tuple) (set : ℕ × Expr) (v : Value)
     → i < length sets → set ≡ get_or sets i set → set_value schema number row set.0 set.1 ≡ Ok v → after ≡ slice_set values set.0 v
     → Setting schema number row sets i values → Setting schema number row sets (i + 1) after
@@ -36,13 +33,3 @@ setting_next schema number row sets i values after set v h e g a s = record {
   walk = walk_next (set_of schema number row) sets i s.done (s.done ++ (set.0, v) ∷ []) set (set.0, v) h e (ap (λ r. r >>= (λ v. Ok (set.0, v))) g) refl s.walk;
   values_are = a ∙ ap (λ l. slice_set l set.0 v) s.values_are ∙ sym (set_more row s.done set.0 v);
 }
-
-pub setting_end : (schema : Schema) (number : ℕ) (row : Tuple) (sets : List (ℕ × Expr)) (i : ℕ) (values : Tuple)
-    → length sets ≤ i → Setting schema number row sets i values → row_set schema sets (number, row) ≡ Ok values
-setting_end schema number row sets i values h s =
-    ap (λ r. r >>= (λ vs. Ok (with_values row vs))) (walk_end (set_of schema number row) sets i s.done h s.walk) ∙ ap Ok (sym s.values_are)
-
-pub setting_fault : (schema : Schema) (number : ℕ) (row : Tuple) (sets : List (ℕ × Expr)) (i : ℕ) (values : Tuple) (set : ℕ × Expr) (fault : Refused)
-    → i < length sets → set ≡ get_or sets i set → set_value schema number row set.0 set.1 ≡ Err fault → Setting schema number row sets i values → row_set schema sets (number, row) ≡ Err fault
-setting_fault schema number row sets i values set fault h e g s =
-    ap (λ r. r >>= (λ vs. Ok (with_values row vs))) (walk_fault (set_of schema number row) sets i s.done set fault h e (ap (λ r. r >>= (λ v. Ok (set.0, v))) g) s.walk)

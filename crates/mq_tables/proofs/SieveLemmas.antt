@@ -6,8 +6,7 @@ use Rattle.std.specs.Cmp.{nat_cmp_total, tied_itself}
 use Rattle.mq_values.specs.Number.{Number, cmp_worth}
 use Rattle.mq_values.specs.Order.{cmp_text}
 use Rattle.mq_values.specs.OrderTells.{same_number, same_text}
-use Rattle.mq_values.specs.Truth.{Truth, comparison, is_true}
-use Rattle.mq_values.specs.declared.faults.Refused.TheVariants as refused
+use Rattle.mq_values.specs.Truth.{Truth, comparison}
 use Rattle.mq_values.specs.declared.operators.CmpOp.{CmpOp}
 use Rattle.mq_values.specs.declared.operators.CmpOp.TheVariants.{Eq}
 use Rattle.mq_values.specs.declared.value.Value.{Value}
@@ -19,17 +18,17 @@ use Rattle.mq_ir.specs.declared.expression.Leaf.TheVariants as leaf
 use Rattle.mq_ir.specs.declared.expression.Worth.TheVariants as worth
 use Rattle.mq_ir.specs.declared.statement.Schema.{Schema}
 use Rattle.mq_ir.specs.BaseRows.{column_at, row_leaves}
-use Rattle.mq_ir.specs.Changes.{is_chosen, row_key}
+use Rattle.mq_ir.specs.Changes.{row_key}
 use Rattle.mq_ir.specs.ConditionLaws.{worth_and, worth_cmp}
 use Rattle.mq_ir.specs.Conditions.{and_then, compared_to, conjunction}
 use Rattle.mq_ir.specs.Expression.{worth_of}
 use Rattle.mq_ir.specs.ExpressionLaws.{worth_leaf, worth_lit}
 use Rattle.mq_ir.specs.Keys.{Tuple}
-use Rattle.mq_ir.specs.Results.{◌>>=◌, marked}
+use Rattle.mq_ir.specs.Results.{◌>>=◌}
 use Rattle.mq_ir.specs.Worth.{Found, Outcome, a_truth, a_value, as_truth, as_value}
 use Rattle.mq_tables.specs.declared.marks.Mark.{Mark}
 use Rattle.mq_tables.specs.Marks.{differ, mark_of, number_mark, text_mark}
-use Rattle.mq_tables.specs.Sieves.{HasValue, IsWanted, NeverFaults, Refutes, Sieves, StandsBeside, is_other}
+use Rattle.mq_tables.specs.Sieves.{HasValue, NeverFaults, Refutes, StandsBeside}
 use Rattle.mq_tables.proofs.Walks.{next_item}
 
 -- ---- marks that differ
@@ -143,9 +142,6 @@ module _ (e a b : Expr) (column : ℕ) (wanted : Mark) (h : e ≡ expr.Cmp a Eq 
 pub record GoesOn (es : List Expr) (i : ℕ) : Type 0 where
   pub from : (row : Tuple) → conjunction (founds row (drop i es)) ≡ Ok (Some false) → conjunction (founds row es) ≡ Ok (Some false)
 
-pub goes_on_at_first : (es : List Expr) → GoesOn es 0
-goes_on_at_first es = record { from = λ row h. h }
-
 stays_false : (t : Truth) → and_then t (Ok (Some false)) ≡ Ok (Some false)
 stays_false None = refl
 stays_false (Some true) = refl
@@ -169,28 +165,9 @@ module _ (es : List Expr) (i : ℕ) (e : Expr) (h : i < length es) (is : e ≡ g
       ∙ ap a_truth (g.from row (comes_to row (Some false) (r row d)))
 
 -- ---- conditions
--- a condition that is false chooses no row
-not_chosen : (number : ℕ) (r : Found) → r ≡ Ok (worth.Truth (Some false)) → (marked (refused.ChangeValue number) (as_truth r) >>= (λ (t : Truth). Ok (is_true t))) ≡ Ok false
-not_chosen number r e = ap (λ (r : Found). marked (refused.ChangeValue number) (as_truth r) >>= (λ (t : Truth). Ok (is_true t))) e
-
-pub condition_wants : (filter : Option Expr) (e : Expr) (column : ℕ) (wanted : Mark) → filter ≡ Some e → Refutes column e wanted
-    → IsWanted filter (λ row. slice_index_or row column value.Null) wanted
-condition_wants filter e column wanted h r number row d =
-    ap (λ (f : Option Expr). is_chosen f (number, row)) h ∙ not_chosen number (worth_of (row_leaves (row ∷ [])) e) (r row d)
-
 pub if_some : {A : Type 0} (P Q : A → Type 0) (o : Option A) → ((x : A) → P x → Q x) → IfSome o P → IfSome o Q
 if_some P Q None f h = tt
 if_some P Q (Some x) f h = f x h
-
--- what stands at a place of the key of a row
-pub at_key : (schema : Schema) (row : Tuple) (place column : ℕ) → slice_get schema.key place ≡ Some column
-    → slice_index_or row column value.Null ≡ slice_index_or (row_key schema row) place value.Null
-at_key schema row place column h = by schema.key place h
-  where
-    by : (key : List ℕ) (place : ℕ) → slice_get key place ≡ Some column → slice_index_or row column value.Null ≡ slice_index_or (map (λ c. slice_index_or row c value.Null) key) place value.Null
-    by [] place h = absurd (cc)
-    by (c ∷ key) zero h = let q : c ≡ column = cc in ap (λ c. slice_index_or row c value.Null) (sym q)
-    by (c ∷ key) (suc place) h = by key place h
 
 pub behind_key : (schema : Schema) (row : Tuple) (place : ℕ) → slice_get schema.key place ≡ None → slice_index_or (row_key schema row) place value.Null ≡ value.Null
 behind_key schema row place h = by schema.key place h
@@ -200,26 +177,3 @@ behind_key schema row place h = by schema.key place h
     by [] (suc place) h = refl
     by (c ∷ key) zero h = absurd (cc)
     by (c ∷ key) (suc place) h = by key place h
-
-pub key_wants : (filter : Option Expr) (schema : Schema) (place column : ℕ) (wanted : Mark) → slice_get schema.key place ≡ Some column
-    → IsWanted filter (λ row. slice_index_or row column value.Null) wanted → IsWanted filter (λ row. slice_index_or (row_key schema row) place value.Null) wanted
-key_wants filter schema place column wanted h w number row d =
-    w number row (ap (λ v. differ (mark_of v) wanted) (at_key schema row place column h) ∙ d)
-
--- one of two marks is another one
-pub both_sieve : (filter : Option Expr) (schema : Schema) (first second : Option Mark)
-    → IfSome first (IsWanted filter (λ row. slice_index_or (row_key schema row) 0 value.Null))
-    → IfSome second (IsWanted filter (λ row. slice_index_or (row_key schema row) 1 value.Null))
-    → Sieves filter schema (record { first = first; second = second })
-both_sieve filter schema first second f s number row h =
-    by (is_other first (mark_of (slice_index_or (row_key schema row) 0 value.Null))) refl h
-  where
-    one : (o : Option Mark) (place : ℕ) → IfSome o (IsWanted filter (λ row. slice_index_or (row_key schema row) place value.Null))
-        → is_other o (mark_of (slice_index_or (row_key schema row) place value.Null)) ≡ true → is_chosen filter (number, row) ≡ Ok false
-    one None place w k = absurd (cc)
-    one (Some wanted) place w k = w number row k
-
-    by : (b : Bool) → is_other first (mark_of (slice_index_or (row_key schema row) 0 value.Null)) ≡ b
-        → (b || is_other second (mark_of (slice_index_or (row_key schema row) 1 value.Null))) ≡ true → is_chosen filter (number, row) ≡ Ok false
-    by true k g = one first 0 f k
-    by false k g = one second 1 s g

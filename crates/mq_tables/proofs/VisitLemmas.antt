@@ -1,5 +1,5 @@
 -- One visited row more.
-use Rattle.std.proofs.Common.{◌≡◌, ℕ, ◌+◌, ◌<◌, ◌≤◌, get_or, List, [], ◌∷◌, ◌++◌, Bool, true, false, not, Option, Some, None, length, map, Result, Ok, Err, refl, sym, ap, ◌∙◌, arith, length-append}
+use Rattle.std.proofs.Common.{◌≡◌, ℕ, ◌+◌, ◌<◌, ◌≤◌, get_or, List, [], ◌∷◌, ◌++◌, Bool, true, false, not, Option, Some, None, length, map, Result, Ok, refl, sym, ap, ◌∙◌, arith, length-append}
 use Rattle.std.specs.Prelude.{if◌then◌else◌}
 use Rattle.std.specs.List.{enumerate_from, filter}
 use Rattle.std.proofs.lemmas.List.Elements.{filter-append}
@@ -7,11 +7,11 @@ use Rattle.std.proofs.lemmas.List.{append-nil, map_push}
 use Rattle.mq_values.specs.declared.faults.Refused.{Refused}
 use Rattle.mq_ir.specs.Changes.{Visited, visited_as}
 use Rattle.mq_ir.specs.Keys.{Tuple}
-use Rattle.mq_ir.specs.Results.{◌>>=◌, each}
+use Rattle.mq_ir.specs.Results.{◌>>=◌}
 use Rattle.mq_tables.specs.Drafts.{deleted, updated}
 use Rattle.mq_tables.specs.Staging.{place_unless_true, places_left}
 use Rattle.mq_tables.specs.declared.drafts.Draft.{Draft}
-use Rattle.mq_tables.proofs.Walks.{Numbered, number_start, number_next, number_end, number_fault}
+use Rattle.mq_tables.proofs.Walks.{Numbered, number_next}
 
 abbrev is_taken : Bool → Visited → Bool
 is_taken wanted row = if wanted then row.1 else not row.1
@@ -81,17 +81,6 @@ pub record Visiting (draft : List Visited → Draft) (f : ℕ × Tuple → Resul
   pub counted_is : counted ≡ (draft visited).counted
   pub within : counted ≤ i
 
-pub updating_start : (f : ℕ × Tuple → Result Visited Refused) (xs rows : List Tuple) (places : List (Option ℕ)) → rows ≡ [] → places ≡ [] → Visiting updated f xs 0 rows places 0
-updating_start f xs rows places r p = record {
-  visited = [];
-  walk = number_start f xs [] refl;
-  count = refl;
-  rows_are = r;
-  places_are = p;
-  counted_is = refl;
-  within = omega arith;
-}
-
 pub updating_next : (f : ℕ × Tuple → Result Visited Refused) (xs rows after : List Tuple) (places behind : List (Option ℕ)) (counted total i : ℕ) (x row : Tuple) (chosen : Bool)
     → i < length xs → x ≡ get_or xs i x → f (i + 1, x) ≡ Ok (row, chosen)
     → after ≡ rows ++ row ∷ [] → behind ≡ places ++ (if chosen then None else Some i) ∷ [] → total ≡ counted + (if chosen then 1 else 0)
@@ -111,17 +100,6 @@ updating_next f xs rows after places behind counted total i x row chosen h e g a
     one_more : (b : Bool) → total ≡ counted + (if b then 1 else 0) → total ≤ i + 1
     one_more true k = let w = v.within in omega (arith, k, w)
     one_more false k = let w = v.within in omega (arith, k, w)
-
-pub deleting_start : (f : ℕ × Tuple → Result Visited Refused) (xs rows : List Tuple) (places : List (Option ℕ)) → rows ≡ [] → places ≡ [] → Visiting deleted f xs 0 rows places 0
-deleting_start f xs rows places r p = record {
-  visited = [];
-  walk = number_start f xs [] refl;
-  count = refl;
-  rows_are = r;
-  places_are = p;
-  counted_is = refl;
-  within = omega arith;
-}
 
 -- a row that is left, and one that is deleted
 pub deleting_left : (f : ℕ × Tuple → Result Visited Refused) (xs rows after : List Tuple) (places behind : List (Option ℕ)) (counted total i : ℕ) (x row : Tuple)
@@ -154,18 +132,3 @@ deleting_taken f xs rows after places behind counted total i x row h e g a b t v
       counted_is = t ∙ ap (λ n. n + 1) v.counted_is ∙ sym (counted_push vs row true);
       within = let w = v.within in omega (arith, t, w);
     }
-
-abbrev draft_of : List Tuple → ℕ → List (Option ℕ) → Draft
-draft_of rows counted places = record { rows = rows; counted = counted; origins = places }
-
-pub visiting_end : (draft : List Visited → Draft) (f : ℕ × Tuple → Result Visited Refused) (xs : List Tuple) (i : ℕ) (rows : List Tuple) (places : List (Option ℕ)) (counted : ℕ)
-    → length xs ≤ i → Visiting draft f xs i rows places counted → (each f (enumerate_from 1 xs) >>= (λ visited. Ok (draft visited))) ≡ Ok (draft_of rows counted places)
-visiting_end draft f xs i rows places counted h v =
-    ap (λ r. r >>= (λ visited. Ok (draft visited))) (number_end f xs i v.visited h v.walk)
-    ∙ ap (λ l. Ok (draft_of l (draft v.visited).counted (draft v.visited).origins)) (sym v.rows_are)
-    ∙ ap (λ n. Ok (draft_of rows n (draft v.visited).origins)) (sym v.counted_is)
-    ∙ ap (λ p. Ok (draft_of rows counted p)) (sym v.places_are)
-
-pub visiting_fault : (draft : List Visited → Draft) (f : ℕ × Tuple → Result Visited Refused) (xs : List Tuple) (i : ℕ) (rows : List Tuple) (places : List (Option ℕ)) (counted : ℕ) (x : Tuple) (fault : Refused)
-    → i < length xs → x ≡ get_or xs i x → f (i + 1, x) ≡ Err fault → Visiting draft f xs i rows places counted → (each f (enumerate_from 1 xs) >>= (λ visited. Ok (draft visited))) ≡ Err fault
-visiting_fault draft f xs i rows places counted x fault h e g v = ap (λ r. r >>= (λ visited. Ok (draft visited))) (number_fault f xs i v.visited x fault h e g v.walk)

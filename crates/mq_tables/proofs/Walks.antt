@@ -117,9 +117,6 @@ next_pair : {A C : Type 0} (cs : List A) (xs : List C) (i : ℕ) (c : A) (x : C)
     → zip (drop i cs) (drop i xs) ≡ (c, x) ∷ zip (drop (i + 1) cs) (drop (i + 1) xs)
 next_pair cs xs i c x s h e = ap (λ l. zip l (drop i xs)) (at_place cs i c s) ∙ ap (zip (c ∷ drop (i + 1) cs)) (next_item xs i x h e)
 
-pub pair_start : {A C B E : Type 0} (f : A × C → Result B E) (cs : List A) (xs : List C) (ys : List B) → ys ≡ [] → Paired f cs xs 0 ys
-pair_start f cs xs ys e = record { is = started (each f (zip cs xs)) ∙ ap (λ l. each f (zip cs xs) >>= (λ zs. Ok (l ++ zs))) (sym e) }
-
 pub pair_next : {A C B E : Type 0} (f : A × C → Result B E) (cs : List A) (xs : List C) (i : ℕ) (ys after : List B) (c : A) (x : C) (y : B) → slice_get cs i ≡ Some c → i < length xs → x ≡ get_or xs i x → f (c, x) ≡ Ok y → after ≡ ys ++ y ∷ [] → Paired f cs xs i ys → Paired f cs xs (i + 1) after
 pair_next f cs xs i ys after c x y s h e g a w = record {
   is =

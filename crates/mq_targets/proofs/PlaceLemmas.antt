@@ -78,17 +78,6 @@ pub the_named : (left : SingleLeft) (set : List Tuple) → is_symbolic left ≡ 
 the_named left set h wide s =
     filter_alike (meets_left left) (is_same (named left)) set (λ k d l. all_positional left.places (get_or set k d) h (wide k d l)) ∙ only_it key_total same_key (named left) set s
 
--- the places and a key, one more pair of them
-pub one_pair : (places : List SinglePlace) (key : Tuple) (at : ℕ) (p : SinglePlace) (v : Value) → at < length places → at < length key →
-    map value_at (zip (drop at places) (drop at key)) ≡ value_at (get_or places at p, get_or key at v) ∷ map value_at (zip (drop (at + 1) places) (drop (at + 1) key))
-one_pair [] key at p v l m = absurd (omega arith)
-one_pair (place ∷ places) [] at p v l m = absurd (omega arith)
-one_pair (place ∷ places) (w ∷ key) zero p v l m = refl
-one_pair (place ∷ places) (w ∷ key) (suc at) p v l m =
-    let rest = one_pair places key at p v (omega arith) (omega arith) in
-    let e : suc at + 1 ≡ suc (at + 1) = omega arith in
-    rest ∙ (λ i. value_at (get_or places at p, get_or key at v) ∷ map value_at (zip (drop (sym e i) (place ∷ places)) (drop (sym e i) (w ∷ key))))
-
 pub no_pair : (places : List SinglePlace) (key : Tuple) (at : ℕ) → min (length places) (length key) ≤ at → map value_at (zip (drop at places) (drop at key)) ≡ []
 no_pair [] key zero l = refl
 no_pair [] key (suc at) l = refl

@@ -3,7 +3,6 @@ use Rattle.std.proofs.Common.{◌≡◌, ℕ, List, [], ◌∷◌, ◌++◌, Boo
 use Rattle.std.specs.List.{find, list_any}
 use Rattle.std.specs.Option.{ok_or, option_map_or}
 use Rattle.std.specs.Io.KnownBytes.{Appends}
-use Rattle.std.proofs.KnownBytes.{Appends-nil}
 use Rattle.mq_io.specs.Progress.{AppendsFront}
 use Rattle.mq_values.specs.Answers.{Gives}
 use Rattle.mq_values.specs.declared.faults.Refused.{Refused}
@@ -30,7 +29,7 @@ use Rattle.mq_engine.specs.Sessions.{view_answer}
 use Rattle.mq_ready_laws.specs.BuiltForms.{built}
 use Rattle.mq_ready_laws.specs.ReadyLaws.{BoundQueryIsReady, BoundViewIsReady, CreatedTableIsNew, LoadIsNotBuilt}
 use Rattle.mq_tool.specs.Script.{IsReadAs, Read, Tree, meaning, or_refusal, statement_step}
-use Rattle.mq_tool.specs.Steps.{CanRun, CutShort, Does, Finds, Steps, Takes, Tries, Writes}
+use Rattle.mq_tool.specs.Steps.{CanRun, CutShort, Does, Steps, Takes, Tries, Writes}
 use Rattle.mq_tool.proofs.CatalogLemmas.{not_there, ready}
 use Rattle.mq_tool.proofs.ReadLemmas.{one_read}
 
@@ -71,13 +70,6 @@ shown state name a h = by (find (λ view. is_name name view.name) state.views) h
     by None g = absurd cc
     by (Some view) g = let e : answer_of state.tables view.query ≡ a = cc in ap (told state) e
 
-pub not_shown : (state : State) (name : List ℕ) (n : NoView) → view_answer state name ≡ Err n → show_step state name ≡ Err (refused.UnknownName n.name)
-not_shown state name n h = by (find (λ view. is_name name view.name) state.views) h
-  where
-    by : (o : Option View) → answered state o name ≡ Err n → printed_of state o name ≡ unknown n.name
-    by None g = let same : NoView = record { name = name } in let e : same ≡ n = cc in ap (λ (x : NoView). unknown x.name) e
-    by (Some view) g = absurd cc
-
 -- one line behind the others
 pub one_line : (before after : List ℕ) (line : Line) → after ≡ before ++ line_text line → after ≡ before ++ text_of (line ∷ [])
 one_line before after line e = e ∙ ap (λ t. before ++ t) (sym (append-nil (line_text line)))
@@ -102,12 +94,6 @@ tried tokens old new before after s b (Ok flaw) is e h =
 tried tokens old new before after s b (Err fail.Memory) is e h = tt
 tried tokens old new before after s b (Err (fail.Cause r)) is e h =
     (Tree s, is, λ files. subst (λ (m : Result Printed Refused). Takes m old new before after (Err (fail.Cause r))) (sym (meant_by files old s b e)) (h files))
-
--- tokens that no statement reads, and a statement that is refused where it is bound
-pub not_read : (tokens : List Lexeme) (old : State) (before : List ℕ) (e : Fail Refused) → Finds tokens (Err e) → Tries tokens old old before before (Err e)
-not_read tokens old before fail.Memory h = tt
-not_read tokens old before (fail.Cause r) h =
-    (h.0, h.1, λ files. (ap (λ (m : Result Stmt Refused). m >>= (λ s. statement_bound (catalog_of old) s >>= taken files old)) h.2, refl, refl))
 
 pub not_bound : (tokens : List Lexeme) (old : State) (before : List ℕ) (s : Stmt) (e : Fail Refused) → IsReadAs tokens (Tree s)
     → Gives (Err e) (statement_bound (catalog_of old) s) → Tries tokens old old before before (Err e)
@@ -147,6 +133,3 @@ pub cut_at : (s : Statement) (old new : State) (before after : Option (List ℕ)
 cut_at s old new before after text flaw d a files read is =
     let same : read ≡ d.0 = one_read s.tokens read d.0 is d.1 in
     subst (AppendsFront before after) ((d.2 files).1 ∙ ap (λ (r : Read). text_of (statement_step files old (s.line, r)).1) (sym same)) a
-
-pub not_begun : (s : Statement) (old : State) (before : Option (List ℕ)) → CutShort s old before before
-not_begun s old before files read is = ([], text_of (statement_step files old (s.line, read)).1, refl, Appends-nil before)
