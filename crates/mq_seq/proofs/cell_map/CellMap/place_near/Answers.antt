@@ -7,4 +7,5 @@ use Rattle.mq_seq.proofs.cell_map.CellMap.place_near.Goals as goal
 pub returns : goal.returns
 returns c =
     let map = c.self.inside in
-    c.place_in.ensures ∙ ap (λ keys. place_of keys c.args.key.now) (sym (keys_of-zip map.keys map.measures.items c.self.invariant) ∙ ap keys_of c.self.view_is)
+    c.place_near.ensures
+    ∙ ap (λ keys. place_of keys c.args.key.now) (c.keys.ensures.all ∙ sym (keys_of-zip map.keys map.measures.items c.self.invariant) ∙ ap keys_of c.self.view_is)
