@@ -11,6 +11,7 @@ use crate::verdict::Verdict;
 use crate::walking::walk_rounds;
 use mq_cells::Cells;
 use mq_ir::{Model, PartInput};
+use mq_refs::arrays_ascend;
 use mq_values::Memory;
 use std::alloc::Global;
 
@@ -34,7 +35,15 @@ pub fn compute<C: Cells>(
     let judged = judge(alloc, m, p)?;
     match judged {
         Ok((shape, leveled)) => {
-            walk_rounds(alloc, m, &shape, leveled.rounds.as_slice(), cells)?;
+            let refs_ascend = arrays_ascend(m.refs);
+            walk_rounds(
+                alloc,
+                m,
+                &shape,
+                leveled.rounds.as_slice(),
+                refs_ascend,
+                cells,
+            )?;
             Ok(Verdict::Done(shape))
         }
         Err(fault) => Ok(Verdict::Broken(fault)),

@@ -26,7 +26,7 @@ pub fn rows<C: Cells>(
 {
     let updated = updated_keys(alloc, s.assigned.as_slice())?;
     let mut rows = Items::with_room(alloc, s.cells.len());
-    // Cells come in the order of the input's, so each is found beside the last one.
+    // Cells come in the order of the input's, so most are found beside the last one.
     let mut near = 0;
     'listing: for key in s.cells.as_slice() {
         let cell = out_cell(alloc, m, s, &updated, key, &mut near, cells)?;

@@ -1,9 +1,8 @@
 //! A model that runs over one partition after another.
-ghost use Rattle.std.specs.Prelude.{◌≡◌, IfOk};
-ghost use Rattle.std.specs.List.Sorted.{IsStrictlySortedBy};
-ghost use Rattle.mq_values.specs.Order.{cmp_key};
+ghost use Rattle.std.specs.Prelude.{◌≡◌, true, IfOk};
 ghost use Rattle.mq_ir.specs.Automatic.{automatic, slots_in};
 ghost use Rattle.mq_ir.specs.Unfolding.{model_of};
+ghost use Rattle.mq_refs.specs.Orders.{ArraysAscend, KeysAscend};
 ghost use Rattle.mq_auto_shape.specs.Found.{AreRoundsOf};
 ghost use Rattle.mq_single_lefts.specs.Conditions.{IsReady};
 ghost use Rattle.mq_auto.specs.Meaning.{result_with};
@@ -15,25 +14,28 @@ use crate::walking::walk_rounds;
 use mq_cells::GridCells;
 use mq_ir::{Model as Lent, PartInput, PartResult, PartShape};
 use mq_levels::Leveled;
+use mq_refs::arrays_ascend;
 use mq_values::{Items, Memory};
 use std::alloc::Global;
 use std::marker::Model;
 
-/// A model in automatic order that runs over one partition after another. It keeps the last shape with its rounds: a
-/// shape sees no value of a cell, so it serves again where the next partition has cells at the same keys. Contracts see
-/// it as its model (docs/MEANING.md, "Automatic order").
+/// A model in automatic order that runs over one partition after another. Whether the cells of the references ascend is found
+/// once. The last shape is kept with its rounds: a shape sees no value of a cell, so it serves again where the next partition
+/// has cells at the same keys. Contracts see the runner as its model (docs/MEANING.md, "Automatic order").
 #[derive(Drop)]
 pub struct AutoRunner<'a> {
     model: &'a Lent<'a>,
+    refs_ascend: bool,
     last: Option<(PartShape, Leveled)>,
 }
 
 impl<'a> Model for AutoRunner<'a> {
-    ghost use Rattle.std.specs.Prelude.{IfSome};
+    ghost use Rattle.std.specs.Prelude.{◌≡◌, true, IfSome};
     ghost use Rattle.std.specs.Coded.{codes};
     ghost use Rattle.mq_ir.specs.contracts.expression.Expr as expr;
     ghost use Rattle.mq_ir.specs.contracts.expression.Test as test;
     ghost use Rattle.mq_ir.specs.Unfolding.{Model as Seen, model_of};
+    ghost use Rattle.mq_refs.specs.Orders.{ArraysAscend};
     ghost use Rattle.mq_auto.specs.Findings.{IsLevelled};
 
     ghost Value = { Seen };
@@ -42,7 +44,7 @@ impl<'a> Model for AutoRunner<'a> {
 
     ghost view = { λ r. model_of r.model.now };
 
-    ghost invariant = { λ r. IfSome r.last (IsLevelled (model_of r.model.now)) };
+    ghost invariant = { λ r. IfSome r.last (IsLevelled (model_of r.model.now)) × (r.refs_ascend ≡ true → ArraysAscend r.model.now.refs.now) };
 }
 
 impl<'a> AutoRunner<'a> {
@@ -50,7 +52,11 @@ impl<'a> AutoRunner<'a> {
     pub fn new(model: &'a Lent<'a>) -> AutoRunner<'a>
         ensures { result ≡ model_of model.now }
     {
-        AutoRunner { model, last: None }
+        AutoRunner {
+            model,
+            refs_ascend: arrays_ascend(model.refs),
+            last: None,
+        }
     }
 
     /// What the rules make of a partition: its cells, or the first fault, as `run_auto` has them. `Memory` is the only
@@ -61,10 +67,18 @@ impl<'a> AutoRunner<'a> {
         ensures same { self.new ≡ self.old }
     {
         let model = self.model;
+        let refs_ascend = self.refs_ascend;
         let last = self.last.take();
         match judge_after(alloc, model, p, last)? {
             Ok(found) => {
-                let result = result_over(alloc, model, p, &found.0, found.1.rounds.as_slice())?;
+                let result = result_over(
+                    alloc,
+                    model,
+                    p,
+                    &found.0,
+                    found.1.rounds.as_slice(),
+                    refs_ascend,
+                )?;
                 self.last = Some(found);
                 Ok(result)
             }
@@ -80,13 +94,15 @@ fn result_over(
     p: &PartInput,
     shape: &PartShape,
     rounds: &[Items<u32>],
+    refs_ascend: bool,
 ) -> Result<PartResult, Memory>
     requires own { AreOwn shape.now }
-    requires ascend { IsStrictlySortedBy cmp_key shape.now.cells }
+    requires ascend { KeysAscend shape.now.cells }
+    requires refs { refs_ascend ≡ true → ArraysAscend m.now.refs.now }
     requires rounds { AreRoundsOf (model_of m.now) shape.now rounds.now }
     ensures { IfOk result (λ r. r ≡ result_with (model_of m.now) p.now.key shape.now (slots_in (model_of m.now) shape.now p.now.cells)) }
 {
     let mut cells = GridCells::new(alloc, p, shape.cells.as_slice());
-    walk_rounds(alloc, m, shape, rounds, &mut cells)?;
+    walk_rounds(alloc, m, shape, rounds, refs_ascend, &mut cells)?;
     result_of(alloc, m, &p.key, shape, &mut cells)
 }

@@ -1,12 +1,12 @@
 //! The values of assignments, round by round.
-ghost use Rattle.std.specs.Prelude.{◌≡◌, ◌-◌, ℕ, Some, slice_get, OnOk};
+ghost use Rattle.std.specs.Prelude.{◌≡◌, ◌-◌, ℕ, true, Some, slice_get, OnOk};
 ghost use Rattle.std.specs.Option.{option_copied};
 ghost use Rattle.mq_ir.specs.declared.query.Rule.{Rule};
 ghost use Rattle.mq_ir.specs.declared.query.CellName.{CellName};
 ghost use Rattle.mq_ir.specs.Partitions.{Cells, cell_at};
 ghost use Rattle.mq_ir.specs.Unfolding.{model_of};
 ghost use Rattle.mq_cells.specs.Columns.{no_results};
-ghost use Rattle.mq_refs.specs.Orders.{IsInOrder};
+ghost use Rattle.mq_refs.specs.Orders.{ArraysAscend, IsInOrder, KeysAscend};
 ghost use Rattle.mq_auto_shape.specs.Found.{AreRoundsOf};
 ghost use Rattle.mq_auto.specs.Meaning.{result_at};
 ghost use Rattle.mq_auto.specs.Walks.{AreFoundAt, AreOwn, IsFoundAt, IsPut, model_in};
@@ -14,20 +14,23 @@ ghost use Rattle.mq_auto.specs.Walks.{AreFoundAt, AreOwn, IsFoundAt, IsPut, mode
 use crate::work::Work;
 use mq_cells::Cells;
 use mq_ir::{Model, PartShape, Rule, steps_read_their_looks};
-use mq_refs::{InOrder, arrays_ascend, eval_cell_lent, keys_ascend};
+use mq_refs::{InOrder, eval_cell_lent, keys_ascend};
 use mq_values::{Items, Key, Memory};
 use std::alloc::Global;
 
 /// Finds the slots of all assignments of `s`, round by round: each looks at none but those of earlier rounds and at the
-/// input.
+/// input. `refs_ascend` says whether the cells of the references are known to ascend.
 pub fn walk_rounds<C: Cells>(
     alloc: Global,
     m: &Model<'_>,
     s: &PartShape,
     rounds: &[Items<u32>],
+    refs_ascend: bool,
     cells: &mut C,
 ) -> Result<(), Memory>
     requires own { AreOwn s.now }
+    requires ascend { KeysAscend s.now.cells }
+    requires refs { refs_ascend ≡ true → ArraysAscend m.now.refs.now }
     requires rounds { AreRoundsOf (model_of m.now) s.now rounds.now }
     ensures values { OnOk result ((input : Cells) → C.input cells.old ≡ cell_at input → C.results cells.old ≡ no_results
         → (c : CellName) → C.results cells.new c ≡ result_at (model_of m.now) s.now input c) }
@@ -38,8 +41,8 @@ pub fn walk_rounds<C: Cells>(
         shape: s,
         order: InOrder {
             base: keys_ascend(s.base.as_slice()),
-            refs: arrays_ascend(m.refs),
-            cells: keys_ascend(s.cells.as_slice()),
+            refs: refs_ascend,
+            cells: true,
         },
     };
     'rounds: for round in rounds {

@@ -9,6 +9,8 @@ walk_rounds-requires g c =
     let judged = rw c.in-Ok.is at c.in_ok-judged.ensures in
     record {
       own = judged.rounds.own;
+      ascend = judged.rounds.ascend;
+      refs = c.arrays_ascend-refs_ascend.ensures.0;
       rounds = subst (AreRoundsOf (model_of c.args.m.now) c.in-Ok.shape) (sym c.as_slice.ensures) judged.rounds.rounds;
     }
 
