@@ -20,7 +20,7 @@ use Rattle.mq_ast.specs.declared.expressions.E.{E}
 use Rattle.mq_ast.specs.declared.expressions.E.TheVariants as e
 use Rattle.mq_lexer.specs.declared.keywords.Keyword.{Keyword}
 use Rattle.mq_lexer.specs.declared.keywords.Keyword.TheVariants as word
-use Rattle.mq_ast.specs.declared.terminals.Symbol.TheVariants as sign
+use Rattle.mq_lexer.specs.declared.terminals.Symbol.TheVariants as sign
 use Rattle.mq_ast.specs.Tokens.{Tok, Word, Aggregate, Sign, Name, Num, Text, opener, closer, open_square, close_square, comma, minus, star}
 use Rattle.mq_ast.specs.GrammarNames.{PathE, IsInt, scale_of, KindE}
 use Rattle.mq_ast.specs.Calls.{call_of}

@@ -1,7 +1,7 @@
 -- The words of the grammar, from all of these files: what those who read trees or bind them name. The laws are in Laws.
 pub use Rattle.mq_ast.specs.Tokens.{Tok, Word, Aggregate, Sign, Name, Num, Text, Bad, terminal_at, rest_of, opener, closer, open_square}
 pub use Rattle.mq_ast.specs.Tokens.{close_square, comma, point, equal, minus, star}
-pub use Rattle.mq_ast.specs.Spelling.{symbols, symbol_of, word_tok, sign_tok, number_tok, unquoted, content_of, content_tok, text_tok}
+pub use Rattle.mq_ast.specs.Spelling.{number_or_zero, text_or_empty, unquoted, content_of}
 pub use Rattle.mq_ast.specs.Spelling.{tok, tok_of, toks}
 pub use Rattle.mq_ast.specs.Continuing.{loose, Stops, Not, Ends, EndsList, EndsKey, EndsKeys, EndsOrder, Opens, EndsCols, part, Past}
 pub use Rattle.mq_ast.specs.Chains.{or_of, and_of, sum_of, prod_of, sum_term, prod_term, arm}

@@ -3,13 +3,13 @@ use Rattle.std.specs.Prelude.{ℕ, List, [], ◌∷◌}
 use Rattle.mq_values.specs.Number.{Number}
 use Rattle.mq_lexer.specs.declared.keywords.Keyword.{Keyword}
 use Rattle.mq_values.specs.declared.operators.Agg.{Agg}
-use Rattle.mq_ast.specs.declared.terminals.Symbol.{Symbol}
-use Rattle.mq_ast.specs.declared.terminals.Symbol.TheVariants as sign
+use Rattle.mq_lexer.specs.declared.terminals.Symbol.{Symbol}
+use Rattle.mq_lexer.specs.declared.terminals.Symbol.TheVariants as sign
 use Rattle.mq_values.specs.declared.operators.CmpOp.TheVariants as cmp
 use Rattle.mq_values.specs.declared.operators.SumOp.TheVariants as sum
 use Rattle.mq_values.specs.declared.operators.ProdOp.TheVariants as prod
-use Rattle.mq_ast.specs.declared.terminals.Terminal.{Terminal}
-use Rattle.mq_ast.specs.declared.terminals.Terminal.TheVariants as terminal
+use Rattle.mq_lexer.specs.declared.terminals.Terminal.{Terminal}
+use Rattle.mq_lexer.specs.declared.terminals.Terminal.TheVariants as terminal
 
 -- a keyword, an aggregate, a sign, a name as it is spelled, a number, the content of a text, or what no line of the grammar reads
 pub data Tok : Type 0 where

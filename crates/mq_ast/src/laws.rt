@@ -17,7 +17,7 @@ ghost use Rattle.mq_ast.specs.GrammarQuery.{PlainE};
 ghost use Rattle.mq_ast.specs.GrammarModel.{QueryE};
 ghost use Rattle.mq_ast.specs.GrammarStatement.{StmtE};
 
-use mq_lexer::tokens_are_spelled;
+use mq_lexer::{tokens_are_of_their_class, tokens_are_spelled};
 
 /// An expression without an operator, alone or with a sign.
 pub fn one_primary()
@@ -70,8 +70,9 @@ pub fn one_statement()
 /// its mantissa, a text has what stands between its quotes, and a sign is in the table of signs. So a token is Bad for
 /// the grammar only where it is a Bad token of the text (docs/MEANING.md, "The grammar of the whole language").
 pub fn tokens_are_read()
-    ensures read { (z : lexer.Text) → All (λ (t : Lexeme). Reads t.sort t.text (tok t.sort t.text)) (lexer.tokens z) }
-    ensures bad { (z : lexer.Text) → All (λ (t : Lexeme). tok t.sort t.text ≡ Bad → t.sort ≡ sort.Bad) (lexer.tokens z) }
+    ensures read { (z : lexer.Text) → All (λ (t : Lexeme). Reads t.sort t.text (tok t.terminal t.text)) (lexer.tokens z) }
+    ensures bad { (z : lexer.Text) → All (λ (t : Lexeme). tok t.terminal t.text ≡ Bad → t.sort ≡ sort.Bad) (lexer.tokens z) }
 {
-    tokens_are_spelled()
+    tokens_are_spelled();
+    tokens_are_of_their_class()
 }

@@ -11,17 +11,15 @@ pub mod levels;
 pub mod parts;
 mod queries;
 mod statements;
-mod terminals;
 
 pub use expressions::{Arm, E, Path, Place, ProdTerm, SumTerm};
 pub use laws::{
     one_conjunction, one_expression, one_plain, one_primary, one_product, one_query, one_statement,
     one_sum, one_test, tokens_are_read,
 };
-pub use mq_lexer::Keyword;
+pub use mq_lexer::{Keyword, Symbol, Terminal};
 pub use queries::{
     ForList, FromItem, LeftPlace, LeftTree, ModelTree, Opt, OrderKey, Plain, Query, RefTree,
     RuleTree, Sel,
 };
 pub use statements::{ColDef, Stmt};
-pub use terminals::{Symbol, Terminal};

@@ -25,8 +25,8 @@ use Rattle.mq_ir.specs.Shape.{Assignment, cmp_by_rule, least_of}
 use Rattle.mq_ir.specs.Slots.{Slots}
 use Rattle.mq_ir.specs.Unfolding.{Model}
 use Rattle.mq_cells.specs.Stores.{CellInput, Results, faulted_from, first_faulted, input_value, is_faulted, name_assigned, slot_at}
-use Rattle.mq_sort.specs.Rising.{Low, Rising}
-use Rattle.mq_sort.specs.SortLaws.{greater_is, mapped_ascending, rising_ascending, rising_kept}
+use Rattle.mq_ir.specs.Rising.{Low, Rising}
+use Rattle.mq_ir.specs.SortLaws.{greater_is, mapped_ascending, rising_ascending, rising_kept}
 use Rattle.mq_auto.specs.Findings.{faulted_at}
 use Rattle.mq_auto.specs.Meaning.{result_with}
 

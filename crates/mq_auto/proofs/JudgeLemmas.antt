@@ -28,7 +28,7 @@ use Rattle.mq_levels.specs.declared.dealing.Leveled.{Leveled}
 use Rattle.mq_auto_shape.specs.Conditions.{AreReady}
 use Rattle.mq_auto_shape.specs.Found.{AreRoundsOf, IsShapeOf, shape_meant}
 use Rattle.mq_auto.specs.declared.verdict.Verdict.TheVariants.{Done, Broken}
-use Rattle.mq_single_lefts.specs.Conditions.{IsReady}
+use Rattle.mq_ir.specs.Ready.{IsReady}
 use Rattle.mq_auto.specs.Findings.{IsJudged}
 use Rattle.mq_auto.specs.Meaning.{judged, result_with, verdict_on}
 

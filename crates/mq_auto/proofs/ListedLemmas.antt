@@ -9,8 +9,8 @@ use Rattle.mq_values.specs.Order.{cmp_key}
 use Rattle.mq_values.specs.OrderLaws.{key_total}
 use Rattle.mq_values.specs.OrderTells.{same_key}
 use Rattle.mq_ir.specs.Keys.{Tuple, each_first, is_among, is_same}
-use Rattle.mq_single_lefts.specs.KeySetLaws.{among_with}
-use Rattle.mq_single_lefts.specs.StepLaws.{next_item}
+use Rattle.mq_values.specs.KeySetLaws.{among_with}
+use Rattle.mq_ir.specs.StepLaws.{next_item}
 use Rattle.mq_auto.proofs.NodeLemmas.{is_equal}
 
 filter_all : {X : Type 0} (xs : List X) → filter (λ x. true) xs ≡ xs

@@ -3,7 +3,7 @@ ghost use Rattle.std.specs.Prelude.{◌≡◌, IfOk};
 ghost use Rattle.mq_ir.specs.Partitions.{cell_at};
 ghost use Rattle.mq_ir.specs.Unfolding.{model_of};
 ghost use Rattle.mq_cells.specs.Columns.{no_results};
-ghost use Rattle.mq_single_lefts.specs.Conditions.{IsReady};
+ghost use Rattle.mq_ir.specs.Ready.{IsReady};
 ghost use Rattle.mq_auto.specs.Meaning.{HoldsValues, IfDone, verdict_on};
 
 use crate::judging::judge;

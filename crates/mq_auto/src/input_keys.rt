@@ -3,8 +3,7 @@ ghost use Rattle.std.specs.Prelude.{◌≡◌, IfOk};
 ghost use Rattle.std.specs.Map as spec;
 ghost use Rattle.mq_ir.specs.Keys.{each_first};
 
-use mq_single_lefts::KeySet;
-use mq_values::{Items, Key, Memory};
+use mq_values::{Items, Key, KeySet, Memory};
 use std::alloc::Global;
 
 /// The keys of these cells, in their order.

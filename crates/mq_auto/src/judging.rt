@@ -6,12 +6,12 @@ ghost use Rattle.mq_ir.specs.Automatic.{shape_found};
 ghost use Rattle.mq_ir.specs.Iteration as spec;
 ghost use Rattle.mq_ir.specs.Placed.{at_partition};
 ghost use Rattle.mq_ir.specs.Unfolding.{model_of};
-ghost use Rattle.mq_single_lefts.specs.Conditions.{IsReady};
+ghost use Rattle.mq_ir.specs.Ready.{IsReady};
 ghost use Rattle.mq_auto.specs.Findings.{IsJudged, IsLevelled};
 
 use crate::input_keys::keys_of;
 use mq_auto_shape::shape_of;
-use mq_ir::{Model, PartInput, PartShape};
+use mq_ir::{Model, PartInput, PartShape, PlacedFault};
 use mq_levels::Leveled;
 use mq_values::{FaultKind, Key, MAX_CELLS_OF_PARTITION, Memory, QueryFault};
 use std::alloc::Global;
@@ -88,20 +88,12 @@ fn input_fault(p: &PartInput) -> Result<Option<QueryFault>, Memory>
     ensures { IfOk result (λ fault. fault ≡ option_map (at_partition p.now.key) (spec.input_fault p.now)) }
 {
     if let Some(key) = &p.repeated {
-        return Ok(Some(QueryFault {
-            kind: FaultKind::NotUnique,
-            rule: 0,
-            partition: p.key.copy()?,
-            cell: key.copy()?,
-        }));
+        let fault = PlacedFault::new(0, key.copy()?, FaultKind::NotUnique);
+        return Ok(Some(fault.at_partition(p.key.copy()?)));
     }
     if p.cells.len() > MAX_CELLS_OF_PARTITION {
-        return Ok(Some(QueryFault {
-            kind: FaultKind::TooManyCells,
-            rule: 0,
-            partition: p.key.copy()?,
-            cell: Key::empty(),
-        }));
+        let fault = PlacedFault::new(0, Key::empty(), FaultKind::TooManyCells);
+        return Ok(Some(fault.at_partition(p.key.copy()?)));
     }
     Ok(None)
 }
@@ -110,10 +102,5 @@ fn input_fault(p: &PartInput) -> Result<Option<QueryFault>, Memory>
 fn in_partition(fault: QueryFault, partition: Key) -> QueryFault
     ensures { result ≡ record { kind = fault.kind; rule = fault.rule; partition = partition; cell = fault.cell } }
 {
-    QueryFault {
-        kind: fault.kind,
-        rule: fault.rule,
-        partition,
-        cell: fault.cell,
-    }
+    PlacedFault::new(fault.rule, fault.cell, fault.kind).at_partition(partition)
 }

@@ -4,7 +4,7 @@ ghost use Rattle.std.specs.Map as map;
 ghost use Rattle.mq_ir.specs.Automatic.{automatic};
 ghost use Rattle.mq_ir.specs.Shape as spec;
 ghost use Rattle.mq_ir.specs.Unfolding.{model_of};
-ghost use Rattle.mq_single_lefts.specs.Conditions.{IsReady};
+ghost use Rattle.mq_ir.specs.Ready.{IsReady};
 
 use crate::computing::compute;
 use crate::input_keys::{each_once, keys_of};

@@ -9,9 +9,8 @@ ghost use Rattle.mq_auto.specs.Findings.{faulted_at};
 
 use crate::rows::rows;
 use mq_cells::{Cells, MAX_ASSIGNMENTS};
-use mq_ir::{Model, PartResult, PartShape, Slot};
-use mq_single_lefts::kind_of;
-use mq_values::{Key, Memory, QueryFault};
+use mq_ir::{Model, PartResult, PartShape, PlacedFault, Slot, kind_of};
+use mq_values::{Key, Memory};
 use std::alloc::Global;
 
 /// The result of the partition at `key`, of which `cells` holds the slots: the fault that is the least by its rule and
@@ -63,10 +62,6 @@ fn fault_at<C: Cells>(
     };
     let partition = key.copy()?;
     let cell = assignment.0.copy()?;
-    Ok(PartResult::Fault(QueryFault {
-        kind: kind_of(fault),
-        rule: assignment.2,
-        partition,
-        cell,
-    }))
+    let placed = PlacedFault::new(assignment.2, cell, kind_of(fault));
+    Ok(PartResult::Fault(placed.at_partition(partition)))
 }

@@ -9,8 +9,7 @@ ghost use Rattle.mq_auto.specs.Findings.{AreUpdated};
 
 use mq_cells::Cells;
 use mq_ir::{Model, OutCell, PartShape, Slot};
-use mq_single_lefts::KeySet;
-use mq_values::{Items, Key, Memory, Value};
+use mq_values::{Items, Key, KeySet, Memory, Value};
 use std::alloc::Global;
 
 /// The cells of a shape with the values that stand in `cells`; where no value stands, with null.

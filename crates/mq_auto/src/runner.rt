@@ -4,7 +4,7 @@ ghost use Rattle.mq_ir.specs.Automatic.{automatic, slots_in};
 ghost use Rattle.mq_ir.specs.Unfolding.{model_of};
 ghost use Rattle.mq_refs.specs.Orders.{ArraysAscend, KeysAscend};
 ghost use Rattle.mq_auto_shape.specs.Found.{AreRoundsOf};
-ghost use Rattle.mq_single_lefts.specs.Conditions.{IsReady};
+ghost use Rattle.mq_ir.specs.Ready.{IsReady};
 ghost use Rattle.mq_auto.specs.Meaning.{result_with};
 ghost use Rattle.mq_auto.specs.Walks.{AreOwn};
 

@@ -10,7 +10,7 @@ use Rattle.mq_ir.specs.Partitions.{ascending, placed}
 use Rattle.mq_ir.specs.Placed.{Placed, placed_fault}
 use Rattle.mq_ir.specs.Shape.{Assignment, cmp_by_rule, least_of}
 use Rattle.mq_auto_shape.specs.Outcomes.{by_rule, cycle_at}
-use Rattle.mq_single_lefts.specs.StepLaws.{next_item}
+use Rattle.mq_ir.specs.StepLaws.{next_item}
 use Rattle.mq_auto_shape.proofs.GrowthLemmas.{least_front}
 
 abbrev pub cmp_pair : ℕ × Tuple → ℕ × Tuple → Ordering

@@ -21,7 +21,7 @@ use Rattle.mq_levels.specs.Levels.{ReadsNodes}
 use Rattle.mq_cells.specs.Grids.{Grid, ItemDiffers, item_at}
 use Rattle.mq_auto_shape.specs.Edges.{PlacesAre, looks_by, number_looked, place_looked, reads_of}
 use Rattle.mq_auto_shape.proofs.NodeLemmas.{turned}
-use Rattle.mq_single_lefts.specs.StepLaws.{next_item}
+use Rattle.mq_ir.specs.StepLaws.{next_item}
 use Rattle.mq_auto_shape.proofs.StepLemmas.{item_before}
 
 -- ---- lists read at a place

@@ -15,7 +15,7 @@ use Rattle.mq_ir.specs.Results.{◌>>=◌, each_in_turn}
 use Rattle.mq_ir.specs.Shape.{Assignment, Growing, assigns, cmp_assignment, least_of, shape_fault, shape_over, shape_rule, shape_step}
 use Rattle.mq_ir.specs.Targets.{Targets, targets}
 use Rattle.mq_ir.specs.Unfolding.{Model}
-use Rattle.mq_single_lefts.specs.Lefts.{lefts_of}
+use Rattle.mq_unfold.specs.SingleLefts.{lefts_of}
 use Rattle.mq_auto_shape.specs.Walk.{assigned_by, fault_in, left_grown, placed_all, rule_grown, rules_grown}
 
 placed_before : {K : Type 0} (cmp : K → K → Ordering) (xs ys : List K) → ascending cmp (xs ++ ys) ≡ placed_all cmp xs (ascending cmp ys)

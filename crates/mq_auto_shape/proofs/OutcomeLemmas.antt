@@ -17,7 +17,7 @@ use Rattle.mq_ir.specs.Unfolding.{Model}
 use Rattle.mq_auto_shape.specs.Outcomes.{FindsLevels, FindsShape, IsGrown}
 use Rattle.mq_auto_shape.specs.Walk.{rules_grown}
 use Rattle.mq_auto_shape.proofs.MeaningLemmas.{begun, shape_fails, shape_from, shape_is}
-use Rattle.mq_single_lefts.specs.StepLaws.{fault_is_last}
+use Rattle.mq_ir.specs.StepLaws.{fault_is_last}
 
 pub grown_shape : (keys : List Tuple) (g : Growing) (shape : PartShape) → shape ≡ shape_from keys g → IsStrictlySortedBy cmp_key g.set
     → All (λ a. find (assigns a.1 a.0) g.assigned ≡ Some a) g.assigned → IsGrown keys shape

@@ -4,7 +4,7 @@ use Rattle.std.specs.List.Sorted.{IsStrictlySortedBy}
 use Rattle.mq_values.specs.Order.{cmp_key}
 use Rattle.mq_ir.specs.declared.query.ModelPart.{ModelPart}
 use Rattle.mq_ir.specs.Keys.{Tuple}
-use Rattle.mq_single_lefts.specs.Conditions.{HaveLength, LeftsHavePlaces}
+use Rattle.mq_ir.specs.Ready.{HaveLength, LeftsHavePlaces}
 
 -- the shape may be found: each left side has a place and each key a value for each dimension, and the keys ascend, each once
 pub record AreReady (part : ModelPart) (keys : List Tuple) : Type 0 where

@@ -16,7 +16,7 @@ use Rattle.mq_ir.specs.Results.{◌>>=◌, each_in_turn}
 use Rattle.mq_ir.specs.Shape.{Assignment, Growing, cmp_assignment, shape_fault}
 use Rattle.mq_ir.specs.Targets.{targets}
 use Rattle.mq_ir.specs.Unfolding.{Model}
-use Rattle.mq_single_lefts.specs.Lefts.{lefts_of}
+use Rattle.mq_unfold.specs.SingleLefts.{lefts_of}
 
 -- these items put among others, the last of them first
 abbrev pub placed_all : {K : Type 0} → (K → K → Ordering) → List K → List K → List K

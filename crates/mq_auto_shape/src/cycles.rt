@@ -4,7 +4,7 @@ ghost use Rattle.std.specs.List.{filter_map};
 ghost use Rattle.mq_auto_shape.specs.Outcomes.{by_rule, cycle_at};
 
 use crate::least::least;
-use mq_single_lefts::PlacedFault;
+use mq_ir::PlacedFault;
 use mq_values::{FaultKind, Key, Memory};
 use std::alloc::Global;
 

@@ -6,7 +6,7 @@ ghost use Rattle.mq_values.specs.Order.{cmp_key};
 ghost use Rattle.mq_ir.specs.Partitions.{ascending, placed};
 ghost use Rattle.mq_ir.specs.Shape.{assigns, cmp_assignment, least_of};
 ghost use Rattle.mq_ir.specs.Targets as spec;
-ghost use Rattle.mq_single_lefts.specs.Conditions.{HaveLength};
+ghost use Rattle.mq_ir.specs.Ready.{HaveLength};
 ghost use Rattle.mq_auto_shape.specs.Walk.{assigned_by, placed_all};
 
 use crate::least::least;
@@ -29,7 +29,7 @@ pub struct Growth {
 
 impl Model for Growth {
     ghost use Rattle.mq_ir.specs.Shape.{Growing};
-    ghost use Rattle.mq_single_lefts.specs.Conditions.{HaveLength};
+    ghost use Rattle.mq_ir.specs.Ready.{HaveLength};
 
     ghost Value = { Growing };
 

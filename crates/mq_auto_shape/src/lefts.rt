@@ -5,8 +5,7 @@ ghost use Rattle.mq_ir.specs.Results.{each_in_turn};
 ghost use Rattle.mq_auto_shape.specs.Walk.{fault_in, left_grown};
 
 use crate::growth::Growth;
-use mq_ir::{Rule, SingleLeft};
-use mq_single_lefts::PlacedFault;
+use mq_ir::{PlacedFault, Rule, SingleLeft};
 use mq_values::{Fail, FaultKind, Key, MAX_CELLS_OF_PARTITION};
 use std::alloc::Global;
 

@@ -3,13 +3,13 @@ ghost use Rattle.std.specs.Prelude.{◌≡◌, length, Some};
 ghost use Rattle.mq_values.specs.Answers.{Gives};
 ghost use Rattle.mq_ir.specs.Unfolding.{model_of};
 ghost use Rattle.mq_unfold.specs.LeftSides.{rule_of};
-ghost use Rattle.mq_single_lefts.specs.Conditions.{LeftHasPlaces, LeftsHavePlaces};
+ghost use Rattle.mq_ir.specs.Ready.{LeftHasPlaces, LeftsHavePlaces};
 ghost use Rattle.mq_auto_shape.specs.Walk.{rule_grown, rules_grown};
 
 use crate::growth::Growth;
 use crate::lefts::grow_all;
-use mq_ir::{Model, Rule};
-use mq_single_lefts::{PlacedFault, single_lefts};
+use mq_ir::{Model, PlacedFault, Rule};
+use mq_unfold::single_lefts;
 use mq_values::Fail;
 use std::alloc::Global;
 

@@ -17,9 +17,8 @@ use crate::cycles::cycle_among;
 use crate::growth::Growth;
 use crate::reads::all_reads;
 use crate::rules::grow_rules;
-use mq_ir::{Model, PartShape};
+use mq_ir::{Model, PartShape, PlacedFault};
 use mq_levels::{Leveled, levels};
-use mq_single_lefts::PlacedFault;
 use mq_values::{Fail, Key, Memory, QueryFault};
 use std::alloc::Global;
 

@@ -1,24 +1,33 @@
-//! Shows what the lowest calls give: a table comes in on standard input, a row a line, each with the name of what is asked.
-//! Out comes each line with its answer. It is how mq_values, mq_lexer, mq_levels and mq_render are tested.
-//! It has no contracts: what it writes is compared with a table that was worked out by hand.
+//! Shows what calls give that SQL does not reach: a table comes in on standard input, a row a line, each with the name of what is
+//! asked. Out comes each line with its answer.
+//! But for two helpers it has no contracts: what it writes is compared with a table that was worked out by hand.
 #![tactic(auto)]
 
-mod kept;
-mod lines;
-mod orders;
-mod rounds;
+mod answers;
+mod changes;
+mod joins;
+mod looks;
+mod models;
+mod reads;
+mod ready;
 mod rows;
+mod runs;
+mod scene;
 mod scripts;
-mod spellings;
+mod stores;
 mod texts;
+mod values;
 
 use std::alloc::AllocError;
 use std::io::{self, Write};
 
 fn main(rt: HostRuntime) -> io::Result<()> {
     let mut out = io::writer(&rt);
+    let Ok(mut scene) = scene::Scene::new(rt.alloc()) else {
+        return Err(AllocError.into());
+    };
     for line in rt.lines(rt.alloc()) {
-        let Ok(mut row) = rows::answered(rt.alloc(), line?.as_str()) else {
+        let Ok(mut row) = rows::answered(rt.alloc(), &mut scene, line?.as_str()) else {
             return Err(AllocError.into());
         };
         row.push(b'\n')?;

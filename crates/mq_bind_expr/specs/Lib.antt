@@ -11,6 +11,7 @@ pub mod ExpressionVisits
 pub mod ExpressionWalk
 pub mod FormLaws
 pub mod FormRolls
+pub mod Following
 pub mod Forms
 pub mod FunctionNodes
 pub mod NameNodes

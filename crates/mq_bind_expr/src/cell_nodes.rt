@@ -6,8 +6,9 @@ ghost use Rattle.mq_ir.specs.declared.expression.Expr.{Expr};
 ghost use Rattle.mq_ir.specs.declared.expression.Leaf.{Leaf};
 ghost use Rattle.mq_values.specs.Answers.{Gives};
 ghost use Rattle.mq_bind_expr.specs.CellNodes as spec;
+ghost use Rattle.mq_bind_expr.specs.Following.{Follows};
 
-use crate::founds::{Held, expr_of, refused};
+use crate::founds::{Held, Operand, expr_of, refused};
 use crate::values::a_value;
 use mq_ast::Path;
 use mq_bind_scopes::{
@@ -32,10 +33,11 @@ pub fn agg_node(
     alloc: Global,
     at: Position,
     agg: Agg,
-    operand: Held,
+    operand: Operand,
 ) -> Result<Found, Fail<Refused>>
-    ensures { Gives result (spec.agg_node at agg operand) }
+    ensures { Follows operand (spec.agg_node at agg) result }
 {
+    let operand = operand?;
     let kind = aggregate_kind(agg, operand.get().kind)?;
     if aggregate_without_group(at) {
         return Err(misuse(MISUSE_OF_AGGREGATE));
@@ -117,10 +119,11 @@ pub fn cell_node(
     at: Position,
     path: &Path,
     owner: Owner,
-    indices: Items<Expr>,
+    indices: Result<Items<Expr>, Fail<Refused>>,
 ) -> Result<Found, Fail<Refused>>
-    ensures { Gives result (spec.cell_node scope.now at path.now owner indices) }
+    ensures { Follows indices (spec.cell_node scope.now at path.now owner) result }
 {
+    let indices = indices?;
     if outside_rules(at) {
         return Err(misuse(MISUSE_OF_RULE_FORM));
     }
@@ -175,10 +178,11 @@ pub fn range_node(
     at: Position,
     agg: Agg,
     name: &Words,
-    tests: Items<Test>,
+    tests: Result<Items<Test>, Fail<Refused>>,
 ) -> Result<Found, Fail<Refused>>
-    ensures { Gives result (spec.range_node scope.now at agg name.now tests) }
+    ensures { Follows tests (spec.range_node scope.now at agg name.now) result }
 {
+    let tests = tests?;
     if outside_rules(at) {
         return Err(misuse(MISUSE_OF_RULE_FORM));
     }

@@ -1,7 +1,8 @@
 //! Lists of what parts of an expression are bound to: their expressions, and how their kinds go together.
 
-ghost use Rattle.std.specs.Prelude.{◌≡◌, ◌∷◌, [], ◌++◌, IfOk, OnOk, Err};
+ghost use Rattle.std.specs.Prelude.{◌≡◌, ◌∷◌, [], ◌++◌, Some, IfOk, OnOk, Ok, Err};
 ghost use Rattle.mq_values.specs.Answers.{Gives};
+ghost use Rattle.mq_bind_expr.specs.Following.{Follows, FollowsTwo, Repeats};
 ghost use Rattle.mq_bind_expr.specs.FunctionNodes as result_of;
 ghost use Rattle.mq_bind_scopes.specs.Kinds as kinds;
 ghost use Rattle.mq_bind_scopes.specs.OperatorKinds as made;
@@ -16,6 +17,45 @@ use std::alloc::Global;
 /// What an operand is bound to, on the heap: so it is moved as one word, and proofs see one value in place of the variants of
 /// its expression.
 pub type Held = Boxed<Found>;
+
+/// An operand, or the first offence in it.
+pub type Operand = Result<Held, Fail<Refused>>;
+
+/// Two of them.
+pub type Pair = Result<(Held, Held), Fail<Refused>>;
+
+/// Several of them.
+pub type Operands = Result<Items<Found>, Fail<Refused>>;
+
+/// What was found, on the heap, or the first offence in it.
+pub fn held<T: Drop>(
+    alloc: Global,
+    found: Result<T, Fail<Refused>>,
+) -> Result<Boxed<T>, Fail<Refused>>
+    ensures { Repeats found result }
+{
+    Ok(Boxed::new(alloc, found?)?)
+}
+
+/// Two answers together, or the first offence in them. Generic, since it only moves and drops what it is given: a node that took
+/// both would be proved by the forms of each.
+pub fn both<A: Drop, B: Drop>(
+    a: Result<A, Fail<Refused>>,
+    b: Result<B, Fail<Refused>>,
+) -> Result<(A, B), Fail<Refused>>
+    ensures { FollowsTwo a b (λ x y. Ok (x, y)) result }
+{
+    let a = a?;
+    let b = b?;
+    Ok((a, b))
+}
+
+/// A part that is there.
+pub fn some_part<T: Drop>(found: Result<T, Fail<Refused>>) -> Result<Option<T>, Fail<Refused>>
+    ensures { Follows found (λ f. Ok (Some f)) result }
+{
+    Ok(Some(found?))
+}
 
 /// The expression of an operand.
 pub fn expr_of(alloc: Global, found: Held) -> Result<Boxed<Expr>, Memory>

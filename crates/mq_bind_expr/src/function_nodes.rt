@@ -2,12 +2,13 @@
 
 ghost use Rattle.std.specs.Prelude.{◌≡◌, IfOk};
 ghost use Rattle.mq_values.specs.Answers.{Gives};
+ghost use Rattle.mq_bind_expr.specs.Following.{Follows, FollowsTriple};
 ghost use Rattle.mq_bind_expr.specs.FunctionNodes as spec;
 ghost use Rattle.mq_bind_scopes.specs.OperatorKinds as made;
 ghost use Rattle.mq_bind_expr.specs.OperatorNodes.{kinds_of};
 
 use crate::case_parts::{case_kind, case_of};
-use crate::founds::{Held, exprs_of, go_together};
+use crate::founds::{Held, Operands, exprs_of, go_together};
 use crate::values::{a_value, converted};
 use mq_bind_scopes::{ExprKind, Found, mismatch, number_scale, rounded_kind};
 use mq_ir::Expr;
@@ -90,23 +91,23 @@ fn arguments_of(
 }
 
 /// A scalar function.
-pub fn call_node(alloc: Global, func: Func, found: Items<Found>) -> Result<Found, Fail<Refused>>
-    ensures { Gives result (spec.call_node func found) }
+pub fn call_node(alloc: Global, func: Func, found: Operands) -> Result<Found, Fail<Refused>>
+    ensures { Follows found (spec.call_node func) result }
 {
+    let found = found?;
     let kind = call_kind(func, found.as_slice())?;
     let arguments = arguments_of(alloc, func, kind, found)?;
     Ok(a_value(Expr::Call(func, arguments), kind))
 }
 
-/// CASE, with or without a subject.
+/// CASE, with or without a subject: from its subject, its arms, and what stands behind ELSE.
 pub fn case_node(
     alloc: Global,
-    subject: Option<Held>,
-    arms: Items<(Held, Held)>,
-    or_else: Option<Held>,
+    parts: Result<(Option<Held>, (Items<(Held, Held)>, Option<Held>)), Fail<Refused>>,
 ) -> Result<Found, Fail<Refused>>
-    ensures { Gives result (spec.case_node subject arms or_else) }
+    ensures { FollowsTriple parts spec.case_node result }
 {
+    let (subject, (arms, or_else)) = parts?;
     let kind = case_kind(&subject, arms.as_slice(), &or_else)?;
     let e = case_of(alloc, kind, subject, arms, or_else)?;
     Ok(a_value(e, kind))

@@ -1,13 +1,15 @@
-//! The nodes of operators, from what their operands are bound to (docs/LANGUAGE.md, "Kinds").
+//! The nodes of operators, from what their operands are bound to (docs/LANGUAGE.md, "Kinds"). A node hands on the first offence in its
+//! operands: so the walk, which is one circle of calls, has no exits of its own.
 
-ghost use Rattle.std.specs.Prelude.{◌≡◌, ◌∷◌, IfOk};
+ghost use Rattle.std.specs.Prelude.{◌≡◌, ◌∷◌, Ok};
 ghost use Rattle.mq_values.specs.Answers.{Gives};
 ghost use Rattle.mq_bind_scopes.specs.Kinds.{common};
+ghost use Rattle.mq_bind_expr.specs.Following.{Follows, FollowsPair, FollowsTriple};
 ghost use Rattle.mq_bind_expr.specs.OperatorNodes as spec;
 
 use crate::founds::{
-    Held, all_conditions, common_from, exprs_of, go_together, is_condition_found,
-    product_chain_kind, product_terms, sum_chain_kind, sum_terms,
+    Held, Operand, Operands, Pair, all_conditions, common_from, exprs_of, go_together,
+    is_condition_found, product_chain_kind, product_terms, sum_chain_kind, sum_terms,
 };
 use crate::trees::{
     between, cast, comparison, membership, negation, null_test, opposite, product, sum,
@@ -15,13 +17,14 @@ use crate::trees::{
 use crate::values::{a_condition, a_value};
 use mq_bind_scopes::{ExprKind, Found, cast_kind, mismatch, number_scale, value_kind, wider};
 use mq_ir::Expr;
-use mq_values::{CmpOp, Fail, Items, Kind, Memory, ProdOp, Refused, SumOp, Value};
+use mq_values::{CmpOp, Fail, Items, Kind, ProdOp, Refused, SumOp, Value};
 use std::alloc::Global;
 
 /// OR.
-pub fn or_node(alloc: Global, found: Items<Found>) -> Result<Found, Fail<Refused>>
-    ensures { Gives result (spec.or_node found) }
+pub fn or_node(alloc: Global, found: Operands) -> Result<Found, Fail<Refused>>
+    ensures { Follows found spec.or_node result }
 {
+    let found = found?;
     if !all_conditions(found.as_slice()) {
         return Err(mismatch());
     }
@@ -29,9 +32,10 @@ pub fn or_node(alloc: Global, found: Items<Found>) -> Result<Found, Fail<Refused
 }
 
 /// AND.
-pub fn and_node(alloc: Global, found: Items<Found>) -> Result<Found, Fail<Refused>>
-    ensures { Gives result (spec.and_node found) }
+pub fn and_node(alloc: Global, found: Operands) -> Result<Found, Fail<Refused>>
+    ensures { Follows found spec.and_node result }
 {
+    let found = found?;
     if !all_conditions(found.as_slice()) {
         return Err(mismatch());
     }
@@ -39,9 +43,10 @@ pub fn and_node(alloc: Global, found: Items<Found>) -> Result<Found, Fail<Refuse
 }
 
 /// NOT.
-pub fn not_node(alloc: Global, found: Held) -> Result<Found, Fail<Refused>>
-    ensures { Gives result (spec.not_node found) }
+pub fn not_node(alloc: Global, found: Operand) -> Result<Found, Fail<Refused>>
+    ensures { Follows found spec.not_node result }
 {
+    let found = found?;
     if !is_condition_found(found.get()) {
         return Err(mismatch());
     }
@@ -59,9 +64,10 @@ fn equated_by(op: CmpOp, kind: ExprKind) -> Option<ExprKind>
 }
 
 /// A comparison.
-pub fn cmp_node(alloc: Global, op: CmpOp, a: Held, b: Held) -> Result<Found, Fail<Refused>>
-    ensures { Gives result (spec.cmp_node op a b) }
+pub fn cmp_node(alloc: Global, op: CmpOp, sides: Pair) -> Result<Found, Fail<Refused>>
+    ensures { FollowsPair sides (spec.cmp_node op) result }
 {
+    let (a, b) = sides?;
     let kind = b.get().kind;
     go_together(a.get().kind, kind)?;
     Ok(Found {
@@ -75,12 +81,11 @@ pub fn cmp_node(alloc: Global, op: CmpOp, a: Held, b: Held) -> Result<Found, Fai
 pub fn between_node(
     alloc: Global,
     negated: bool,
-    a: Held,
-    low: Held,
-    high: Held,
+    parts: Result<(Held, (Held, Held)), Fail<Refused>>,
 ) -> Result<Found, Fail<Refused>>
-    ensures { Gives result (spec.between_node negated a low high) }
+    ensures { FollowsTriple parts (spec.between_node negated) result }
 {
+    let (a, (low, high)) = parts?;
     let kind = go_together(a.get().kind, low.get().kind)?;
     wider(kind, high.get().kind)?;
     Ok(a_condition(between(alloc, a, negated, low, high)?))
@@ -98,19 +103,20 @@ fn members_asked(a: &Found, members: &[Found]) -> Result<ExprKind, Fail<Refused>
 pub fn in_node(
     alloc: Global,
     negated: bool,
-    a: Held,
-    members: Items<Found>,
+    listed: Result<(Held, Items<Found>), Fail<Refused>>,
 ) -> Result<Found, Fail<Refused>>
-    ensures { Gives result (spec.in_node negated a members) }
+    ensures { FollowsPair listed (spec.in_node negated) result }
 {
+    let (a, members) = listed?;
     members_asked(a.get(), members.as_slice())?;
     Ok(a_condition(membership(alloc, a, negated, members)?))
 }
 
 /// IS NULL.
-pub fn null_node(alloc: Global, negated: bool, a: Held) -> Result<Found, Fail<Refused>>
-    ensures { Gives result (spec.null_node negated a) }
+pub fn null_node(alloc: Global, negated: bool, a: Operand) -> Result<Found, Fail<Refused>>
+    ensures { Follows a (spec.null_node negated) result }
 {
+    let a = a?;
     if is_condition_found(a.get()) {
         return Err(mismatch());
     }
@@ -120,11 +126,11 @@ pub fn null_node(alloc: Global, negated: bool, a: Held) -> Result<Found, Fail<Re
 /// A sum, and differences in it.
 pub fn sum_node(
     alloc: Global,
-    first: Held,
-    terms: Items<(SumOp, Found)>,
+    addends: Result<(Held, Items<(SumOp, Found)>), Fail<Refused>>,
 ) -> Result<Found, Fail<Refused>>
-    ensures { Gives result (spec.sum_node first terms) }
+    ensures { FollowsPair addends spec.sum_node result }
 {
+    let (first, terms) = addends?;
     let kind = sum_chain_kind(first.get().kind, terms.as_slice())?;
     let terms = sum_terms(alloc, terms)?;
     Ok(a_value(sum(alloc, first, terms)?, kind))
@@ -133,36 +139,38 @@ pub fn sum_node(
 /// A product, and quotients in it.
 pub fn prod_node(
     alloc: Global,
-    first: Held,
-    terms: Items<(ProdOp, Found)>,
+    factors: Result<(Held, Items<(ProdOp, Found)>), Fail<Refused>>,
 ) -> Result<Found, Fail<Refused>>
-    ensures { Gives result (spec.prod_node first terms) }
+    ensures { FollowsPair factors spec.prod_node result }
 {
+    let (first, terms) = factors?;
     let kind = product_chain_kind(first.get().kind, terms.as_slice())?;
     let terms = product_terms(alloc, terms)?;
     Ok(a_value(product(alloc, first, terms)?, kind))
 }
 
 /// The sign.
-pub fn neg_node(alloc: Global, a: Held) -> Result<Found, Fail<Refused>>
-    ensures { Gives result (spec.neg_node a) }
+pub fn neg_node(alloc: Global, a: Operand) -> Result<Found, Fail<Refused>>
+    ensures { Follows a spec.neg_node result }
 {
+    let a = a?;
     let scale = number_scale(a.get().kind)?;
     Ok(a_value(opposite(alloc, a)?, ExprKind::Number(scale)))
 }
 
 /// A literal.
-pub fn lit_node(v: &Value) -> Result<Found, Memory>
-    ensures { IfOk result (λ f. f ≡ spec.lit_node v.now) }
+pub fn lit_node(v: &Value) -> Result<Found, Fail<Refused>>
+    ensures { Gives result (Ok (spec.lit_node v.now)) }
 {
     let kind = value_kind(v);
     Ok(a_value(Expr::Lit(v.copy()?), kind))
 }
 
 /// CAST.
-pub fn cast_node(alloc: Global, to: Kind, a: Held) -> Result<Found, Fail<Refused>>
-    ensures { Gives result (spec.cast_node to a) }
+pub fn cast_node(alloc: Global, to: Kind, a: Operand) -> Result<Found, Fail<Refused>>
+    ensures { Follows a (spec.cast_node to) result }
 {
+    let a = a?;
     let kind = cast_kind(to, a.get().kind)?;
     Ok(a_value(cast(alloc, a, to)?, kind))
 }

@@ -1,18 +1,21 @@
 //! A place of a bracket: the test that a condition makes of its dimension, and the index of a single cell
 //! (docs/LANGUAGE.md, "Misuses").
 
-ghost use Rattle.std.specs.Prelude.{◌≡◌, ◌&&◌, ◌∷◌, [], ◌++◌, true, None, IfOk};
+ghost use Rattle.std.specs.Prelude.{◌≡◌, ◌&&◌, ◌∷◌, [], ◌++◌, true, None, Ok, IfOk};
 ghost use Rattle.std.specs.List.{list_all};
 ghost use Rattle.std.specs.Option.{option_map, option_map_or};
 ghost use Rattle.mq_ir.specs.declared.expression.Test.TheVariants as made;
 ghost use Rattle.mq_values.specs.Answers.{Gives};
+ghost use Rattle.mq_bind_scopes.specs.declared.scopes.Placed.{Placed as PlacedOf};
 ghost use Rattle.mq_bind_expr.specs.Dimensions as dimension;
+ghost use Rattle.mq_bind_expr.specs.Following.{Follows};
+ghost use Rattle.mq_bind_expr.specs.PartWalks as walks;
 ghost use Rattle.mq_bind_expr.specs.PlaceLaws as laws;
 ghost use Rattle.mq_bind_expr.specs.PlaceTests as spec;
 
 use crate::dimensions::{is_dimension, names_dimension};
 use crate::forms::{is_any_form, is_condition};
-use crate::founds::{Held, refused};
+use crate::founds::{Held, Operand, refused};
 use mq_ast::E;
 use mq_bind_scopes::{
     ExprKind, MISUSE_OF_CONDITION_IN_BRACKETS, MISUSE_OF_CONDITION_IN_CELL, Placed, is_index,
@@ -266,6 +269,26 @@ pub fn place_of(
     }
 }
 
+/// The same of what stands in it, or the first offence there.
+pub fn place_found(
+    alloc: Global,
+    dim: Option<ExprKind>,
+    tree: &E,
+    found: Operand,
+) -> Result<Placed, Fail<Refused>>
+    ensures { Follows found (spec.place_of dim tree.now) result }
+{
+    place_of(alloc, dim, tree, found?)
+}
+
+/// A place of which nothing is asked but what stands in it.
+pub fn placed_at(found: Operand) -> Result<Placed, Fail<Refused>>
+    ensures { Follows found walks.placed_at result }
+{
+    let found = found?;
+    Ok(placed(Test::At(found.into_inner().e), None))
+}
+
 fn equated_fits(dim: Option<ExprKind>, equated: Option<ExprKind>) -> bool
     ensures { result ≡ option_map_or (spec.fits_dimension dim) equated true }
 {
@@ -325,17 +348,21 @@ pub fn index_of(
     alloc: Global,
     on_left: bool,
     dim: Option<ExprKind>,
-    place: Placed,
+    place: Result<Placed, Fail<Refused>>,
 ) -> Result<Boxed<Expr>, Fail<Refused>>
-    ensures { Gives result (spec.index_of on_left dim place) }
+    ensures { Follows place (spec.index_of on_left dim) result }
 {
-    let index = index_in(on_left, dim, place)?;
+    let index = index_in(on_left, dim, place?)?;
     Ok(Boxed::new(alloc, index)?)
 }
 
 /// The test of a place.
-pub fn test_in(alloc: Global, place: Placed) -> Result<Boxed<Test>, Memory>
-    ensures { IfOk result (λ t. t ≡ place.test) }
+pub fn test_in(
+    alloc: Global,
+    place: Result<Placed, Fail<Refused>>,
+) -> Result<Boxed<Test>, Fail<Refused>>
+    ensures { Follows place (λ (p : PlacedOf). Ok p.test) result }
 {
-    Boxed::new(alloc, place.test)
+    let place = place?;
+    Ok(Boxed::new(alloc, place.test)?)
 }

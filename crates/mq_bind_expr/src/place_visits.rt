@@ -13,7 +13,7 @@ ghost use Rattle.mq_bind_expr.specs.Steps.{each_from};
 
 use crate::forms::is_condition;
 use crate::founds::push_held;
-use crate::place_tests::{index_of, place_of, placed, test_in};
+use crate::place_tests::{index_of, place_found, placed, placed_at, test_in};
 use crate::walk::bound;
 use mq_ast::{E, Place};
 use mq_bind_scopes::{
@@ -43,8 +43,7 @@ fn placed_elsewhere(
 ) -> Result<Placed, Fail<Refused>>
     ensures { Gives result (walks.placed_elsewhere scope.now at e.now) }
 {
-    let f = bound(alloc, scope, inner(at), e)?;
-    Ok(placed(Test::At(f.into_inner().e), None))
+    placed_at(bound(alloc, scope, inner(at), e))
 }
 
 #[cycle(expression)]
@@ -58,8 +57,8 @@ fn placed_in_rule(
 ) -> Result<Placed, Fail<Refused>>
     ensures { Gives result (walks.placed_in_rule scope.now at owner n e.now) }
 {
-    let f = bound(alloc, scope, bracketed(at, owner, n, is_condition(e)), e)?;
-    place_of(alloc, place_kind(scope, owner, n), e, f)
+    let found = bound(alloc, scope, bracketed(at, owner, n, is_condition(e)), e);
+    place_found(alloc, place_kind(scope, owner, n), e, found)
 }
 
 // A place of a bracket.
@@ -99,8 +98,8 @@ fn bound_index(
 ) -> Result<Boxed<Expr>, Fail<Refused>>
     ensures { Gives result (parts.index_found scope.now at owner n place.now) }
 {
-    let p = bound_place(alloc, scope, at, owner, n, place)?;
-    index_of(alloc, is_left(at.part), place_kind(scope, owner, n), p)
+    let place = bound_place(alloc, scope, at, owner, n, place);
+    index_of(alloc, is_left(at.part), place_kind(scope, owner, n), place)
 }
 
 /// The indices of a single cell.
@@ -133,8 +132,7 @@ fn bound_test(
 ) -> Result<Boxed<Test>, Fail<Refused>>
     ensures { Gives result (parts.test_found scope.now at n place.now) }
 {
-    let p = bound_place(alloc, scope, at, Owner::Main, n, place)?;
-    Ok(test_in(alloc, p)?)
+    test_in(alloc, bound_place(alloc, scope, at, Owner::Main, n, place))
 }
 
 /// The tests of a range of cells.

@@ -2,10 +2,11 @@
 
 ghost use Rattle.std.specs.Prelude.{◌≡◌, ◌∷◌, [], slice_get, Some};
 ghost use Rattle.mq_values.specs.Answers.{Gives};
+ghost use Rattle.mq_bind_expr.specs.Following.{Follows};
 ghost use Rattle.mq_bind_expr.specs.PresenceForms as forms;
 ghost use Rattle.mq_bind_expr.specs.RuleNodes as spec;
 
-use crate::founds::{Held, converted_of, go_together, on_heap};
+use crate::founds::{Held, Operands, converted_of, go_together, on_heap};
 use crate::rule_nodes::single_cell;
 use crate::threes::as_three;
 use crate::values::a_value;
@@ -68,19 +69,21 @@ fn presentv(
     Ok(a_value(presentv_of(indices, yes, no), kind))
 }
 
-/// PRESENTV.
 #[tactic(auto, using(crate::proofs::PresenceLemmas::other_presentv))]
-pub fn presentv_node(
-    alloc: Global,
-    at: Position,
-    found: Items<Found>,
-) -> Result<Found, Fail<Refused>>
+fn presentv_over(alloc: Global, at: Position, found: Items<Found>) -> Result<Found, Fail<Refused>>
     ensures { Gives result (spec.presentv_node at found) }
 {
     match as_three(on_heap(alloc, found)?) {
         Some(parts) => presentv(alloc, at, parts.first, parts.second, parts.third),
         None => other_presence(at),
     }
+}
+
+/// PRESENTV.
+pub fn presentv_node(alloc: Global, at: Position, found: Operands) -> Result<Found, Fail<Refused>>
+    ensures { Follows found (spec.presentv_node at) result }
+{
+    presentv_over(alloc, at, found?)
 }
 
 fn leaf_measure(l: &Leaf) -> Result<u32, Fail<Refused>>

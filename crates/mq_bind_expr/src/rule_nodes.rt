@@ -2,10 +2,11 @@
 
 ghost use Rattle.std.specs.Prelude.{◌≡◌, Err};
 ghost use Rattle.mq_values.specs.Answers.{Gives};
+ghost use Rattle.mq_bind_expr.specs.Following.{Follows};
 ghost use Rattle.mq_bind_expr.specs.RuleNodes as spec;
 ghost use Rattle.mq_bind_scopes.specs.Refusals as refusals;
 
-use crate::founds::{Held, refused};
+use crate::founds::{Operand, refused};
 use crate::values::{a_condition, a_value};
 use mq_bind_scopes::{
     Bracket, ExprKind, Found, MISUSE_OF_REFERENCE_MEASURE, MISUSE_OF_RULE_FORM, Owner, Position,
@@ -124,9 +125,10 @@ pub fn single_cell(e: Expr) -> Result<(u32, Items<Expr>), Fail<Refused>>
 }
 
 /// IS PRESENT.
-pub fn present_node(at: Position, negated: bool, cell: Held) -> Result<Found, Fail<Refused>>
-    ensures { Gives result (spec.present_node at negated cell) }
+pub fn present_node(at: Position, negated: bool, cell: Operand) -> Result<Found, Fail<Refused>>
+    ensures { Follows cell (spec.present_node at negated) result }
 {
+    let cell = cell?;
     if outside_rules(at) {
         return Err(misuse(MISUSE_OF_RULE_FORM));
     }
@@ -138,9 +140,10 @@ pub fn present_node(at: Position, negated: bool, cell: Held) -> Result<Found, Fa
 }
 
 /// PREVIOUS.
-pub fn previous_node(at: Position, cell: Held) -> Result<Found, Fail<Refused>>
-    ensures { Gives result (spec.previous_node at cell) }
+pub fn previous_node(at: Position, cell: Operand) -> Result<Found, Fail<Refused>>
+    ensures { Follows cell (spec.previous_node at) result }
 {
+    let cell = cell?;
     if previous_outside_until(at) {
         return Err(misuse(MISUSE_OF_RULE_FORM));
     }

@@ -6,7 +6,7 @@ ghost use Rattle.mq_bind_expr.specs.CaseLaws as cases;
 ghost use Rattle.mq_bind_expr.specs.ExpressionParts as parts;
 ghost use Rattle.mq_bind_expr.specs.ExpressionRolls as rolls;
 
-use crate::founds::{Held, push_held, push_term};
+use crate::founds::{Held, push_held, push_term, some_part};
 use crate::walk::bound;
 use mq_ast::{Arm, E, ProdTerm, SumTerm};
 use mq_bind_scopes::{Found, Position, Scope};
@@ -107,7 +107,7 @@ pub fn found_if_any(
     ensures { Gives result (cases.found_if_any scope.now at e.now) }
 {
     match e {
-        Some(e) => Ok(Some(bound(alloc, scope, at, e.get())?)),
+        Some(e) => some_part(bound(alloc, scope, at, e.get())),
         None => Ok(None),
     }
 }

@@ -1,16 +1,13 @@
 //! The walk over an expression: what it is bound to where it stands, or the first offence in it
 //! (docs/LANGUAGE.md, "The order of binding").
 
-ghost use Rattle.std.specs.Prelude.{Ok};
 ghost use Rattle.mq_values.specs.Answers.{Gives};
-ghost use Rattle.mq_bind_expr.specs.CellNodes as cells;
 ghost use Rattle.mq_bind_expr.specs.ExpressionWalk as spec;
-ghost use Rattle.mq_bind_scopes.specs.Misuses as misuses;
-ghost use Rattle.mq_bind_expr.specs.NameNodes as names;
+ghost use Rattle.mq_bind_expr.specs.Following.{Follows};
 ghost use Rattle.mq_bind_expr.specs.PartWalks as walks;
 
 use crate::cell_nodes::{agg_node, cell_node, count_all_node, range_node};
-use crate::founds::{Held, expr_of, is_condition_found};
+use crate::founds::{Held, Operand, both, expr_of, held, is_condition_found};
 use crate::function_nodes::{call_node, case_node};
 use crate::name_nodes::name_node;
 use crate::operator_nodes::{
@@ -36,55 +33,62 @@ use std::alloc::Global;
 pub fn bound(alloc: Global, scope: &Scope, at: Position, e: &E) -> Result<Held, Fail<Refused>>
     ensures { Gives result (spec.bound scope.now e.now at) }
 {
-    let found = found_of(alloc, scope, at, e)?;
-    Ok(Boxed::new(alloc, found)?)
+    held(alloc, found_of(alloc, scope, at, e))
 }
 
-// The same where it stands, by its form: its operands from left to right, and then its node.
+// The same where it stands, by its form: its operands from left to right, and then its node, which hands on the first offence in
+// them. An operand is walked also behind one that offends. So no arm has an exit of its own, which would be proved with the whole
+// circle of calls.
 #[cycle(expression)]
 #[tactic(auto, using(crate::specs::ExpressionLaws::bound_laws))]
 fn found_of(alloc: Global, scope: &Scope, at: Position, e: &E) -> Result<Found, Fail<Refused>>
     ensures { Gives result (spec.bound scope.now e.now at) }
 {
     match e {
-        E::Or(es) => or_node(alloc, found_each(alloc, scope, inner(at), es.as_slice())?),
-        E::And(es) => and_node(alloc, found_each(alloc, scope, inner(at), es.as_slice())?),
-        E::Not(a) => not_node(alloc, bound(alloc, scope, inner(at), a.get())?),
+        E::Or(es) => or_node(alloc, found_each(alloc, scope, inner(at), es.as_slice())),
+        E::And(es) => and_node(alloc, found_each(alloc, scope, inner(at), es.as_slice())),
+        E::Not(a) => not_node(alloc, bound(alloc, scope, inner(at), a.get())),
         E::Cmp(a, op, b) => {
-            let a = bound(alloc, scope, inner(at), a.get())?;
-            let b = bound(alloc, scope, inner(at), b.get())?;
-            cmp_node(alloc, *op, a, b)
+            let a = bound(alloc, scope, inner(at), a.get());
+            let b = bound(alloc, scope, inner(at), b.get());
+            let sides = both(a, b);
+            cmp_node(alloc, *op, sides)
         }
         E::Between(a, negated, low, high) => {
-            let a = bound(alloc, scope, inner(at), a.get())?;
-            let low = bound(alloc, scope, inner(at), low.get())?;
-            let high = bound(alloc, scope, inner(at), high.get())?;
-            between_node(alloc, *negated, a, low, high)
+            let a = bound(alloc, scope, inner(at), a.get());
+            let low = bound(alloc, scope, inner(at), low.get());
+            let high = bound(alloc, scope, inner(at), high.get());
+            let range = both(low, high);
+            let tested = both(a, range);
+            between_node(alloc, *negated, tested)
         }
         E::InList(a, negated, es) => {
-            let a = bound(alloc, scope, inner(at), a.get())?;
-            let members = found_each(alloc, scope, inner(at), es.as_slice())?;
-            in_node(alloc, *negated, a, members)
+            let a = bound(alloc, scope, inner(at), a.get());
+            let members = found_each(alloc, scope, inner(at), es.as_slice());
+            let listed = both(a, members);
+            in_node(alloc, *negated, listed)
         }
         E::IsNull(a, negated) => {
-            null_node(alloc, *negated, bound(alloc, scope, inner(at), a.get())?)
+            null_node(alloc, *negated, bound(alloc, scope, inner(at), a.get()))
         }
         E::IsPresent(a, negated) => {
-            present_node(at, *negated, bound(alloc, scope, inner(at), a.get())?)
+            present_node(at, *negated, bound(alloc, scope, inner(at), a.get()))
         }
-        E::IsAny(a) => any_node(at, bound(alloc, scope, inner(at), a.get())?),
+        E::IsAny(a) => any_node(at, bound(alloc, scope, inner(at), a.get())),
         E::Sum(first, terms) => {
-            let first = bound(alloc, scope, inner(at), first.get())?;
-            let terms = found_terms(alloc, scope, inner(at), terms.as_slice())?;
-            sum_node(alloc, first, terms)
+            let first = bound(alloc, scope, inner(at), first.get());
+            let terms = found_terms(alloc, scope, inner(at), terms.as_slice());
+            let addends = both(first, terms);
+            sum_node(alloc, addends)
         }
         E::Prod(first, terms) => {
-            let first = bound(alloc, scope, inner(at), first.get())?;
-            let terms = found_factors(alloc, scope, inner(at), terms.as_slice())?;
-            prod_node(alloc, first, terms)
+            let first = bound(alloc, scope, inner(at), first.get());
+            let terms = found_factors(alloc, scope, inner(at), terms.as_slice());
+            let factors = both(first, terms);
+            prod_node(alloc, factors)
         }
-        E::Neg(a) => neg_node(alloc, bound(alloc, scope, inner(at), a.get())?),
-        E::Lit(v) => Ok(lit_node(v)?),
+        E::Neg(a) => neg_node(alloc, bound(alloc, scope, inner(at), a.get())),
+        E::Lit(v) => lit_node(v),
         E::Name(path) => name_node(alloc, scope, at, path),
         E::Cell(path, places) => cell_of(alloc, scope, at, path, places.as_slice()),
         E::Agg(agg, a) => {
@@ -92,36 +96,38 @@ fn found_of(alloc: Global, scope: &Scope, at: Position, e: &E) -> Result<Found, 
                 alloc,
                 at,
                 *agg,
-                bound(alloc, scope, aggregated(at), a.get())?,
+                bound(alloc, scope, aggregated(at), a.get()),
             )
         }
         E::CountAll => count_all_node(at),
         E::RangeAgg(agg, name, places) => {
-            let tests = bound_tests(alloc, scope, at, places.as_slice())?;
+            let tests = bound_tests(alloc, scope, at, places.as_slice());
             range_node(alloc, scope, at, *agg, name, tests)
         }
         E::Case(of, arms, or_else) => {
-            let subject = found_if_any(alloc, scope, inner(at), of)?;
-            let arms = found_arms(alloc, scope, inner(at), arms.as_slice())?;
-            let or_else = found_if_any(alloc, scope, inner(at), or_else)?;
-            case_node(alloc, subject, arms, or_else)
+            let subject = found_if_any(alloc, scope, inner(at), of);
+            let arms = found_arms(alloc, scope, inner(at), arms.as_slice());
+            let or_else = found_if_any(alloc, scope, inner(at), or_else);
+            let results = both(arms, or_else);
+            let parts = both(subject, results);
+            case_node(alloc, parts)
         }
-        E::Cast(a, kind) => cast_node(alloc, *kind, bound(alloc, scope, inner(at), a.get())?),
+        E::Cast(a, kind) => cast_node(alloc, *kind, bound(alloc, scope, inner(at), a.get())),
         E::Call(func, es) => {
             call_node(
                 alloc,
                 *func,
-                found_each(alloc, scope, inner(at), es.as_slice())?,
+                found_each(alloc, scope, inner(at), es.as_slice()),
             )
         }
         E::Cv(name) => cv_node(alloc, scope, at, name),
         E::Turn => turn_node(scope, at),
-        E::Previous(a) => previous_node(at, bound(alloc, scope, inner(at), a.get())?),
+        E::Previous(a) => previous_node(at, bound(alloc, scope, inner(at), a.get())),
         E::PresentV(es) => {
             presentv_node(
                 alloc,
                 at,
-                found_each(alloc, scope, inner(at), es.as_slice())?,
+                found_each(alloc, scope, inner(at), es.as_slice()),
             )
         }
         E::PresentNnv(es) => presentnnv_of(alloc, scope, at, es.as_slice()),
@@ -129,9 +135,10 @@ fn found_of(alloc: Global, scope: &Scope, at: Position, e: &E) -> Result<Found, 
 }
 
 // IS ANY.
-fn any_node(at: Position, f: Held) -> Result<Found, Fail<Refused>>
-    ensures { Gives result (cells.unless_rule_form (misuses.any_inside_place at) (Ok (names.a_condition f.e))) }
+fn any_node(at: Position, found: Operand) -> Result<Found, Fail<Refused>>
+    ensures { Follows found (walks.any_found at) result }
 {
+    let f = found?;
     if any_inside_place(at) {
         return Err(misuse(MISUSE_OF_RULE_FORM));
     }
@@ -150,7 +157,7 @@ fn cell_of(
     ensures { Gives result (walks.cell_found scope.now at path.now places.now) }
 {
     let owner = owner_of(alloc, scope, path)?;
-    let indices = bound_indices(alloc, scope, at, owner, places)?;
+    let indices = bound_indices(alloc, scope, at, owner, places);
     cell_node(alloc, scope, at, path, owner, indices)
 }
 

@@ -19,11 +19,7 @@ use std::alloc::Global;
 pub fn is_table(catalog: &Catalog, name: &Words) -> bool
     ensures { result ≡ names.is_table catalog.now name.now }
 {
-    catalog
-        .tables
-        .as_slice()
-        .iter()
-        .any(|entry| entry.name == *name)
+    catalog.tables.has(name.as_str())
 }
 
 /// Whether there is a table or a view of this name.

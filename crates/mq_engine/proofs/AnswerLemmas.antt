@@ -29,10 +29,10 @@ use Rattle.mq_ir.specs.Placed.{kind_of}
 use Rattle.mq_ir.specs.Printing.{cmp_printed, columns_at, printed_rows}
 use Rattle.mq_ir.specs.Results.{◌>>=◌, each, marked}
 use Rattle.mq_ir.specs.Tables.{Tables}
-use Rattle.mq_printed.specs.Printing.{cmp_rows}
-use Rattle.mq_single_lefts.specs.Conditions.{HaveLength}
+use Rattle.mq_engine.specs.Printing.{cmp_rows}
+use Rattle.mq_ir.specs.Ready.{HaveLength, ModelIsReady}
 use Rattle.mq_engine.specs.Models.{MayRun}
-use Rattle.mq_engine.specs.Queries.{HasModel, rows_shown}
+use Rattle.mq_engine.specs.Queries.{rows_shown}
 use Rattle.mq_engine.proofs.TurnLemmas.{fault_is_last}
 
 -- what steps give, item by item
@@ -75,7 +75,7 @@ items_have tables from part rows h =
     behind (base_rows tables from) (item_rows part) rows (HaveLength (length part.items) rows) (unmarked (plain_fault 0) (items_over tables from part) rows h)
     (λ base e. each_all (items_at part.items) (λ (row : Tuple). length row ≡ length part.items) (items_long part.items) (stands_of part.group base) rows e)
 
-pub may_run : (q : BoundQuery) (part : ModelPart) (items : List Tuple) → HasModel q part → HaveLength (length q.items.items) items → MayRun part items
+pub may_run : (q : BoundQuery) (part : ModelPart) (items : List Tuple) → ModelIsReady (length q.items.items) part → HaveLength (length q.items.items) items → MayRun part items
 may_run q part items m h = record { lefts = m.lefts; wide = subst (λ (n : ℕ). HaveLength n items) m.wide h }
 
 -- rows that are printed from the first column to the last

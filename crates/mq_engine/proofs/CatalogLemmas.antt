@@ -1,5 +1,5 @@
 -- The names of a state, and what holds of a name that is not there.
-use Rattle.std.proofs.Common.{◌≡◌, ℕ, List, [], ◌∷◌, ◌++◌, Bool, true, false, not, map, Option, Some, None, Result, Err, refl, sym, ap, ◌∙◌}
+use Rattle.std.proofs.Common.{◌≡◌, ℕ, List, [], ◌∷◌, ◌++◌, Bool, true, false, ◌||◌, cond, not, map, Option, Some, None, Result, Err, refl, sym, ap, ◌∙◌}
 use Rattle.std.specs.Prelude.{if◌then◌else◌}
 use Rattle.std.specs.List.{filter, find}
 use Rattle.std.specs.Option.{option_map}
@@ -9,6 +9,7 @@ use Rattle.mq_values.specs.declared.faults.Refused.TheVariants as refused
 use Rattle.mq_ir.specs.declared.catalog.Catalog.{Catalog}
 use Rattle.mq_ir.specs.declared.catalog.TableEntry.{TableEntry}
 use Rattle.mq_ir.specs.declared.catalog.ViewEntry.{ViewEntry}
+use Rattle.mq_ir.specs.NamedItems.{has_name, item_of}
 use Rattle.mq_ir.specs.Partitions.{Tuple}
 use Rattle.mq_ir.specs.Statement.{Printed, View, first_reader, unless_refused, with_rows}
 use Rattle.mq_ir.specs.Tables.{Table, Tables, is_name, table_at}
@@ -60,6 +61,45 @@ module _ (views : List View) (entries : List ViewEntry) (same : entries ≡ map 
       by : (o : Option View) → option_map entry_of_view o ≡ None → unless_refused (option_map (λ (view : View). refused.InUse view.name) o) next ≡ next
       by None g = refl
       by (Some view) g = absurd (cc)
+
+-- no entry has a name that no table has
+pub no_table_entry : (tables : Tables) (name : List ℕ) → table_at tables name ≡ None → has_name (λ (entry : TableEntry). entry.name) (map entry_of_table tables) name ≡ false
+no_table_entry [] name h = refl
+no_table_entry (t ∷ ts) name h =
+    ap (λ b. b || has_name (λ (entry : TableEntry). entry.name) (map entry_of_table ts) name) (nat_list_eq_equiv.symm t.name name)
+    ∙ by (is_name name t.name) (no_table_entry ts name) h
+  where
+    by : (b : Bool) → (table_at ts name ≡ None → has_name (λ (entry : TableEntry). entry.name) (map entry_of_table ts) name ≡ false)
+        → cond b (Some t) (table_at ts name) ≡ None → (b || has_name (λ (entry : TableEntry). entry.name) (map entry_of_table ts) name) ≡ false
+    by true k g = absurd (cc)
+    by false k g = k g
+
+-- a view's entry has its name
+pub view_entries : (views : List View) (name : List ℕ) → has_name (λ (view : View). view.name) views name ≡ has_name (λ (entry : ViewEntry). entry.name) (map entry_of_view views) name
+view_entries [] name = refl
+view_entries (v ∷ vs) name = ap (λ b. is_name v.name name || b) (view_entries vs name)
+
+-- the view of a name, by the map of the views and by the definition
+pub view_found : (views : List View) (name : List ℕ) → item_of (λ (view : View). view.name) views name ≡ find (λ (view : View). is_name name view.name) views
+view_found [] name = refl
+view_found (v ∷ vs) name = λ i. cond (nat_list_eq_equiv.symm v.name name i) (Some v) (view_found vs name i)
+
+no_view_found : (views : List View) (name : List ℕ) → has_name (λ (view : View). view.name) views name ≡ false → find (λ (view : View). is_name name view.name) views ≡ None
+no_view_found [] name h = refl
+no_view_found (v ∷ vs) name h =
+    ap (λ b. cond b (Some v) (find (λ (view : View). is_name name view.name) vs)) (nat_list_eq_equiv.symm name v.name)
+    ∙ by (is_name v.name name) (no_view_found vs name) h
+  where
+    by : (b : Bool) → (has_name (λ (view : View). view.name) vs name ≡ false → find (λ (view : View). is_name name view.name) vs ≡ None)
+        → (b || has_name (λ (view : View). view.name) vs name) ≡ false → cond b (Some v) (find (λ (view : View). is_name name view.name) vs) ≡ None
+    by true k g = absurd (cc)
+    by false k g = k g
+
+-- a view of that name, put behind the others, is the only one that goes with the name
+pub view_removed_again : (views : List View) (v : View) (name : List ℕ) → v.name ≡ name → has_name (λ (view : View). view.name) views name ≡ false
+    → filter (λ (view : View). not (is_name name view.name)) (views ++ v ∷ []) ≡ views
+view_removed_again views v name e h =
+    taken_back (λ (view : View). is_name name view.name) views v (no_view_found views name h) (ap (is_name name) e ∙ nat_list_eq_equiv.refl name)
 
 -- a table of that name, put behind the others, is the only one that goes with the name
 pub removed_again : (tables : Tables) (t : Table) (name : List ℕ) → name ≡ t.name → table_at tables t.name ≡ None → filter (λ (u : Table). not (is_name name u.name)) (tables ++ t ∷ []) ≡ tables

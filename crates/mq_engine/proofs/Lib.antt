@@ -1,11 +1,13 @@
 pub mod AnswerLemmas
 pub mod CatalogLemmas
 pub mod ChangeLemmas
+pub mod ColumnLemmas
 pub mod DropLemmas
 pub mod ListLemmas
 pub mod MarkLemmas
 pub mod NumberLemmas
 pub mod PlaceLemmas
+pub mod PrintLemmas
 pub mod ReadyLemmas
 pub mod RowLemmas
 pub mod StateLemmas

@@ -1,10 +1,9 @@
 -- Lists that are searched, filtered and mapped.
-use Rattle.std.proofs.Common.{◌≡◌, ℕ, ◌+◌, ◌-◌, ◌<◌, List, [], ◌∷◌, ◌++◌, Bool, true, false, not, cond, map, Some, None, length, take, get_or, refl, sym, ap, subst, ◌∙◌, arith, length-append}
+use Rattle.std.proofs.Common.{◌≡◌, ℕ, ◌+◌, ◌<◌, List, [], ◌∷◌, ◌++◌, Bool, true, false, not, cond, map, Some, None, length, take, get_or, refl, sym, ap, subst, ◌∙◌}
 use Rattle.std.specs.List.{All, filter, find, flat_map}
 use Rattle.std.specs.Option.{option_map}
 use Rattle.std.proofs.lemmas.List.{flat_map_more, map_push, take_more}
 use Rattle.std.proofs.lemmas.List.Elements.{All-head, All-tail}
-use Rattle.std.proofs.Math.Seq.{take-append_seam}
 
 -- what one more item gives is put behind the others
 pub flat_next : {X A : Type 0} (f : X → List A) (xs : List X) (i : ℕ) (x : X) (first before after : List A) → i < length xs → x ≡ get_or xs i x → before ≡ first ++ flat_map f (take i xs) → after ≡ before ++ f x → after ≡ first ++ flat_map f (take (i + 1) xs)
@@ -13,12 +12,6 @@ flat_next f xs i x first before after h e b a =
     ∙ ap (λ l. l ++ f x) b
     ∙ flat_map_more f first (take i xs) x
     ∙ ap (λ l. first ++ flat_map f l) (ap (λ y. take i xs ++ y ∷ []) e ∙ sym (take_more xs i x h))
-
--- a list without its last item
-pub without_last : {A : Type 0} (xs zs : List A) (x : A) → zs ≡ xs ++ x ∷ [] → take (length zs - 1) zs ≡ xs
-without_last xs zs x e =
-    let n : length zs - 1 ≡ length xs = omega (arith, ap length e, length-append xs (x ∷ [])) in
-    ap (λ k. take k zs) n ∙ ap (take (length xs)) e ∙ take-append_seam xs (x ∷ [])
 
 module _ {A B : Type 0} (f : A → B) where
   -- one more item on both sides

@@ -15,10 +15,10 @@ use Rattle.mq_ir.specs.declared.query.ModelPart.{ModelPart}
 use Rattle.mq_ir.specs.Keys.{Tuple, is_same}
 use Rattle.mq_ir.specs.Partitions.{ascending, cut, first_of, input_of, partition_keys, partitions, placed, repeated, rows_in, stands_twice}
 use Rattle.mq_ir.specs.RowLaws.{times}
-use Rattle.mq_sort.specs.Rising.{Low, Rising}
-use Rattle.mq_sort.specs.SortLaws.{mapped_ascending, rising_ascending, tied_ascending}
-use Rattle.mq_single_lefts.specs.Conditions.{IsReady, LeftsHavePlaces}
-use Rattle.mq_engine.specs.Models.{MayRun, width_of}
+use Rattle.mq_ir.specs.Rising.{Low, Rising}
+use Rattle.mq_ir.specs.SortLaws.{mapped_ascending, rising_ascending, tied_ascending}
+use Rattle.mq_ir.specs.Ready.{IsReady, LeftsHavePlaces, width_of}
+use Rattle.mq_engine.specs.Models.{MayRun}
 
 -- ---- lists of which each item has a property
 abbrev Each : {X : Type 0} → (X → Type 0) → List X → Type 0

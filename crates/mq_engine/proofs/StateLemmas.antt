@@ -1,5 +1,5 @@
 -- The catalog of a session after each change of its tables and views, and what is asked of the views.
-use Rattle.std.proofs.Common.{◌≡◌, ℕ, List, [], ◌∷◌, ◌++◌, Bool, not, map, None, Result, Ok, Err, OnErr, sym, ap, subst, ◌∙◌}
+use Rattle.std.proofs.Common.{◌≡◌, ℕ, List, [], ◌∷◌, ◌++◌, Bool, false, not, map, None, Result, Ok, Err, OnErr, sym, ap, subst, ◌∙◌}
 use Rattle.std.specs.List.{All, filter}
 use Rattle.std.proofs.lemmas.List.Elements.{All-filter, All-push}
 use Rattle.mq_values.specs.Answers.{Gives, result_map}
@@ -10,14 +10,16 @@ use Rattle.mq_ir.specs.declared.catalog.TableEntry.{TableEntry}
 use Rattle.mq_ir.specs.declared.catalog.ViewEntry.{ViewEntry}
 use Rattle.mq_ir.specs.declared.query.BoundQuery.{BoundQuery}
 use Rattle.mq_ir.specs.declared.statement.Change.{Change}
+use Rattle.mq_ir.specs.NamedItems.{has_name}
+use Rattle.mq_ir.specs.Names.{is_view}
 use Rattle.mq_ir.specs.Partitions.{Tuple}
 use Rattle.mq_ir.specs.Statement.{View, tables_read, with_rows}
 use Rattle.mq_ir.specs.Tables.{Table, Tables, is_name, table_at}
 use Rattle.mq_tables.specs.InPlace.{applied}
 use Rattle.mq_engine.specs.Catalogs.{catalog_from, entry_of_table, entry_of_view}
-use Rattle.mq_engine.specs.Queries.{IsReady}
+use Rattle.mq_ir.specs.Ready.{QueryIsReady}
 use Rattle.mq_engine.proofs.ChangeLemmas.{rows_are_put}
-use Rattle.mq_engine.proofs.CatalogLemmas.{entries_changed, named, removed_again, same_names}
+use Rattle.mq_engine.proofs.CatalogLemmas.{entries_changed, named, no_table_entry, removed_again, same_names, view_entries, view_removed_again}
 use Rattle.mq_engine.proofs.ListLemmas.{mapped_kept, mapped_push}
 
 module _ (k : Catalog) (tables : Tables) (views : List View) (same : k ≡ catalog_from tables views) where
@@ -26,6 +28,27 @@ module _ (k : Catalog) (tables : Tables) (views : List View) (same : k ≡ catal
 
   of_views : k.views ≡ map entry_of_view views
   of_views = ap (λ (c : Catalog). c.views) same
+
+  -- a name that no table or no view has is new to the entries
+  pub new_table_entry : (name : List ℕ) (entry : TableEntry) → entry.name ≡ name → table_at tables name ≡ None → has_name (λ (entry : TableEntry). entry.name) k.tables entry.name ≡ false
+  new_table_entry name entry e h =
+      ap (has_name (λ (entry : TableEntry). entry.name) k.tables) e
+      ∙ ap (λ (es : List TableEntry). has_name (λ (entry : TableEntry). entry.name) es name) of_tables
+      ∙ no_table_entry tables name h
+
+  pub new_view_entry : (name : List ℕ) (entry : ViewEntry) → entry.name ≡ name → is_view (catalog_from tables views) name ≡ false → has_name (λ (entry : ViewEntry). entry.name) k.views entry.name ≡ false
+  new_view_entry name entry e h =
+      ap (has_name (λ (entry : ViewEntry). entry.name) k.views) e
+      ∙ ap (λ (es : List ViewEntry). has_name (λ (entry : ViewEntry). entry.name) es name) of_views
+      ∙ h
+
+  pub new_view : (name : List ℕ) (v : View) → v.name ≡ name → is_view (catalog_from tables views) name ≡ false → has_name (λ (view : View). view.name) views v.name ≡ false
+  new_view name v e h = ap (has_name (λ (view : View). view.name) views) e ∙ view_entries views name ∙ h
+
+  pub view_back : (name : List ℕ) (v : View) (put after : List View) → put ≡ views ++ v ∷ [] → v.name ≡ name → is_view (catalog_from tables views) name ≡ false
+      → after ≡ filter (λ (view : View). not (is_name name view.name)) put → after ≡ views
+  view_back name v put after p e h a =
+      a ∙ ap (filter (λ (view : View). not (is_name name view.name))) p ∙ view_removed_again views v name e (view_entries views name ∙ h)
 
   pub view_put : (after : List View) (v : View) (entries : List ViewEntry) (entry : ViewEntry) → after ≡ views ++ v ∷ [] → entry ≡ entry_of_view v → entries ≡ k.views ++ entry ∷ [] → named k.tables entries ≡ catalog_from tables after
   view_put after v entries entry a e h =
@@ -71,10 +94,10 @@ view_entry_is name other q entry e h = e ∙ ap (λ (n : List ℕ). entry_of_vie
 
 -- views that may run, with one more, and without some
 abbrev pub AreReady : List View → Type 0
-AreReady views = All (λ (v : View). IsReady v.query) views
+AreReady views = All (λ (v : View). QueryIsReady v.query) views
 
-pub ready_put : (views after : List View) (v : View) → after ≡ views ++ v ∷ [] → AreReady views → IsReady v.query → AreReady after
-ready_put views after v a h r = subst AreReady (sym a) (All-push (λ (v : View). IsReady v.query) views v h r)
+pub ready_put : (views after : List View) (v : View) → after ≡ views ++ v ∷ [] → AreReady views → QueryIsReady v.query → AreReady after
+ready_put views after v a h r = subst AreReady (sym a) (All-push (λ (v : View). QueryIsReady v.query) views v h r)
 
 pub ready_kept : (p : View → Bool) (views after : List View) → after ≡ filter p views → AreReady views → AreReady after
-ready_kept p views after a h = subst AreReady (sym a) (All-filter p (λ (v : View). IsReady v.query) views h)
+ready_kept p views after a h = subst AreReady (sym a) (All-filter p (λ (v : View). QueryIsReady v.query) views h)

@@ -1,4 +1,5 @@
 pub mod Catalogs
 pub mod Models
+pub mod Printing
 pub mod Queries
 pub mod Sessions

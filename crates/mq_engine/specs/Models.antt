@@ -1,5 +1,5 @@
 -- Models over the items of their query, and the rows that they leave.
-use Rattle.std.specs.Prelude.{ℕ, ◌+◌, List, [], length, Result, Ok}
+use Rattle.std.specs.Prelude.{List, [], Result, Ok}
 use Rattle.mq_values.specs.declared.faults.QueryFault.{QueryFault}
 use Rattle.mq_ir.specs.declared.query.ModelPart.{ModelPart}
 use Rattle.mq_ir.specs.declared.query.PartInput.{PartInput}
@@ -7,11 +7,7 @@ use Rattle.mq_ir.specs.Answer.{partition_step}
 use Rattle.mq_ir.specs.Partitions.{Tuple}
 use Rattle.mq_ir.specs.Results.{◌>>=◌, each_in_turn}
 use Rattle.mq_ir.specs.Unfolding.{Model}
-use Rattle.mq_single_lefts.specs.Conditions.{HaveLength, LeftsHavePlaces}
-
--- how many values an item row of a model has
-abbrev pub width_of : ModelPart → ℕ
-width_of part = part.parts + length part.dims + length part.measures
+use Rattle.mq_ir.specs.Ready.{HaveLength, LeftsHavePlaces, width_of}
 
 -- the rules of a model may run over these item rows: each left side has a place, and each row a value, for each dimension
 pub record MayRun (part : ModelPart) (items : List Tuple) : Type 0 where

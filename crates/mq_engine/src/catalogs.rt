@@ -1,9 +1,8 @@
 //! The names of the tables and views, kept beside them for those who bind statements.
-ghost use Rattle.std.specs.Prelude.{◌≡◌, ◌++◌, not, IfOk, OnOk};
-ghost use Rattle.std.specs.List.{filter, find, flat_map};
+ghost use Rattle.std.specs.Prelude.{◌≡◌, ◌++◌, IfOk, OnOk};
+ghost use Rattle.std.specs.List.{find, flat_map};
 ghost use Rattle.std.specs.Option.{option_copied};
 ghost use Rattle.mq_ir.specs.Statement.{tables_read as spec_tables_read};
-ghost use Rattle.mq_ir.specs.Tables.{is_name};
 ghost use Rattle.mq_engine.specs.Catalogs as spec;
 
 use mq_ir::{BoundQuery, Column, PlainPart, RefPart, Schema, TableEntry, ViewEntry};
@@ -121,22 +120,4 @@ fn reads(view: &ViewEntry, table: &str) -> bool
         .as_slice()
         .iter()
         .any(|name| table == name.as_str())
-}
-
-/// The entries of other tables. It takes no memory.
-pub fn other_tables(entries: Items<TableEntry>, name: &str) -> Items<TableEntry>
-    ensures { result ≡ filter (λ entry. not (is_name name.now entry.name)) entries }
-{
-    let mut entries = entries.into_vec();
-    entries.retain(|entry| name != entry.name.as_str());
-    Items::from_vec(entries)
-}
-
-/// The entries of other views. It takes no memory.
-pub fn other_views(entries: Items<ViewEntry>, name: &str) -> Items<ViewEntry>
-    ensures { result ≡ filter (λ entry. not (is_name name.now entry.name)) entries }
-{
-    let mut entries = entries.into_vec();
-    entries.retain(|entry| name != entry.name.as_str());
-    Items::from_vec(entries)
 }

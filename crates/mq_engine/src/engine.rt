@@ -1,25 +1,25 @@
 //! The calls of a session.
-ghost use Rattle.std.specs.Prelude.{◌≡◌, ◌≤◌, ◌∷◌, [], None, Ok, IfOk, OnOk, OnErr};
+ghost use Rattle.std.specs.Prelude.{◌≡◌, ◌≤◌, ◌∷◌, [], None, false, Ok, IfOk, OnOk, OnErr};
 ghost use Rattle.mq_values.specs.Answers.{Gives, result_map};
 ghost use Rattle.mq_ir.specs.declared.statement.Bound.TheVariants as bound;
 ghost use Rattle.mq_ir.specs.Answer.{answer_of};
 ghost use Rattle.mq_ir.specs.Lines.{Counted, Done};
+ghost use Rattle.mq_ir.specs.Names.{is_view};
 ghost use Rattle.mq_ir.specs.Statement as spec;
 ghost use Rattle.mq_ir.specs.Tables.{table_at};
 ghost use Rattle.mq_engine.specs.Catalogs.{catalog_of};
-ghost use Rattle.mq_engine.specs.Queries.{IsReady};
+ghost use Rattle.mq_ir.specs.Ready.{QueryIsReady};
 ghost use Rattle.mq_engine.specs.Sessions.{nothing, view_answer};
 
-use crate::catalogs::{first_reader, other_tables, other_views, table_entry, view_entry};
+use crate::catalogs::{first_reader, table_entry, view_entry};
 use crate::queries::answer_over;
-use crate::views::{NoView, View, remove_last, remove_view, view_named};
+use crate::views::{NoView, View};
 use mq_io::Gate;
-use mq_ir::{Answer, BoundQuery, Catalog, Change, TableDef};
+use mq_ir::{Answer, BoundQuery, ByName, Catalog, Change, TableDef};
 use mq_tables::Tables;
-use mq_values::{Fail, Items, Memory, Refused, Words};
+use mq_values::{Fail, Memory, Refused, Words};
 use std::alloc::Global;
 use std::marker::Model;
-use std::mem;
 
 /// How many workers there may be.
 pub const MAX_WORKERS: u32 = 64;
@@ -29,7 +29,7 @@ pub const MAX_WORKERS: u32 = 64;
 #[derive(Drop)]
 pub struct Engine {
     tables: Tables,
-    views: Vec<View>,
+    views: ByName<View>,
     catalog: Catalog,
 }
 
@@ -41,15 +41,15 @@ impl Model for Engine {
     ghost use Rattle.mq_ir.specs.contracts.expression.Test as test;
     ghost use Rattle.mq_ir.specs.Statement.{State};
     ghost use Rattle.mq_engine.specs.Catalogs.{catalog_from};
-    ghost use Rattle.mq_engine.specs.Queries.{IsReady};
+    ghost use Rattle.mq_ir.specs.Ready.{QueryIsReady};
 
     ghost Value = { State };
 
     ghost coded = { Prim.hlevel (codes, expr.the_row.coded, test.the_row.coded) };
 
-    ghost view = { λ e. record { tables = e.tables; views = e.views.items } };
+    ghost view = { λ e. record { tables = e.tables; views = e.views } };
 
-    ghost invariant = { λ e. (e.catalog ≡ catalog_from e.tables e.views.items) × All (λ v. IsReady v.query) e.views.items };
+    ghost invariant = { λ e. (e.catalog ≡ catalog_from e.tables e.views) × All (λ v. QueryIsReady v.query) e.views };
 }
 
 impl Engine {
@@ -61,10 +61,10 @@ impl Engine {
     {
         Engine {
             tables: Tables::new(alloc),
-            views: Vec::new(alloc),
+            views: ByName::new(alloc),
             catalog: Catalog {
-                tables: Items::new(alloc),
-                views: Items::new(alloc),
+                tables: ByName::new(alloc),
+                views: ByName::new(alloc),
             },
         }
     }
@@ -85,7 +85,7 @@ impl Engine {
         let name = t.name.copy()?;
         let entry = table_entry(alloc, t.name.copy()?, &t.schema)?;
         self.tables.add(t)?;
-        match self.catalog.tables.push(entry) {
+        match self.catalog.tables.put(entry) {
             Ok(()) => Ok(()),
             Err(wanted) => {
                 self.tables.remove(name.as_str());
@@ -94,8 +94,8 @@ impl Engine {
         }
     }
 
-    /// Adds a view whose query is ready (`specs/Queries`): it is the last. A fault of its query is no reason to refuse it,
-    /// but its answer. After `Memory` nothing is changed.
+    /// Adds a view whose name no other has, and whose query is ready (`specs/Queries`): it is the last. A fault of its query
+    /// is no reason to refuse it, but its answer. After `Memory` nothing is changed.
     pub fn create_view<G: Gate>(
         &mut self,
         alloc: Global,
@@ -103,17 +103,18 @@ impl Engine {
         q: BoundQuery,
         _gate: &G,
     ) -> Result<(), Memory>
-        requires { IsReady q }
+        requires named { is_view (catalog_of self.old) name.now ≡ false }
+        requires ready { QueryIsReady q }
         ensures ok { OnOk result ((files : spec.Files) → spec.taken files self.old (bound.CreateView name.now q) ≡ Ok (self.new, Done ∷ [])) }
         ensures err { OnErr result (self.new ≡ self.old) }
     {
-        let name = Words::new(alloc, name)?;
-        let entry = view_entry(alloc, name.copy()?, &q)?;
-        self.views.push(View::new(name, q))?;
-        match self.catalog.views.push(entry) {
+        let words = Words::new(alloc, name)?;
+        let entry = view_entry(alloc, words.copy()?, &q)?;
+        self.views.put(View::new(words, q))?;
+        match self.catalog.views.put(entry) {
             Ok(()) => Ok(()),
             Err(wanted) => {
-                remove_last(&mut self.views);
+                self.views.remove(name);
                 Err(wanted)
             }
         }
@@ -121,7 +122,7 @@ impl Engine {
 
     /// Drops the table of this name, or refuses it with the first view that reads it; then nothing is changed. `Memory`
     /// comes only there, for the name of that view.
-    pub fn drop_table(&mut self, alloc: Global, name: &str) -> Result<(), Fail<Refused>>
+    pub fn drop_table(&mut self, name: &str) -> Result<(), Fail<Refused>>
         ensures exact { Gives (result_map (λ _. (self.new, Done ∷ [])) result) (spec.drop_table self.old name.now) }
         ensures err { OnErr result (self.new ≡ self.old) }
     {
@@ -129,18 +130,16 @@ impl Engine {
             return Err(Fail::Cause(Refused::InUse(view.name.copy()?)));
         }
         self.tables.remove(name);
-        let entries = mem::replace(&mut self.catalog.tables, Items::new(alloc));
-        self.catalog.tables = other_tables(entries, name);
+        self.catalog.tables.remove(name);
         Ok(())
     }
 
     /// Drops the view of this name. It takes no memory.
-    pub fn drop_view(&mut self, alloc: Global, name: &str)
+    pub fn drop_view(&mut self, name: &str)
         ensures { (files : spec.Files) → spec.taken files self.old (bound.DropView name.now) ≡ Ok (self.new, Done ∷ []) }
     {
-        remove_view(&mut self.views, name);
-        let entries = mem::replace(&mut self.catalog.views, Items::new(alloc));
-        self.catalog.views = other_views(entries, name);
+        self.views.remove(name);
+        self.catalog.views.remove(name);
     }
 
     /// Changes the rows of a table, and answers how many rows are counted; or refuses the change, and then nothing is
@@ -168,7 +167,7 @@ impl Engine {
         ensures exact { Gives result (view_answer self.old view.now) }
         ensures same { self.new ≡ self.old }
     {
-        match view_named(&self.views, view) {
+        match self.views.get(view) {
             Some(found) => Ok(answer_over(alloc, &self.tables, found.query())?),
             None => Err(Fail::Cause(NoView {
                 name: Words::new(alloc, view)?,
@@ -179,7 +178,7 @@ impl Engine {
     /// What a query that is ready (`specs/Queries`) answers over the tables as they stand (docs/MEANING.md, "Answers").
     /// `Memory` is the only error.
     pub fn query<G: Gate>(&self, alloc: Global, q: &BoundQuery, _gate: &G) -> Result<Answer, Memory>
-        requires { IsReady q.now }
+        requires { QueryIsReady q.now }
         ensures { IfOk result (λ a. a ≡ answer_of self.now.tables q.now) }
     {
         answer_over(alloc, &self.tables, q)

@@ -4,10 +4,11 @@
 #![tactic(auto)]
 
 mod catalogs;
+mod columns;
 mod engine;
-mod faults;
 mod model_rows;
 mod models;
+mod printing;
 mod queries;
 mod results;
 mod views;

@@ -3,8 +3,8 @@ ghost use Rattle.std.specs.Prelude.{◌≡◌, ◌++◌, ◌∷◌, [], map, sli
 ghost use Rattle.std.specs.Option.{option_copied};
 ghost use Rattle.mq_ir.specs.Answer.{columns_of};
 
+use crate::columns::Columns;
 use mq_ir::OutCell;
-use mq_printed::Columns;
 use mq_values::{Key, Memory, Value};
 use std::marker::Model;
 

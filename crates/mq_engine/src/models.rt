@@ -8,15 +8,14 @@ ghost use Rattle.mq_ir.specs.Placed.{at_partition};
 ghost use Rattle.mq_ir.specs.References.{reference_over};
 ghost use Rattle.mq_ir.specs.Results.{each, each_in_turn, marked};
 ghost use Rattle.mq_ir.specs.Unfolding.{model_of};
-ghost use Rattle.mq_single_lefts.specs.Conditions.{IsReady};
+ghost use Rattle.mq_ir.specs.Ready.{IsReady};
 ghost use Rattle.mq_sources.specs.References.{cells_of_arrays};
 ghost use Rattle.mq_engine.specs.Models.{MayRun, gathered_rows};
 
-use crate::faults::partition_fault;
 use crate::model_rows::ModelRow;
 use crate::results::result_of;
 use mq_auto::AutoRunner;
-use mq_ir::{Model as Lent, ModelPart, OutCell, PartInput, PartResult, RefArray};
+use mq_ir::{Model as Lent, ModelPart, OutCell, PartInput, PartResult, PlacedFault, RefArray};
 use mq_shape::partitions;
 use mq_sources::{lists_over, references_over};
 use mq_tables::TableSet;
@@ -154,8 +153,8 @@ fn with_cells(
 {
     let Gathered { count, mut rows } = gathered;
     if cells.len() > MAX_CELLS_OF_QUERY - count {
-        let fault = partition_fault(key.copy()?, FaultKind::TooManyCells);
-        return Err(Fail::Cause(fault));
+        let fault = PlacedFault::new(0, Key::empty(), FaultKind::TooManyCells);
+        return Err(Fail::Cause(fault.at_partition(key.copy()?)));
     }
     let count = count + cells.len();
     for cell in cells.into_vec() {

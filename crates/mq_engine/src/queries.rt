@@ -4,13 +4,13 @@ ghost use Rattle.std.specs.List.{range_with_len};
 ghost use Rattle.mq_values.specs.Answers.{Gives, result_map};
 ghost use Rattle.mq_ir.specs.Answer as spec;
 ghost use Rattle.mq_ir.specs.Printing as printing;
-ghost use Rattle.mq_single_lefts.specs.Conditions.{HaveLength};
+ghost use Rattle.mq_ir.specs.Ready.{HaveLength, QueryIsReady};
 ghost use Rattle.mq_engine.specs.Models.{MayRun};
-ghost use Rattle.mq_engine.specs.Queries.{IsReady, rows_shown};
+ghost use Rattle.mq_engine.specs.Queries.{rows_shown};
 
 use crate::models::model_rows;
+use crate::printing::{printed_rows, sorted};
 use mq_ir::{Answer, BoundQuery, ModelPart};
-use mq_printed::{printed_rows, sorted};
 use mq_sources::items_over;
 use mq_tables::TableSet;
 use mq_values::{Fail, Items, Key, Memory, QueryFault};
@@ -19,7 +19,7 @@ use std::alloc::Global;
 /// What a query answers over these tables: its rows as they are printed, or its first fault (docs/MEANING.md, "Answers").
 /// `Memory` is the only error.
 pub fn answer_over<T: TableSet>(alloc: Global, tables: &T, q: &BoundQuery) -> Result<Answer, Memory>
-    requires { IsReady q.now }
+    requires { QueryIsReady q.now }
     ensures { IfOk result (λ a. a ≡ spec.answer_of (T.tables tables.now) q.now) }
 {
     match rows_over(alloc, tables, q) {
@@ -35,7 +35,7 @@ fn rows_over<T: TableSet>(
     tables: &T,
     q: &BoundQuery,
 ) -> Result<Items<Key>, Fail<QueryFault>>
-    requires { IsReady q.now }
+    requires { QueryIsReady q.now }
     ensures { Gives result (rows_shown (T.tables tables.now) q.now) }
 {
     let items = items_over(alloc, tables, &q.from, &q.items)?;

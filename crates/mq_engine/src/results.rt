@@ -2,7 +2,7 @@
 ghost use Rattle.std.specs.Prelude.{◌≡◌, IfOk};
 ghost use Rattle.mq_ir.specs.Answer.{result_in};
 ghost use Rattle.mq_ir.specs.Unfolding.{model_of};
-ghost use Rattle.mq_single_lefts.specs.Conditions.{IsReady};
+ghost use Rattle.mq_ir.specs.Ready.{IsReady};
 
 use mq_auto::AutoRunner;
 use mq_ir::{Model, PartInput, PartResult};

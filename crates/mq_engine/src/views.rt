@@ -1,10 +1,7 @@
 //! Standing queries.
-ghost use Rattle.std.specs.Prelude.{◌≡◌, ◌-◌, length, not, take};
-ghost use Rattle.std.specs.List.{filter, find};
-ghost use Rattle.std.specs.Option.{option_copied};
-ghost use Rattle.mq_ir.specs.Tables.{is_name};
+ghost use Rattle.std.specs.Prelude.{◌≡◌};
 
-use mq_ir::BoundQuery;
+use mq_ir::{BoundQuery, Called};
 use mq_values::Words;
 use std::marker::Model;
 
@@ -41,12 +38,6 @@ impl View {
         View { name, query }
     }
 
-    pub fn name(&self) -> &str
-        ensures { result.now ≡ self.now.name }
-    {
-        self.name.as_str()
-    }
-
     pub fn query(&self) -> &BoundQuery
         ensures { result.now ≡ self.now.query }
     {
@@ -54,23 +45,10 @@ impl View {
     }
 }
 
-/// The view of this name, or `None` where there is none.
-pub fn view_named<'a>(views: &'a [View], name: &str) -> Option<&'a View>
-    ensures { option_copied result ≡ find (λ view. is_name name.now view.name) views.now }
-{
-    views.iter().find(|view| name == view.name())
-}
+impl Called for View {
+    ghost name_of = { λ view. view.name };
 
-/// Takes away the views of this name. It takes no memory.
-pub fn remove_view(views: &mut Vec<View>, name: &str)
-    ensures { views.new.items ≡ filter (λ view. not (is_name name.now view.name)) views.old.items }
-{
-    views.retain(|view| name != view.name());
-}
-
-/// Takes away the view that was put last. It takes no memory.
-pub fn remove_last(views: &mut Vec<View>)
-    ensures { views.new.items ≡ take (length views.old.items - 1) views.old.items }
-{
-    views.pop();
+    fn name(&self) -> &Words {
+        &self.name
+    }
 }

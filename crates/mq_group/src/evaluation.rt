@@ -4,15 +4,14 @@ ghost use Rattle.mq_values.specs.Answers.{Gives};
 ghost use Rattle.mq_ir.specs.Answer as answer;
 ghost use Rattle.mq_ir.specs.Expression.{ev};
 ghost use Rattle.mq_ir.specs.Items as spec;
-ghost use Rattle.mq_ir.specs.Placed as placed;
 ghost use Rattle.mq_ir.specs.Results.{each, marked};
 ghost use Rattle.mq_group.specs.Members.{group_found, items_found, row_found};
 
 use crate::places::{GroupPlace, RowPlace};
 use crate::row_values::RowValues;
-use mq_ir::{ColRef, Expr, ItemPart};
+use mq_ir::{ColRef, Expr, ItemPart, kind_of, plain_fault};
 use mq_scalar::{Env, eval};
-use mq_values::{Fail, FaultKind, Items, Key, QueryFault, ValueFault};
+use mq_values::{Fail, Items, Key, QueryFault, ValueFault};
 use std::alloc::Global;
 
 /// The items of a query for each of these rows or, where the query is grouped, for each group, evaluated from left to
@@ -71,7 +70,7 @@ fn item_row<V: Env>(alloc: Global, items: &[Expr], env: &mut V) -> Result<Key, F
 {
     match evaluated(alloc, items, env) {
         Ok(key) => Ok(key),
-        Err(Fail::Cause(fault)) => Err(Fail::Cause(plain_fault(fault))),
+        Err(Fail::Cause(fault)) => Err(Fail::Cause(plain_fault(0, kind_of(fault)))),
         Err(Fail::Memory) => Err(Fail::Memory),
     }
 }
@@ -86,26 +85,4 @@ pub fn evaluated<V: Env>(alloc: Global, es: &[Expr], env: &mut V) -> Result<Key,
         values.push(eval(alloc, e, env)?)?;
     }
     Ok(Key::new(alloc, values)?)
-}
-
-/// The fault of a query that a value fault makes outside of its rules.
-pub fn plain_fault(fault: ValueFault) -> QueryFault
-    ensures { result ≡ answer.plain_fault 0 (placed.kind_of fault) }
-{
-    QueryFault {
-        kind: kind_of(fault),
-        rule: 0,
-        partition: Key::empty(),
-        cell: Key::empty(),
-    }
-}
-
-fn kind_of(fault: ValueFault) -> FaultKind
-    ensures { result ≡ placed.kind_of fault }
-{
-    match fault {
-        ValueFault::Overflow => FaultKind::Overflow,
-        ValueFault::DivideByZero => FaultKind::DivideByZero,
-        ValueFault::TextTooLong => FaultKind::TextTooLong,
-    }
 }

@@ -10,7 +10,7 @@ mod members;
 mod places;
 mod row_values;
 
-pub use evaluation::{evaluated, items, plain_fault};
+pub use evaluation::{evaluated, items};
 pub use grouping::groups;
 pub use places::RowPlace;
 pub use row_values::RowValues;

@@ -3,6 +3,7 @@ pub mod ConvertLemmas
 pub mod GroupLemmas
 pub mod KeyLemmas
 pub mod LeftLemmas
+pub mod NameLemmas
 pub mod ReadLemmas
 pub mod RowLemmas
 pub mod StatementLemmas

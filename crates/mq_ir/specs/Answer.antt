@@ -26,15 +26,12 @@ use Rattle.mq_ir.specs.References.{reference_over}
 use Rattle.mq_ir.specs.Iteration.{sequential}
 use Rattle.mq_values.specs.declared.limits.TheConstants.{MAX_CELLS_OF_QUERY}
 use Rattle.mq_ir.specs.Partitions.{Tuple, partitions}
+pub use Rattle.mq_ir.specs.Placed.{plain_fault}
 use Rattle.mq_ir.specs.Placed.{at_partition, placed_fault}
 use Rattle.mq_ir.specs.Printing.{printed_rows}
 use Rattle.mq_ir.specs.Results.{◌>>=◌, each, each_in_turn, marked}
 use Rattle.mq_ir.specs.Tables.{Tables}
 use Rattle.mq_ir.specs.Unfolding.{Model}
-
--- a fault outside of partitions: no partition and no cell
-abbrev pub plain_fault : ℕ → FaultKind → QueryFault
-plain_fault rule kind = at_partition [] (placed_fault rule [] kind)
 
 -- whether a left side takes the values of this FOR subquery
 abbrev pub is_source : ℕ → ListSource → Bool

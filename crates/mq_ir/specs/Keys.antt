@@ -1,20 +1,7 @@
 -- Sets of dimension tuples.
-use Rattle.std.specs.Prelude.{List, [], ◌∷◌, Bool, not}
-use Rattle.std.specs.List.{filter, list_any}
-use Rattle.std.specs.Ordering.{is_eq}
-use Rattle.mq_values.specs.Order.{cmp_key}
-use Rattle.mq_values.specs.declared.value.Value.{Value}
-
--- the values of a row, of a dimension tuple, of a partition key, or of the measures of a cell
-abbrev pub Tuple : Type 0
-Tuple = List Value
-
--- the same tuple: null meets null, and 1 and 1.0 are two tuples
-abbrev pub is_same : Tuple → Tuple → Bool
-is_same a b = is_eq (cmp_key a b)
-
-abbrev pub is_among : List Tuple → Tuple → Bool
-is_among keys key = list_any (is_same key) keys
+use Rattle.std.specs.Prelude.{List, [], ◌∷◌, not}
+use Rattle.std.specs.List.{filter}
+pub use Rattle.mq_values.specs.KeySets.{Tuple, is_among, is_same}
 
 -- these keys, each once, in order of their first
 abbrev pub each_first : List Tuple → List Tuple

@@ -1,5 +1,5 @@
 -- A fault inside a partition, before the partition's key is put to it.
-use Rattle.std.specs.Prelude.{ℕ}
+use Rattle.std.specs.Prelude.{ℕ, []}
 use Rattle.mq_values.specs.declared.faults.FaultKind.{FaultKind}
 use Rattle.mq_values.specs.declared.faults.FaultKind.TheVariants as kind
 use Rattle.mq_values.specs.declared.faults.QueryFault.{QueryFault}
@@ -27,3 +27,7 @@ value_fault rule cell fault = placed_fault rule cell (kind_of fault)
 -- the fault of the partition with this key
 abbrev pub at_partition : Tuple → Placed → QueryFault
 at_partition key p = record { kind = p.kind; rule = p.rule; partition = key; cell = p.cell }
+
+-- a fault outside of partitions: no partition and no cell
+abbrev pub plain_fault : ℕ → FaultKind → QueryFault
+plain_fault rule kind = at_partition [] (placed_fault rule [] kind)

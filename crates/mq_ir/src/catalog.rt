@@ -1,7 +1,9 @@
-ghost use Rattle.std.specs.Prelude.{◌≡◌, ◌↔◌, IsTrue, nat_eq};
+//! The names that statements are bound under.
+ghost use Rattle.std.specs.Prelude.{◌≡◌};
 ghost use Rattle.std.specs.Option.{option_copied};
 ghost use Rattle.mq_ir.specs.Names as spec;
 
+use crate::by_name::{ByName, Called};
 use crate::statement::Schema;
 use mq_values::{Items, Words};
 
@@ -12,6 +14,14 @@ pub struct TableEntry {
     pub schema: Schema,
 }
 
+impl Called for TableEntry {
+    ghost name_of = { λ entry. entry.name };
+
+    fn name(&self) -> &Words {
+        &self.name
+    }
+}
+
 /// A view with the tables that it reads: those of its FROM, its references and its FOR subqueries.
 #[derive(Drop)]
 pub struct ViewEntry {
@@ -19,11 +29,19 @@ pub struct ViewEntry {
     pub reads: Items<Words>,
 }
 
+impl Called for ViewEntry {
+    ghost name_of = { λ entry. entry.name };
+
+    fn name(&self) -> &Words {
+        &self.name
+    }
+}
+
 /// The names that statements are bound under: tables and views, each in order of creation.
 #[derive(Drop)]
 pub struct Catalog {
-    pub tables: Items<TableEntry>,
-    pub views: Items<ViewEntry>,
+    pub tables: ByName<TableEntry>,
+    pub views: ByName<ViewEntry>,
 }
 
 impl Catalog {
@@ -31,11 +49,7 @@ impl Catalog {
     pub fn table(&self, name: &str) -> Option<&Schema>
         ensures { option_copied result ≡ spec.schema_of self.now name.now }
     {
-        let entry = self
-            .tables
-            .as_slice()
-            .iter()
-            .find(|entry| entry.name.as_str() == name)?;
+        let entry = self.tables.get(name)?;
         Some(&entry.schema)
     }
 
@@ -43,9 +57,6 @@ impl Catalog {
     pub fn is_view(&self, name: &str) -> bool
         ensures { result ≡ spec.is_view self.now name.now }
     {
-        self.views
-            .as_slice()
-            .iter()
-            .any(|entry| entry.name.as_str() == name)
+        self.views.has(name)
     }
 }

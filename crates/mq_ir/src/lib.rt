@@ -3,6 +3,7 @@
 //! The definitions that it holds are listed in docs/MEANING.md.
 #![tactic(auto)]
 
+mod by_name;
 mod catalog;
 mod expression;
 mod laws_of_left_sides;
@@ -10,11 +11,14 @@ mod laws_of_order;
 mod laws_of_reads;
 mod laws_of_results;
 mod laws_of_rows;
+mod laws_of_sorting;
 mod laws_of_statements;
 mod limit_numbers;
+mod placed_fault;
 mod query;
 mod statement;
 
+pub use by_name::{ByName, Called};
 pub use catalog::{Catalog, TableEntry, ViewEntry};
 pub use expression::{BoundArm, BoundProd, BoundSum, Expr, Leaf, RangePlace, Test, Worth};
 pub use laws_of_left_sides::{
@@ -31,6 +35,7 @@ pub use laws_of_rows::{
     first_rows_count, partitions_ascend, rows_have_one_group, rows_have_one_partition,
     values_convert_once,
 };
+pub use laws_of_sorting::stable_sorts_ascend;
 pub use laws_of_statements::refusals_alter_nothing;
 pub use limit_numbers::{
     LIMIT_OF_COLUMNS, LIMIT_OF_DIMENSIONS, LIMIT_OF_FROM_ITEMS, LIMIT_OF_MEASURES,
@@ -38,6 +43,7 @@ pub use limit_numbers::{
     LIMIT_OF_RULES, LIMIT_OF_SCALE, LIMIT_OF_TABLES, LIMIT_OF_TURNS, LIMIT_OF_VALUES,
     LIMIT_OF_VIEWS,
 };
+pub use placed_fault::{PlacedFault, kind_of, plain_fault};
 pub use query::{
     Answer, BoundQuery, CellName, ColRef, FromPart, ItemPart, Iterate, Left, LeftItem, ListSource,
     Look, Model, ModelPart, OutCell, PartInput, PartResult, PartShape, PlainPart, RefArray,

@@ -1,5 +1,5 @@
 -- Base rows as they are handed out: each row with its place.
-use Rattle.std.specs.Prelude.{ℕ, List, [], map, Result, Ok, slice_index_or}
+use Rattle.std.specs.Prelude.{ℕ, ◌-◌, ◌^◌, List, [], map, Result, Ok, slice_index_or}
 use Rattle.std.specs.List.{zip}
 use Rattle.mq_values.specs.declared.faults.FaultKind.{FaultKind}
 use Rattle.mq_ir.specs.declared.query.FromPart.{FromPart}
@@ -17,6 +17,10 @@ rows_in row = map (λ part. part.0) row
 
 abbrev pub places_in : Joined → Places
 places_in row = map (λ part. part.1) row
+
+-- the last place that 32 bits tell; a place past it is told as that
+abbrev pub LAST_PLACE : ℕ
+LAST_PLACE = 2 ^ 32 - 1
 
 abbrev pub part_at : List Tuple × ℕ → Tuple × ℕ
 part_at (rows, place) = (slice_index_or rows place [], place)

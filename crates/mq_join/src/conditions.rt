@@ -4,12 +4,11 @@ ghost use Rattle.std.specs.Option.{option_to_list};
 ghost use Rattle.mq_values.specs.Answers.{Gives};
 ghost use Rattle.mq_values.specs.Truth.{is_true as spec_is_true};
 ghost use Rattle.mq_ir.specs.BaseRows.{all_true as spec_all_true, conditions_of as spec_conditions_of};
-ghost use Rattle.mq_ir.specs.Placed.{kind_of as spec_kind_of};
 ghost use Rattle.mq_join.specs.Walk.{is_taken as spec_is_taken};
 
 use crate::from_items::ItemRows;
 use crate::tuple_scope::TupleScope;
-use mq_ir::{Expr, FromPart};
+use mq_ir::{Expr, FromPart, kind_of};
 use mq_scalar::{Env, holds};
 use mq_values::{Fail, FaultKind, Items, Memory, ValueFault};
 use std::alloc::Global;
@@ -115,16 +114,5 @@ fn is_true(truth: Option<bool>) -> bool
     match truth {
         Some(holds) => holds,
         None => false,
-    }
-}
-
-// The fault of a query that a value fault makes.
-fn kind_of(fault: ValueFault) -> FaultKind
-    ensures { result ≡ spec_kind_of fault }
-{
-    match fault {
-        ValueFault::Overflow => FaultKind::Overflow,
-        ValueFault::DivideByZero => FaultKind::DivideByZero,
-        ValueFault::TextTooLong => FaultKind::TextTooLong,
     }
 }

@@ -1,7 +1,7 @@
 //! A base row that is lent.
-ghost use Rattle.std.specs.Prelude.{◌≡◌, ◌<◌, ◌^◌, ◌-◌, [], length, map, min, slice_index_or, IfOk};
+ghost use Rattle.std.specs.Prelude.{◌≡◌, ◌<◌, [], length, map, min, slice_index_or, IfOk};
 ghost use Rattle.mq_values.specs.declared.value.Value.TheVariants.{Null};
-ghost use Rattle.mq_join.specs.Rows.{joined_at, places_in, rows_in};
+ghost use Rattle.mq_join.specs.Rows.{LAST_PLACE, joined_at, places_in, rows_in};
 
 use crate::from_items::ItemRows;
 use mq_values::{Memory, Value};
@@ -81,7 +81,7 @@ impl<'a> JoinRow<'a> {
     /// The place of the row of an item, counted from 0, or 0 where there is no such item. A place past the last
     /// `u32` is told as that; no table has so many rows.
     pub fn place(&self, item: u32) -> u32
-        ensures { result ≡ min (slice_index_or (places_in self.now) item 0) (2 ^ 32 - 1) }
+        ensures { result ≡ min (slice_index_or (places_in self.now) item 0) LAST_PLACE }
     {
         match self.parts.get(item as usize) {
             Some(part) => capped(part.place()),
@@ -92,7 +92,7 @@ impl<'a> JoinRow<'a> {
 
 // A place as far as 32 bits go.
 fn capped(place: usize) -> u32
-    ensures { result ≡ min place (2 ^ 32 - 1) }
+    ensures { result ≡ min place LAST_PLACE }
 {
     if place < u32::MAX as usize {
         place as u32

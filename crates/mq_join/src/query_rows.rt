@@ -11,9 +11,9 @@ use crate::from_items::{ItemRows, items_of};
 use crate::join_row::{JoinRow, joined};
 use crate::plans::plan_of;
 use crate::walk::rows_behind;
-use mq_ir::FromPart;
+use mq_ir::{FromPart, plain_fault};
 use mq_tables::{TableSet, Tables};
-use mq_values::{Fail, FaultKind, Items, Key, Memory, QueryFault};
+use mq_values::{Fail, FaultKind, Items, Memory, QueryFault};
 use std::alloc::Global;
 
 /// The base rows of a query over these tables, in order: all tuples of a row for each FROM item for which every ON and
@@ -31,7 +31,7 @@ pub fn base_rows_in<'a, T: TableSet>(
     let items = items_of(alloc, q, t)?;
     match rows_over(alloc, q, items.as_slice()) {
         Ok(rows) => Ok(rows.into_vec()),
-        Err(Fail::Cause(kind)) => Err(Fail::Cause(plain_fault(kind))),
+        Err(Fail::Cause(kind)) => Err(Fail::Cause(plain_fault(0, kind))),
         Err(Fail::Memory) => Err(Fail::Memory),
     }
 }
@@ -99,18 +99,6 @@ fn rows_over<'a>(
         &mut tuple,
         Items::new(alloc),
     )
-}
-
-// A fault outside of rules, partitions and cells.
-fn plain_fault(kind: FaultKind) -> QueryFault
-    ensures { result ≡ spec_plain_fault 0 kind }
-{
-    QueryFault {
-        kind,
-        rule: 0,
-        partition: Key::empty(),
-        cell: Key::empty(),
-    }
 }
 
 // The same places in the width of the machine.

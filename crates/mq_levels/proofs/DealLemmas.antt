@@ -37,10 +37,6 @@ filter_no p n e =
     ∙ ap (λ b. filter p (range_with_len 0 n) ++ cond b (n ∷ []) []) e
     ∙ append-nil (filter p (range_with_len 0 n))
 
--- no node is dealt out
-pub none_dealt : (numbers : Numbers) (count : ℕ) → AreDealt numbers 0 (replicate count []) []
-none_dealt numbers count = record { each = empty_at count; others = refl }
-
 module _ (numbers : Numbers) (node : ℕ) (rounds : List (List ℕ)) (rest : List ℕ) (dealt : AreDealt numbers node rounds rest) where
   -- a node with a number goes to the round of that number
   pub some_dealt : (number : ℕ) → number_of numbers node ≡ Some number → number < length rounds → AreDealt numbers (node + 1) (set rounds number (get_or rounds number [] ++ node ∷ [])) rest

@@ -100,14 +100,3 @@ number_is_round reads count numbers h all n node l = by (number_of numbers node)
     by : (number : Option ℕ) → IsNumber reads count node number → is_number n number ≡ in_round reads n node
     by None e = sym (comes reads n node (never n e) ∙ never (suc n) e)
     by (Some r) (k, i) = named r i (cases_eq r n)
-
-pub numbers_below : (reads : List (List ℕ)) (count : ℕ) (numbers : Numbers) → AreNumbered reads count numbers → NumbersBelow count numbers
-numbers_below reads count numbers a = record { below = λ node number e. by node number e (cases_lt node (length numbers)) }
-  where
-    said : (node number : ℕ) (o : Option ℕ) → IsNumber reads count node o → o ≡ Some number → number < count
-    said node number None i e = absurd (cc)
-    said node number (Some r) (k, i) e = let same : r ≡ number = cc in subst (λ m. m < count) same k
-
-    by : (node number : ℕ) → number_of numbers node ≡ Some number → (node < length numbers) ⊎ (length numbers ≤ node) → number < count
-    by node number e (inl l) = said node number (number_of numbers node) (a.each node (let long = a.long in omega arith)) e
-    by node number e (inr l) = let none = get_or_past numbers node None l in absurd (cc)

@@ -56,15 +56,6 @@ stands_one w = record { waiting = w; among = one_stands w; is = refl }
 stands_is : (w : Waiting) (node : ℕ) → Stands (w ∷ []) node → w.node ≡ node
 stands_is w node s = ap (λ (v : Waiting). v.node) (one_is w s.waiting s.among) ∙ s.is
 
-pub none_moved : (reads : List (List ℕ)) (numbers : Numbers) (watchers : List (List Waiting)) → HaveMoved reads numbers [] watchers watchers [] []
-none_moved reads numbers watchers = record {
-  watching = λ w. w;
-  stay = λ node w. w;
-  placed = λ node s. absurd (let w = s.among in omega arith);
-  kept = λ node k. k;
-  only = λ node k. inl k;
-}
-
 -- a mover all of whose reads have numbers
 pub one_ready : (reads : List (List ℕ)) (numbers : Numbers) (mover : Waiting) (watchers : List (List Waiting)) (had : List ℕ) → is_ready reads numbers mover.node ≡ true → HaveMoved reads numbers (mover ∷ []) watchers watchers had (had ++ mover.node ∷ [])
 one_ready reads numbers mover watchers had h = record {

@@ -9,6 +9,7 @@ use Rattle.std.specs.List.{flat_map, fold, filter_map, cons_option, list_all, li
 use Rattle.mq_lexer.specs.declared.sorts.Sort.{Sort}
 use Rattle.mq_lexer.specs.declared.sorts.Sort.TheVariants as sort
 use Rattle.mq_lexer.specs.declared.sorts.Front.{Front}
+use Rattle.mq_lexer.specs.Classes.{class_of}
 use Rattle.mq_lexer.specs.Lexemes.{Lexeme}
 use Rattle.mq_lexer.specs.Fronts.{Text}
 use Rattle.mq_lexer.specs.Pieces.{front, line_comment, comment_end, comment_of, block_comment, is_blank, is_word_byte}
@@ -184,7 +185,7 @@ HasSpelling t = IsSpelled t.sort t.text
 with_token : (o : Option Sort) (t : Text) (line : ℕ) (ts : List Lexeme) → Spelled o t → All HasSpelling ts → All HasSpelling (cons_option (token_at o t line) ts)
 unfolding Spelled
 with_token None t line ts spelled all = all
-with_token (Some s) t line ts spelled all = All-cons HasSpelling (record { sort = s; text = t; line = line }) ts spelled all
+with_token (Some s) t line ts spelled all = All-cons HasSpelling (record { sort = s; text = t; line = line; terminal = class_of s t }) ts spelled all
 
 spelled : (skip line : ℕ) (z : Text) → All HasSpelling (filter_map token_of (pieces_from skip line z))
 spelled skip line [] = λ k d below. absurd (omega arith)
@@ -196,6 +197,22 @@ spelled zero line (b ∷ z) =
 pub tokens-spelled : (z : Text) → All (λ (t : Lexeme). IsSpelled t.sort t.text) (tokens z)
 unfolding tokens pieces
 tokens-spelled z = spelled 0 1 z
+
+-- each is of the class of its spelling
+abbrev IsClassed : Lexeme → Type 0
+IsClassed t = t.terminal ≡ class_of t.sort t.text
+
+with_classed : (o : Option Sort) (t : Text) (line : ℕ) (ts : List Lexeme) → All IsClassed ts → All IsClassed (cons_option (token_at o t line) ts)
+with_classed None t line ts all = all
+with_classed (Some s) t line ts all = All-cons IsClassed (record { sort = s; text = t; line = line; terminal = class_of s t }) ts refl all
+
+classed : (ps : List Piece) → All IsClassed (filter_map token_of ps)
+classed [] = λ k d below. absurd (omega arith)
+classed (p ∷ ps) = with_classed p.sort p.text p.line (filter_map token_of ps) (classed ps)
+
+pub tokens-classed : (z : Text) → All (λ (t : Lexeme). t.terminal ≡ class_of t.sort t.text) (tokens z)
+unfolding tokens
+tokens-classed z = classed (pieces z)
 
 -- what can be read holds no blank
 spelled-clear : (s : Sort) (t : Text) → IsSpelled s t → is_readable s ≡ true → list_any is_blank t ≡ false

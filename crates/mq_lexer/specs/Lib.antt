@@ -1,3 +1,4 @@
+pub mod Classes
 pub mod Comments
 pub mod Fronts
 pub mod Lexemes

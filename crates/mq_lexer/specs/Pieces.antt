@@ -1,9 +1,11 @@
 -- What stands at the front of a text.
-use Rattle.std.specs.Prelude.{ℕ, zero, suc, ◌+◌, Bool, not, ◌&&◌, ◌||◌, if◌then◌else◌, ◌==◌, nat_le, nat_lt, [], ◌∷◌, length, drop, slice_index, codes, Option, Some, None}
+use Rattle.std.specs.Prelude.{ℕ, zero, suc, ◌+◌, Bool, not, ◌&&◌, ◌||◌, if◌then◌else◌, ◌==◌, nat_le, nat_lt}
+use Rattle.std.specs.Prelude.{[], ◌∷◌, length, drop, slice_index, codes, Option, Some, None}
 use Rattle.std.specs.Char.{is_ascii_digit, is_ascii_alphabetic, is_ascii_alphanumeric}
 use Rattle.std.specs.List.{list_any, prefix_len}
 use Rattle.std.specs.Option.{option_map}
-use Rattle.mq_values.specs.Bytes.{BAR, BEYOND_ASCII, CARRIAGE_RETURN, EQUAL, EXCLAMATION, GREATER, LEADING, LESS, LINE_FEED, MINUS, POINT, QUOTE, SLASH, SPACE, STAR, TAB, UNDERSCORE}
+use Rattle.mq_values.specs.Bytes.{BAR, BEYOND_ASCII, CARRIAGE_RETURN, EQUAL, EXCLAMATION, GREATER, LEADING}
+use Rattle.mq_values.specs.Bytes.{LESS, LINE_FEED, MINUS, POINT, QUOTE, SLASH, SPACE, STAR, TAB, UNDERSCORE}
 use Rattle.mq_values.specs.declared.limits.TheConstants.{MAX_WORD_BYTES}
 use Rattle.mq_lexer.specs.declared.sorts.Sort.TheVariants as sort
 use Rattle.mq_lexer.specs.declared.sorts.Front.{Front}

@@ -1,5 +1,6 @@
 -- Texts: a quote, characters in which each quote is doubled, a quote.
-use Rattle.std.specs.Prelude.{ℕ, suc, ◌+◌, ◌-◌, Bool, true, false, ◌&&◌, if◌then◌else◌, ◌==◌, nat_le, [], ◌∷◌, length, take, drop, Option, Some, None}
+use Rattle.std.specs.Prelude.{ℕ, suc, ◌+◌, ◌-◌, Bool, true, false, ◌&&◌, if◌then◌else◌, ◌==◌, nat_le}
+use Rattle.std.specs.Prelude.{[], ◌∷◌, length, take, drop, Option, Some, None}
 use Rattle.std.specs.List.{list_all}
 use Rattle.std.specs.Option.{option_map, option_or}
 use Rattle.mq_values.specs.Bytes.{QUOTE}

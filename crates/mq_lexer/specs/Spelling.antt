@@ -1,5 +1,6 @@
 -- How tokens are spelled, apart from any way to find them. `fits` says whether the limits are kept.
-use Rattle.std.specs.Prelude.{◌≡◌, ◌≢◌, ℕ, ◌<◌, ◌≤◌, Bool, true, ◌&&◌, ◌||◌, if◌then◌else◌, ◌==◌, nat_le, List, [], ◌∷◌, ◌++◌, length, take, slice_index, codes, ◌⊎◌}
+use Rattle.std.specs.Prelude.{◌≡◌, ◌≢◌, ℕ, ◌<◌, ◌≤◌, Bool, true, ◌&&◌, ◌||◌, if◌then◌else◌, ◌==◌, nat_le, ◌⊎◌}
+use Rattle.std.specs.Prelude.{List, [], ◌∷◌, ◌++◌, length, take, slice_index, codes}
 use Rattle.std.specs.Char.{is_ascii_digit, is_ascii_alphabetic}
 use Rattle.std.specs.List.{list_all, list_any}
 use Rattle.std.specs.Str.{bytes_eq}
@@ -88,4 +89,6 @@ IsTokenOf z f = (s : Sort) × (f ≡ a_token s f.len) × (IsLongest z s f.len �
 
 -- a blank or a comment
 abbrev pub begins_gap : Text → Bool
-begins_gap z = is_blank (slice_index z 0) || (slice_index z 0 == MINUS && slice_index z 1 == MINUS) || (slice_index z 0 == SLASH && slice_index z 1 == STAR)
+begins_gap z =
+    is_blank (slice_index z 0) || (slice_index z 0 == MINUS && slice_index z 1 == MINUS)
+    || (slice_index z 0 == SLASH && slice_index z 1 == STAR)

@@ -1,10 +1,10 @@
 -- The statements of a token list: the lists between `;` signs, empty ones left out.
-use Rattle.std.specs.Prelude.{◌≡◌, ℕ, ◌<◌, ◌≤◌, Bool, not, if◌then◌else◌, List, [], ◌∷◌, length, map, drop, codes, Option, Some, None}
+use Rattle.std.specs.Prelude.{◌≡◌, ℕ, ◌<◌, ◌≤◌, Bool, not, if◌then◌else◌, List, [], ◌∷◌, length, map, drop, Option, Some, None}
 use Rattle.std.specs.List.{filter_map}
 use Rattle.mq_lexer.specs.declared.script.Statement as code
 use Rattle.mq_lexer.specs.declared.sorts.Token.{Token}
+use Rattle.mq_lexer.specs.Classes.{is_semicolon_class}
 use Rattle.mq_lexer.specs.Lexemes.{Lexeme, lexeme}
-use Rattle.mq_lexer.specs.Words.{is_sign}
 
 -- a statement, and the line of its first token
 pub record Statement : Type 0 where
@@ -12,7 +12,7 @@ pub record Statement : Type 0 where
   pub line : ℕ
 
 abbrev pub is_semicolon : Lexeme → Bool
-is_semicolon t = is_sign t (codes ";")
+is_semicolon t = is_semicolon_class t.terminal
 
 abbrev pub put_first : Lexeme → List (List Lexeme) → List (List Lexeme)
 put_first t [] = (t ∷ []) ∷ []

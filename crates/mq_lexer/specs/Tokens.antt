@@ -6,6 +6,7 @@ use Rattle.mq_values.specs.Bytes.{LINE_FEED}
 use Rattle.mq_lexer.specs.declared.sorts.Sort.{Sort}
 use Rattle.mq_lexer.specs.declared.sorts.Sort.TheVariants as sort
 use Rattle.mq_lexer.specs.declared.sorts.Front.{Front}
+use Rattle.mq_lexer.specs.Classes.{class_of}
 use Rattle.mq_lexer.specs.Lexemes.{Lexeme}
 use Rattle.mq_lexer.specs.Pieces.{front}
 -- the words for the parts of a text
@@ -39,9 +40,9 @@ pieces_from zero line (b ∷ z) =
 unfoldable pub pieces : Text → List Piece
 pieces z = pieces_from 0 1 z
 
--- a piece that has a sort is a token
+-- a piece that has a sort is a token, of the class of its spelling
 abbrev pub token_at : Option Sort → Text → ℕ → Option Lexeme
-token_at s text line = option_map (λ s. record { sort = s; text = text; line = line }) s
+token_at s text line = option_map (λ s. record { sort = s; text = text; line = line; terminal = class_of s text }) s
 
 abbrev pub token_of : Piece → Option Lexeme
 token_of p = token_at p.sort p.text p.line

@@ -1,10 +1,11 @@
 -- Words by their spelling, in capital or small letters, the reserved words, names and signs.
-use Rattle.std.specs.Prelude.{ℕ, Bool, true, false, not, ◌&&◌, if◌then◌else◌, ◌==◌, List, [], ◌∷◌, map, filter, slice_index, Option, Some, None, is_some}
+use Rattle.std.specs.Prelude.{ℕ, Bool, true, false, not, ◌&&◌, if◌then◌else◌, ◌==◌}
+use Rattle.std.specs.Prelude.{List, [], ◌∷◌, map, filter, slice_index, Option, Some, None, is_some}
 use Rattle.std.specs.Str.{bytes_eq, str_to_ascii_uppercase}
 use Rattle.mq_lexer.specs.declared.sorts.Sort.{Sort}
 use Rattle.mq_lexer.specs.declared.sorts.Sort.TheVariants as sort
-use Rattle.mq_lexer.specs.declared.keywords.Reserved.{Reserved}
 use Rattle.mq_lexer.specs.declared.keywords.TheConstants.{RESERVED}
+use Rattle.mq_lexer.specs.declared.terminals.Terminal.{Terminal}
 use Rattle.mq_lexer.specs.Lexemes.{Lexeme}
 use Rattle.mq_lexer.specs.Fronts.{Text}
 
@@ -36,16 +37,16 @@ abbrev pub spelled : {A : Type 0} → Text → List (Text × A) → Option A
 spelled z [] = None
 spelled z (w ∷ ws) = if bytes_eq w.0 z then Some w.1 else spelled z ws
 
--- the words that are never names, each with its spelling
-unfoldable pub reserved : List (Text × Reserved)
+-- the words that are never names, each with what it is for the grammar
+unfoldable pub reserved : List (Text × Terminal)
 reserved = map (λ w. (w.0.now, w.1)) RESERVED
 
 -- those that begin with a letter
-unfoldable pub row : ℕ → List (Text × Reserved)
+unfoldable pub row : ℕ → List (Text × Terminal)
 row first = filter (λ w. slice_index w.0 0 == first) reserved
 
--- the reserved word that is spelled so, in capital or small letters
-abbrev pub reserved_of : Text → Option Reserved
+-- what the reserved word is that is spelled so, in capital or small letters
+abbrev pub reserved_of : Text → Option Terminal
 reserved_of z = spelled (folded z) reserved
 
 abbrev pub is_reserved : Text → Bool

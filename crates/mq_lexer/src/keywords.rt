@@ -4,6 +4,7 @@ ghost use Rattle.std.specs.Prelude.{◌≡◌, map, slice_index};
 ghost use Rattle.std.specs.Str.{bytes_eq};
 ghost use Rattle.mq_lexer.specs.Words as spec;
 
+use crate::terminals::Terminal;
 use mq_values::Agg;
 
 /// A reserved word that is no aggregate.
@@ -99,113 +100,106 @@ pub enum Keyword {
     Where,
 }
 
-/// A reserved word: a keyword, or the name of an aggregate.
-#[derive(Clone, Copy, PartialEq, Eq)]
-pub enum Reserved {
-    Word(Keyword),
-    Aggregate(Agg),
-}
-
 /// The reserved words by their spelling, in the order of the alphabet (docs/LANGUAGE.md, "Tokens").
-pub const RESERVED: [(&str, Reserved); 93] = [
-    ("ABS", Reserved::Word(Keyword::Abs)),
-    ("ALL", Reserved::Word(Keyword::All)),
-    ("AND", Reserved::Word(Keyword::And)),
-    ("ANY", Reserved::Word(Keyword::Any)),
-    ("AS", Reserved::Word(Keyword::As)),
-    ("ASC", Reserved::Word(Keyword::Asc)),
-    ("AUTOMATIC", Reserved::Word(Keyword::Automatic)),
-    ("AVG", Reserved::Aggregate(Agg::Avg)),
-    ("BEGIN", Reserved::Word(Keyword::Begin)),
-    ("BETWEEN", Reserved::Word(Keyword::Between)),
-    ("BY", Reserved::Word(Keyword::By)),
-    ("CASE", Reserved::Word(Keyword::Case)),
-    ("CAST", Reserved::Word(Keyword::Cast)),
-    ("CELL", Reserved::Word(Keyword::Cell)),
-    ("COMMIT", Reserved::Word(Keyword::Commit)),
-    ("COMPARE", Reserved::Word(Keyword::Compare)),
-    ("COUNT", Reserved::Aggregate(Agg::Count)),
-    ("CREATE", Reserved::Word(Keyword::Create)),
-    ("CROSS", Reserved::Word(Keyword::Cross)),
-    ("CV", Reserved::Word(Keyword::Cv)),
-    ("DATE", Reserved::Word(Keyword::Date)),
-    ("DECIMAL", Reserved::Word(Keyword::Decimal)),
-    ("DECREMENT", Reserved::Word(Keyword::Decrement)),
-    ("DELETE", Reserved::Word(Keyword::Delete)),
-    ("DESC", Reserved::Word(Keyword::Desc)),
-    ("DIMENSION", Reserved::Word(Keyword::Dimension)),
-    ("DROP", Reserved::Word(Keyword::Drop)),
-    ("ELSE", Reserved::Word(Keyword::Else)),
-    ("END", Reserved::Word(Keyword::End)),
-    ("EXPLAIN", Reserved::Word(Keyword::Explain)),
-    ("FLOOR", Reserved::Word(Keyword::Floor)),
-    ("FOR", Reserved::Word(Keyword::For)),
-    ("FROM", Reserved::Word(Keyword::From)),
-    ("GROUP", Reserved::Word(Keyword::Group)),
-    ("IGNORE", Reserved::Word(Keyword::Ignore)),
-    ("IN", Reserved::Word(Keyword::In)),
-    ("INCREMENT", Reserved::Word(Keyword::Increment)),
-    ("INNER", Reserved::Word(Keyword::Inner)),
-    ("INSERT", Reserved::Word(Keyword::Insert)),
-    ("INT", Reserved::Word(Keyword::Int)),
-    ("INTO", Reserved::Word(Keyword::Into)),
-    ("IS", Reserved::Word(Keyword::Is)),
-    ("ITERATE", Reserved::Word(Keyword::Iterate)),
-    ("ITERATION_NUMBER", Reserved::Word(Keyword::IterationNumber)),
-    ("JOIN", Reserved::Word(Keyword::Join)),
-    ("KEEP", Reserved::Word(Keyword::Keep)),
-    ("KEY", Reserved::Word(Keyword::Key)),
-    ("LENGTH", Reserved::Word(Keyword::Length)),
-    ("LOAD", Reserved::Word(Keyword::Load)),
-    ("MAIN", Reserved::Word(Keyword::Main)),
-    ("MAX", Reserved::Aggregate(Agg::Max)),
-    ("MEASURES", Reserved::Word(Keyword::Measures)),
-    ("MIN", Reserved::Aggregate(Agg::Min)),
-    ("MODEL", Reserved::Word(Keyword::Model)),
-    ("NAV", Reserved::Word(Keyword::Nav)),
-    ("NOT", Reserved::Word(Keyword::Not)),
-    ("NULL", Reserved::Word(Keyword::Null)),
-    ("NVL", Reserved::Word(Keyword::Nvl)),
-    ("ON", Reserved::Word(Keyword::On)),
-    ("OR", Reserved::Word(Keyword::Or)),
-    ("ORDER", Reserved::Word(Keyword::Order)),
-    ("PARTITION", Reserved::Word(Keyword::Partition)),
-    ("PRESENT", Reserved::Word(Keyword::Present)),
-    ("PRESENTNNV", Reserved::Word(Keyword::Presentnnv)),
-    ("PRESENTV", Reserved::Word(Keyword::Presentv)),
-    ("PREVIOUS", Reserved::Word(Keyword::Previous)),
-    ("PRIMARY", Reserved::Word(Keyword::Primary)),
-    ("REFERENCE", Reserved::Word(Keyword::Reference)),
-    ("RETURN", Reserved::Word(Keyword::Return)),
-    ("ROLLBACK", Reserved::Word(Keyword::Rollback)),
-    ("ROUND", Reserved::Word(Keyword::Round)),
-    ("ROWS", Reserved::Word(Keyword::Rows)),
-    ("RULES", Reserved::Word(Keyword::Rules)),
-    ("SCENARIO", Reserved::Word(Keyword::Scenario)),
-    ("SELECT", Reserved::Word(Keyword::Select)),
-    ("SEQUENTIAL", Reserved::Word(Keyword::Sequential)),
-    ("SET", Reserved::Word(Keyword::Set)),
-    ("SHOW", Reserved::Word(Keyword::Show)),
-    ("SUM", Reserved::Aggregate(Agg::Sum)),
-    ("TABLE", Reserved::Word(Keyword::Table)),
-    ("TEXT", Reserved::Word(Keyword::Text)),
-    ("THEN", Reserved::Word(Keyword::Then)),
-    ("TO", Reserved::Word(Keyword::To)),
-    ("UNDER", Reserved::Word(Keyword::Under)),
-    ("UNIQUE", Reserved::Word(Keyword::Unique)),
-    ("UNTIL", Reserved::Word(Keyword::Until)),
-    ("UPDATE", Reserved::Word(Keyword::Update)),
-    ("UPDATED", Reserved::Word(Keyword::Updated)),
-    ("UPSERT", Reserved::Word(Keyword::Upsert)),
-    ("VALUES", Reserved::Word(Keyword::Values)),
-    ("VIEW", Reserved::Word(Keyword::View)),
-    ("WHEN", Reserved::Word(Keyword::When)),
-    ("WHERE", Reserved::Word(Keyword::Where)),
+pub const RESERVED: [(&str, Terminal); 93] = [
+    ("ABS", Terminal::Word(Keyword::Abs)),
+    ("ALL", Terminal::Word(Keyword::All)),
+    ("AND", Terminal::Word(Keyword::And)),
+    ("ANY", Terminal::Word(Keyword::Any)),
+    ("AS", Terminal::Word(Keyword::As)),
+    ("ASC", Terminal::Word(Keyword::Asc)),
+    ("AUTOMATIC", Terminal::Word(Keyword::Automatic)),
+    ("AVG", Terminal::Aggregate(Agg::Avg)),
+    ("BEGIN", Terminal::Word(Keyword::Begin)),
+    ("BETWEEN", Terminal::Word(Keyword::Between)),
+    ("BY", Terminal::Word(Keyword::By)),
+    ("CASE", Terminal::Word(Keyword::Case)),
+    ("CAST", Terminal::Word(Keyword::Cast)),
+    ("CELL", Terminal::Word(Keyword::Cell)),
+    ("COMMIT", Terminal::Word(Keyword::Commit)),
+    ("COMPARE", Terminal::Word(Keyword::Compare)),
+    ("COUNT", Terminal::Aggregate(Agg::Count)),
+    ("CREATE", Terminal::Word(Keyword::Create)),
+    ("CROSS", Terminal::Word(Keyword::Cross)),
+    ("CV", Terminal::Word(Keyword::Cv)),
+    ("DATE", Terminal::Word(Keyword::Date)),
+    ("DECIMAL", Terminal::Word(Keyword::Decimal)),
+    ("DECREMENT", Terminal::Word(Keyword::Decrement)),
+    ("DELETE", Terminal::Word(Keyword::Delete)),
+    ("DESC", Terminal::Word(Keyword::Desc)),
+    ("DIMENSION", Terminal::Word(Keyword::Dimension)),
+    ("DROP", Terminal::Word(Keyword::Drop)),
+    ("ELSE", Terminal::Word(Keyword::Else)),
+    ("END", Terminal::Word(Keyword::End)),
+    ("EXPLAIN", Terminal::Word(Keyword::Explain)),
+    ("FLOOR", Terminal::Word(Keyword::Floor)),
+    ("FOR", Terminal::Word(Keyword::For)),
+    ("FROM", Terminal::Word(Keyword::From)),
+    ("GROUP", Terminal::Word(Keyword::Group)),
+    ("IGNORE", Terminal::Word(Keyword::Ignore)),
+    ("IN", Terminal::Word(Keyword::In)),
+    ("INCREMENT", Terminal::Word(Keyword::Increment)),
+    ("INNER", Terminal::Word(Keyword::Inner)),
+    ("INSERT", Terminal::Word(Keyword::Insert)),
+    ("INT", Terminal::Word(Keyword::Int)),
+    ("INTO", Terminal::Word(Keyword::Into)),
+    ("IS", Terminal::Word(Keyword::Is)),
+    ("ITERATE", Terminal::Word(Keyword::Iterate)),
+    ("ITERATION_NUMBER", Terminal::Word(Keyword::IterationNumber)),
+    ("JOIN", Terminal::Word(Keyword::Join)),
+    ("KEEP", Terminal::Word(Keyword::Keep)),
+    ("KEY", Terminal::Word(Keyword::Key)),
+    ("LENGTH", Terminal::Word(Keyword::Length)),
+    ("LOAD", Terminal::Word(Keyword::Load)),
+    ("MAIN", Terminal::Word(Keyword::Main)),
+    ("MAX", Terminal::Aggregate(Agg::Max)),
+    ("MEASURES", Terminal::Word(Keyword::Measures)),
+    ("MIN", Terminal::Aggregate(Agg::Min)),
+    ("MODEL", Terminal::Word(Keyword::Model)),
+    ("NAV", Terminal::Word(Keyword::Nav)),
+    ("NOT", Terminal::Word(Keyword::Not)),
+    ("NULL", Terminal::Word(Keyword::Null)),
+    ("NVL", Terminal::Word(Keyword::Nvl)),
+    ("ON", Terminal::Word(Keyword::On)),
+    ("OR", Terminal::Word(Keyword::Or)),
+    ("ORDER", Terminal::Word(Keyword::Order)),
+    ("PARTITION", Terminal::Word(Keyword::Partition)),
+    ("PRESENT", Terminal::Word(Keyword::Present)),
+    ("PRESENTNNV", Terminal::Word(Keyword::Presentnnv)),
+    ("PRESENTV", Terminal::Word(Keyword::Presentv)),
+    ("PREVIOUS", Terminal::Word(Keyword::Previous)),
+    ("PRIMARY", Terminal::Word(Keyword::Primary)),
+    ("REFERENCE", Terminal::Word(Keyword::Reference)),
+    ("RETURN", Terminal::Word(Keyword::Return)),
+    ("ROLLBACK", Terminal::Word(Keyword::Rollback)),
+    ("ROUND", Terminal::Word(Keyword::Round)),
+    ("ROWS", Terminal::Word(Keyword::Rows)),
+    ("RULES", Terminal::Word(Keyword::Rules)),
+    ("SCENARIO", Terminal::Word(Keyword::Scenario)),
+    ("SELECT", Terminal::Word(Keyword::Select)),
+    ("SEQUENTIAL", Terminal::Word(Keyword::Sequential)),
+    ("SET", Terminal::Word(Keyword::Set)),
+    ("SHOW", Terminal::Word(Keyword::Show)),
+    ("SUM", Terminal::Aggregate(Agg::Sum)),
+    ("TABLE", Terminal::Word(Keyword::Table)),
+    ("TEXT", Terminal::Word(Keyword::Text)),
+    ("THEN", Terminal::Word(Keyword::Then)),
+    ("TO", Terminal::Word(Keyword::To)),
+    ("UNDER", Terminal::Word(Keyword::Under)),
+    ("UNIQUE", Terminal::Word(Keyword::Unique)),
+    ("UNTIL", Terminal::Word(Keyword::Until)),
+    ("UPDATE", Terminal::Word(Keyword::Update)),
+    ("UPDATED", Terminal::Word(Keyword::Updated)),
+    ("UPSERT", Terminal::Word(Keyword::Upsert)),
+    ("VALUES", Terminal::Word(Keyword::Values)),
+    ("VIEW", Terminal::Word(Keyword::View)),
+    ("WHEN", Terminal::Word(Keyword::When)),
+    ("WHERE", Terminal::Word(Keyword::Where)),
 ];
 
-static TABLE: [(&str, Reserved); 93] = RESERVED;
+static TABLE: [(&str, Terminal); 93] = RESERVED;
 
-type Row = &'static [(&'static str, Reserved)];
+type Row = &'static [(&'static str, Terminal)];
 
 // The reserved words that begin with a letter: where they stand in the table.
 #[tactic(auto, unfolding(crate::specs::Words::row, crate::specs::Words::reserved))]
@@ -263,15 +257,15 @@ fn initial(word: &[u8]) -> u8
     }
 }
 
-/// The reserved word that is spelled so, in capital or small letters; none where the word is a name
+/// What the reserved word is that is spelled so, in capital or small letters; none where the word is a name
 /// (docs/LANGUAGE.md, "Tokens").
-pub fn reserved_word(word: &str) -> Option<Reserved>
+pub fn reserved_word(word: &str) -> Option<Terminal>
     ensures { result ≡ spec.reserved_of word.now }
 {
     let letters = word.as_bytes();
-    for (spelling, reserved) in row(initial(letters)) {
+    for (spelling, class) in row(initial(letters)) {
         if is_spelled(letters, spelling.as_bytes()) {
-            return Some(*reserved);
+            return Some(*class);
         }
     }
     None

@@ -1,8 +1,10 @@
 //! Laws of the definitions. The functions do nothing: what they ensure is the law.
 
-ghost use Rattle.std.specs.Prelude.{◌≡◌, ◌+◌, ◌-◌, ◌^◌, ◌<◌, ◌==◌, ◌++◌, ◌∷◌, false, true, not, min, List, length, slice_index, filter, All};
+ghost use Rattle.std.specs.Prelude.{◌≡◌, ◌+◌, ◌-◌, ◌^◌, ◌<◌, ◌==◌, ◌++◌, ◌∷◌, false, true, not, min, All};
+ghost use Rattle.std.specs.Prelude.{List, length, slice_index, filter};
 ghost use Rattle.std.specs.List.{flat_map, list_any, count_by};
 ghost use Rattle.mq_values.specs.Bytes.{LINE_FEED, MINUS, SLASH, STAR};
+ghost use Rattle.mq_lexer.specs.Classes.{class_of};
 ghost use Rattle.mq_lexer.specs.Lexemes.{Lexeme};
 ghost use Rattle.mq_lexer.specs.Fronts.{Text, a_gap};
 ghost use Rattle.mq_lexer.specs.Pieces.{front, is_blank};
@@ -39,6 +41,11 @@ pub fn gaps_are_blanks_and_comments()
 /// Each token that is not Bad has the spelling of its sort, with the limits kept: a word, a number, a text or a sign.
 pub fn tokens_are_spelled()
     ensures { (z : Text) → All (λ (t : Lexeme). IsSpelled t.sort t.text) (tokens z) }
+{}
+
+/// Each token is for the grammar what its sort and spelling say.
+pub fn tokens_are_of_their_class()
+    ensures { (z : Text) → All (λ (t : Lexeme). t.terminal ≡ class_of t.sort t.text) (tokens z) }
 {}
 
 /// No word, number or sign holds a blank.

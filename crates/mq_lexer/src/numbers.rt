@@ -9,7 +9,8 @@ use mq_values::{MAX_MANTISSA, MAX_SCALE, Num};
 
 /// What the digits make, where it is not too great. A point counts nothing.
 pub(crate) fn digits_value(mut number: &[u8]) -> Option<u128>
-    ensures { MatchOption result (MAX_MANTISSA < fold spec.with_digit 0 number.entry.now) (λ n. (n ≡ fold spec.with_digit 0 number.entry.now) × (n ≤ MAX_MANTISSA)) }
+    ensures { MatchOption result (MAX_MANTISSA < fold spec.with_digit 0 number.entry.now)
+        (λ n. (n ≡ fold spec.with_digit 0 number.entry.now) × (n ≤ MAX_MANTISSA)) }
 {
     let mut value: u128 = 0;
     while let [b, rest @ ..] = number {

@@ -6,6 +6,7 @@ ghost use Rattle.std.specs.Option.{option_to_list};
 ghost use Rattle.mq_lexer.specs.Tokens as spec;
 ghost use Rattle.mq_lexer.specs.Lexemes.{lexeme};
 
+use crate::classes::class_of;
 use crate::pieces::front;
 use crate::sorts::{Sort, Token};
 use mq_values::Memory;
@@ -34,12 +35,17 @@ fn add<'a>(
     ensures { OnOk result (map lexeme found.new.items ≡ map lexeme found.old.items ++ option_to_list (spec.token_at sort text.now line)) }
 {
     if let Some(sort) = sort {
-        found.push(Token { sort, text, line })?;
+        found.push(Token {
+            sort,
+            text,
+            line,
+            terminal: class_of(sort, text),
+        })?;
     }
     Ok(())
 }
 
-/// The tokens of a text, in order, each with its line. It refuses nothing: what cannot be read is a token of
+/// The tokens of a text, in order, each with its line and its class. It refuses nothing: what cannot be read is a token of
 /// sort `Bad`. The one error is want of memory. docs/LANGUAGE.md, "Tokens", has the rules.
 pub fn tokens(alloc: Global, text: &str) -> Result<Vec<Token<'_>>, Memory>
     ensures { IfOk result (λ v. map lexeme v.items ≡ spec.tokens text.now) }

@@ -6,12 +6,12 @@ ghost use Rattle.mq_lexer.specs.Lexemes.{lexeme};
 ghost use Rattle.mq_lexer.specs.Statements as spec;
 
 use crate::sorts::Token;
-use crate::words::is_sign;
+use crate::terminals::{Symbol, Terminal};
 use mq_values::Memory;
 use std::alloc::Global;
 
 /// A statement: its tokens, lent by the token list, and the line of the first of them.
-#[derive(Clone, Copy, Debug)]
+#[derive(Clone, Copy)]
 pub struct Statement<'t, 'a> {
     pub tokens: &'t [Token<'a>],
     pub line: u32,
@@ -20,7 +20,7 @@ pub struct Statement<'t, 'a> {
 fn is_semicolon(token: Token<'_>) -> bool
     ensures { result ≡ spec.is_semicolon (lexeme token.entry) }
 {
-    is_sign(token, ";")
+    matches!(token.terminal, Terminal::Sign(Symbol::Semicolon))
 }
 
 // The first place from this one on where no `;` stands.

@@ -7,9 +7,9 @@ use Rattle.mq_ast.specs.declared.expressions.E.{E}
 use Rattle.mq_ast.specs.declared.expressions.E.TheVariants as tree
 use Rattle.mq_ast.specs.declared.expressions.Place.{Place}
 use Rattle.mq_lexer.specs.declared.keywords.Keyword.TheVariants as word
-use Rattle.mq_ast.specs.declared.terminals.Symbol.TheVariants as sign
-use Rattle.mq_ast.specs.declared.terminals.Terminal.{Terminal}
-use Rattle.mq_ast.specs.declared.terminals.Terminal.TheVariants as terminal
+use Rattle.mq_lexer.specs.declared.terminals.Symbol.TheVariants as sign
+use Rattle.mq_lexer.specs.declared.terminals.Terminal.{Terminal}
+use Rattle.mq_lexer.specs.declared.terminals.Terminal.TheVariants as terminal
 use Rattle.mq_ast.specs.Tokens.{Tok, Word, Sign, terminal_at, opener, open_square, comma, minus}
 use Rattle.mq_ast.specs.declared.levels.TheConstants as level
 use Rattle.mq_ast.specs.Continuing.{loose, Stops, Not, Ends}

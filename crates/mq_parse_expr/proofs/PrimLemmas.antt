@@ -18,9 +18,9 @@ use Rattle.mq_ast.specs.declared.expressions.Place.{Place}
 use Rattle.mq_ast.specs.declared.expressions.Arm.{Arm}
 use Rattle.mq_lexer.specs.declared.keywords.Keyword.{Keyword}
 use Rattle.mq_lexer.specs.declared.keywords.Keyword.TheVariants as word
-use Rattle.mq_ast.specs.declared.terminals.Symbol.TheVariants as sign
-use Rattle.mq_ast.specs.declared.terminals.Terminal.{Terminal}
-use Rattle.mq_ast.specs.declared.terminals.Terminal.TheVariants as terminal
+use Rattle.mq_lexer.specs.declared.terminals.Symbol.TheVariants as sign
+use Rattle.mq_lexer.specs.declared.terminals.Terminal.{Terminal}
+use Rattle.mq_lexer.specs.declared.terminals.Terminal.TheVariants as terminal
 use Rattle.mq_ast.specs.Tokens.{Tok, Word, Aggregate, Sign, Name, terminal_at, rest_of, opener, closer, star}
 use Rattle.mq_ast.specs.declared.levels.TheConstants as level
 use Rattle.mq_ast.specs.Continuing.{loose, Stops, Not, Ends}
@@ -31,7 +31,7 @@ use Rattle.mq_ast.specs.Laws.{Same, begin, cut, none_some, one_call}
 use Rattle.mq_ast.specs.Laws.{brackets_front, brackets_stop, whens_front, else_stop, expr_no_star, name_ends, no_square, path_same, kind_same, stops_when, expr_same, tuple_same, brackets_same, case_same, whens_same, else_same, closed_same}
 use Rattle.mq_parse_words.specs.declared.forms.Form.{Form}
 use Rattle.mq_parse_words.specs.declared.forms.Form.TheVariants as form
-use Rattle.mq_parse_words.specs.Reading.{No, Anywhere, Gives}
+use Rattle.mq_parse_words.specs.Reading.{No, Anywhere, IsRead}
 use Rattle.mq_parse_words.specs.Forms.{form_of_word, form_of, asked, called_by, called, IsClosed}
 use Rattle.mq_parse_words.specs.Fronts.{Behind, RoundE, round, NoAll, NoCells, CellsOf, AsKind, as_kind, ToScale, to_scale, AtWhen, SomeWhens, ElseEnd}
 
@@ -206,8 +206,8 @@ pub agg_prim : {g : Agg} {a : E} {ts to : List Tok} → RoundE a ts to → PrimE
 agg_prim (round d) = prim_agg d
 
 -- the cells of an aggregate
-pub measured : (g : Agg) (t : List Token) (at : ℕ) (r : Result (E × ℕ) (Fail Refused)) {m n : List ℕ} → m ≡ n → Gives (CellsOf g m) (Stops level.PRIMARY) t at r → Gives (CellsOf g n) (Stops level.PRIMARY) t at r
-measured g t at r {m} {n} e d = let P : List ℕ → Type 0 = λ x. Gives (CellsOf g x) (Stops level.PRIMARY) t at r in subst P e d
+pub measured : (g : Agg) (t : List Token) (at : ℕ) (r : Result (E × ℕ) (Fail Refused)) {m n : List ℕ} → m ≡ n → IsRead (CellsOf g m) (Stops level.PRIMARY) t at r → IsRead (CellsOf g n) (Stops level.PRIMARY) t at r
+measured g t at r {m} {n} e d = let P : List ℕ → Type 0 = λ x. IsRead (CellsOf g x) (Stops level.PRIMARY) t at r in subst P e d
 
 pub range_no_places : {g : Agg} {n : List ℕ} {ts : List Tok} → terminal_at ts ≡ terminal.Sign sign.OpenSquare → No Brackets Anywhere ts → No (CellsOf g n) (Stops level.PRIMARY) ts
 range_no_places o h a to (prim_agg d) s = no_square to s (ap terminal_at (cut (name_ends d)) ∙ o)

@@ -5,7 +5,7 @@ ghost use Rattle.mq_ast.specs.Tokens.{Aggregate, Word, terminal_at};
 ghost use Rattle.mq_ast.specs.declared.levels.TheConstants as level;
 ghost use Rattle.mq_ast.specs.Continuing.{Stops, Ends};
 ghost use Rattle.mq_ast.specs.GrammarExpression.{Expr, MoreOr, AndE, MoreAnd, NotE, TestE, TestTail, Tuple, Exprs, MoreExprs, SumE, MoreSum, ProdE, MoreProd, SignE, PrimE, Brackets, MorePlaces, PlaceE, CaseE};
-ghost use Rattle.mq_parse_words.specs.Reading.{from, Anywhere, Gives};
+ghost use Rattle.mq_parse_words.specs.Reading.{from, Anywhere, IsRead};
 ghost use Rattle.mq_parse_words.specs.Forms.{IsClosed, form_of as spec_form};
 ghost use Rattle.mq_parse_words.specs.Fronts.{AtWhen, Behind, CellsOf, ElseEnd, RoundE, Since, SomeWhens, between_front, cmp_front, in_front, not_front};
 
@@ -28,7 +28,7 @@ use std::alloc::Global;
 /// An expression, up to a place where no token stands that goes on. SYNTAX exactly where there is no such expression,
 /// also behind the last token.
 pub fn read_expr(alloc: Global, t: &[Token<'_>], at: usize) -> Result<(E, usize), Fail<Refused>>
-    ensures { Gives Expr (Stops level.EXPRESSION) t.now at result }
+    ensures { IsRead Expr (Stops level.EXPRESSION) t.now at result }
 {
     let (e, to) = read_whole(alloc, t, at)?;
     Ok((e.into_inner(), to))
@@ -36,7 +36,7 @@ pub fn read_expr(alloc: Global, t: &[Token<'_>], at: usize) -> Result<(E, usize)
 
 /// An expression between brackets.
 pub fn read_round(alloc: Global, t: &[Token<'_>], at: usize) -> Result<(E, usize), Fail<Refused>>
-    ensures { Gives RoundE Anywhere t.now at result }
+    ensures { IsRead RoundE Anywhere t.now at result }
 {
     let (e, to) = read_inner(alloc, t, at)?;
     Ok((e.into_inner(), to))
@@ -44,7 +44,7 @@ pub fn read_round(alloc: Global, t: &[Token<'_>], at: usize) -> Result<(E, usize
 
 /// The tree of an expression on the heap, as readers of larger trees hand it on; for the rest as [`read_expr`].
 pub fn read_tree(alloc: Global, t: &[Token<'_>], at: usize) -> Result<(Tree, usize), Fail<Refused>>
-    ensures { Gives Expr (Stops level.EXPRESSION) t.now at result }
+    ensures { IsRead Expr (Stops level.EXPRESSION) t.now at result }
 {
     read_whole(alloc, t, at)
 }
@@ -55,7 +55,7 @@ pub fn read_round_tree(
     t: &[Token<'_>],
     at: usize,
 ) -> Result<(Tree, usize), Fail<Refused>>
-    ensures { Gives RoundE Anywhere t.now at result }
+    ensures { IsRead RoundE Anywhere t.now at result }
 {
     read_inner(alloc, t, at)
 }
@@ -63,7 +63,7 @@ pub fn read_round_tree(
 // The tree of an expression. Most are one name or one number.
 #[cycle(parser)]
 fn read_whole(alloc: Global, t: &[Token<'_>], at: usize) -> Result<(Tree, usize), Fail<Refused>>
-    ensures { Gives Expr (Stops level.EXPRESSION) t.now at result }
+    ensures { IsRead Expr (Stops level.EXPRESSION) t.now at result }
 {
     match read_lone(alloc, t, at, levels::EXPRESSION)? {
         Some(e) => Ok((e, at + 1)),
@@ -74,7 +74,7 @@ fn read_whole(alloc: Global, t: &[Token<'_>], at: usize) -> Result<(Tree, usize)
 // The tree of an expression.
 #[cycle(parser)]
 fn read_or(alloc: Global, t: &[Token<'_>], at: usize) -> Result<(Tree, usize), Fail<Refused>>
-    ensures { Gives Expr (Stops level.EXPRESSION) t.now at result }
+    ensures { IsRead Expr (Stops level.EXPRESSION) t.now at result }
 {
     let (first, mid) = read_and(alloc, t, at)?;
     let Some(_) = behind_word(t, mid, Keyword::Or) else {
@@ -88,7 +88,7 @@ fn read_or(alloc: Global, t: &[Token<'_>], at: usize) -> Result<(Tree, usize), F
 fn read_ors(alloc: Global, t: &[Token<'_>], at: usize) -> Result<(Items<E>, usize), Fail<Refused>>
     requires in_range { at ≤ length t.now }
     requires stops { Stops level.CONJUNCTION (from t.now at) }
-    ensures { Gives MoreOr (Stops level.EXPRESSION) t.now at result }
+    ensures { IsRead MoreOr (Stops level.EXPRESSION) t.now at result }
 {
     let mut found = Items::with_room(alloc, 2);
     let mut to = at;
@@ -102,7 +102,7 @@ fn read_ors(alloc: Global, t: &[Token<'_>], at: usize) -> Result<(Items<E>, usiz
 
 #[cycle(parser)]
 fn read_and(alloc: Global, t: &[Token<'_>], at: usize) -> Result<(Tree, usize), Fail<Refused>>
-    ensures { Gives AndE (Stops level.CONJUNCTION) t.now at result }
+    ensures { IsRead AndE (Stops level.CONJUNCTION) t.now at result }
 {
     let (first, mid) = read_not(alloc, t, at)?;
     let Some(_) = behind_word(t, mid, Keyword::And) else {
@@ -116,7 +116,7 @@ fn read_and(alloc: Global, t: &[Token<'_>], at: usize) -> Result<(Tree, usize), 
 fn read_ands(alloc: Global, t: &[Token<'_>], at: usize) -> Result<(Items<E>, usize), Fail<Refused>>
     requires in_range { at ≤ length t.now }
     requires stops { Stops level.TEST (from t.now at) }
-    ensures { Gives MoreAnd (Stops level.CONJUNCTION) t.now at result }
+    ensures { IsRead MoreAnd (Stops level.CONJUNCTION) t.now at result }
 {
     let mut found = Items::with_room(alloc, 2);
     let mut to = at;
@@ -130,7 +130,7 @@ fn read_ands(alloc: Global, t: &[Token<'_>], at: usize) -> Result<(Items<E>, usi
 
 #[cycle(parser)]
 fn read_not(alloc: Global, t: &[Token<'_>], at: usize) -> Result<(Tree, usize), Fail<Refused>>
-    ensures { Gives NotE (Stops level.TEST) t.now at result }
+    ensures { IsRead NotE (Stops level.TEST) t.now at result }
 {
     match behind_word(t, at, Keyword::Not) {
         Some(behind) => {
@@ -143,7 +143,7 @@ fn read_not(alloc: Global, t: &[Token<'_>], at: usize) -> Result<(Tree, usize), 
 
 #[cycle(parser)]
 fn read_test(alloc: Global, t: &[Token<'_>], at: usize) -> Result<(Tree, usize), Fail<Refused>>
-    ensures { Gives TestE (Stops level.TEST) t.now at result }
+    ensures { IsRead TestE (Stops level.TEST) t.now at result }
 {
     let (a, mid) = read_sum(alloc, t, at)?;
     read_tail(alloc, t, mid, a)
@@ -159,7 +159,7 @@ fn read_tail(
 ) -> Result<(Tree, usize), Fail<Refused>>
     requires in_range { at ≤ length t.now }
     requires stops { Stops level.SUM (from t.now at) }
-    ensures { Gives (TestTail a) (Stops level.TEST) t.now at result }
+    ensures { IsRead (TestTail a) (Stops level.TEST) t.now at result }
 {
     match tail_at(t, at) {
         Tail::Cmp(op) => read_cmp(alloc, t, at + 1, a, op),
@@ -179,7 +179,7 @@ fn read_negated(
     at: usize,
     a: Tree,
 ) -> Result<(Tree, usize), Fail<Refused>>
-    ensures { Gives (Since not_front a) (Stops level.TEST) t.now at result }
+    ensures { IsRead (Since not_front a) (Stops level.TEST) t.now at result }
 {
     match tail_at(t, at) {
         Tail::Between => read_between(alloc, t, at + 1, a, true),
@@ -197,7 +197,7 @@ fn read_cmp(
     a: Tree,
     op: CmpOp,
 ) -> Result<(Tree, usize), Fail<Refused>>
-    ensures { Gives (Since (cmp_front op) a) (Stops level.TEST) t.now at result }
+    ensures { IsRead (Since (cmp_front op) a) (Stops level.TEST) t.now at result }
 {
     let (b, to) = read_sum(alloc, t, at)?;
     settled(t, to, levels::TEST)?;
@@ -213,7 +213,7 @@ fn read_between(
     a: Tree,
     not: bool,
 ) -> Result<(Tree, usize), Fail<Refused>>
-    ensures { Gives (Since (between_front not) a) (Stops level.TEST) t.now at result }
+    ensures { IsRead (Since (between_front not) a) (Stops level.TEST) t.now at result }
 {
     let (low, end) = read_sum(alloc, t, at)?;
     let mid = pass_word(t, end, Keyword::And)?;
@@ -231,7 +231,7 @@ fn read_in(
     a: Tree,
     not: bool,
 ) -> Result<(Tree, usize), Fail<Refused>>
-    ensures { Gives (Since (in_front not) a) (Stops level.TEST) t.now at result }
+    ensures { IsRead (Since (in_front not) a) (Stops level.TEST) t.now at result }
 {
     let (members, to) = read_tuple(alloc, t, at)?;
     settled(t, to, levels::TEST)?;
@@ -245,7 +245,7 @@ pub fn read_tuple(
     t: &[Token<'_>],
     at: usize,
 ) -> Result<(Items<E>, usize), Fail<Refused>>
-    ensures { Gives Tuple Anywhere t.now at result }
+    ensures { IsRead Tuple Anywhere t.now at result }
 {
     let open = pass_sign(t, at, Symbol::Open)?;
     let (list, end) = read_exprs(alloc, t, open)?;
@@ -260,7 +260,7 @@ pub fn read_exprs(
     t: &[Token<'_>],
     at: usize,
 ) -> Result<(Items<E>, usize), Fail<Refused>>
-    ensures { Gives Exprs (Ends (Terminal.Sign Symbol.Comma)) t.now at result }
+    ensures { IsRead Exprs (Ends (Terminal.Sign Symbol.Comma)) t.now at result }
 {
     let (first, mid) = read_whole(alloc, t, at)?;
     let (mut all, to) = read_more_exprs(alloc, t, mid)?;
@@ -276,7 +276,7 @@ fn read_more_exprs(
 ) -> Result<(Items<E>, usize), Fail<Refused>>
     requires in_range { at ≤ length t.now }
     requires stops { Stops level.EXPRESSION (from t.now at) }
-    ensures { Gives MoreExprs (Ends (Terminal.Sign Symbol.Comma)) t.now at result }
+    ensures { IsRead MoreExprs (Ends (Terminal.Sign Symbol.Comma)) t.now at result }
 {
     let mut found = Items::with_room(alloc, room(t, at));
     let mut to = at;
@@ -294,7 +294,7 @@ fn read_more_exprs(
 
 #[cycle(parser)]
 fn read_sum(alloc: Global, t: &[Token<'_>], at: usize) -> Result<(Tree, usize), Fail<Refused>>
-    ensures { Gives SumE (Stops level.SUM) t.now at result }
+    ensures { IsRead SumE (Stops level.SUM) t.now at result }
 {
     let (first, mid) = read_term(alloc, t, at)?;
     let Some(_) = sum_op(t, mid) else {
@@ -312,7 +312,7 @@ fn read_sums(
 ) -> Result<(Items<SumTerm>, usize), Fail<Refused>>
     requires in_range { at ≤ length t.now }
     requires stops { Stops level.PRODUCT (from t.now at) }
-    ensures { Gives MoreSum (Stops level.SUM) t.now at result }
+    ensures { IsRead MoreSum (Stops level.SUM) t.now at result }
 {
     let mut found = Items::with_room(alloc, 1);
     let mut to = at;
@@ -332,7 +332,7 @@ fn read_sums(
 // A term of a sum. Most are one name or one number.
 #[cycle(parser)]
 fn read_term(alloc: Global, t: &[Token<'_>], at: usize) -> Result<(Tree, usize), Fail<Refused>>
-    ensures { Gives ProdE (Stops level.PRODUCT) t.now at result }
+    ensures { IsRead ProdE (Stops level.PRODUCT) t.now at result }
 {
     match read_lone(alloc, t, at, levels::PRODUCT)? {
         Some(e) => Ok((e, at + 1)),
@@ -342,7 +342,7 @@ fn read_term(alloc: Global, t: &[Token<'_>], at: usize) -> Result<(Tree, usize),
 
 #[cycle(parser)]
 fn read_prod(alloc: Global, t: &[Token<'_>], at: usize) -> Result<(Tree, usize), Fail<Refused>>
-    ensures { Gives ProdE (Stops level.PRODUCT) t.now at result }
+    ensures { IsRead ProdE (Stops level.PRODUCT) t.now at result }
 {
     let (first, mid) = read_sign(alloc, t, at)?;
     let Some(_) = prod_op(t, mid) else {
@@ -360,7 +360,7 @@ fn read_prods(
 ) -> Result<(Items<ProdTerm>, usize), Fail<Refused>>
     requires in_range { at ≤ length t.now }
     requires stops { Stops level.PRIMARY (from t.now at) }
-    ensures { Gives MoreProd (Stops level.PRODUCT) t.now at result }
+    ensures { IsRead MoreProd (Stops level.PRODUCT) t.now at result }
 {
     let mut found = Items::with_room(alloc, 1);
     let mut to = at;
@@ -374,7 +374,7 @@ fn read_prods(
 
 #[cycle(parser)]
 fn read_sign(alloc: Global, t: &[Token<'_>], at: usize) -> Result<(Tree, usize), Fail<Refused>>
-    ensures { Gives SignE (Stops level.PRIMARY) t.now at result }
+    ensures { IsRead SignE (Stops level.PRIMARY) t.now at result }
 {
     match behind_sign(t, at, Symbol::Sum(SumOp::Sub)) {
         Some(behind) => {
@@ -387,7 +387,7 @@ fn read_sign(alloc: Global, t: &[Token<'_>], at: usize) -> Result<(Tree, usize),
 
 #[cycle(parser)]
 fn read_prim(alloc: Global, t: &[Token<'_>], at: usize) -> Result<(Tree, usize), Fail<Refused>>
-    ensures { Gives PrimE (Stops level.PRIMARY) t.now at result }
+    ensures { IsRead PrimE (Stops level.PRIMARY) t.now at result }
 {
     match form_at(t, at) {
         Form::Name => read_name(alloc, t, at),
@@ -412,7 +412,7 @@ fn read_closed(
     requires in_range { at + 1 ≤ length t.now }
     requires begins { form ≡ spec_form (terminal_at (from t.now at)) }
     requires closed { IsClosed form }
-    ensures { Gives PrimE Anywhere t.now at result }
+    ensures { IsRead PrimE Anywhere t.now at result }
 {
     match form {
         Form::Brackets => read_inner(alloc, t, at),
@@ -429,7 +429,7 @@ fn read_closed(
 fn read_name(alloc: Global, t: &[Token<'_>], at: usize) -> Result<(Tree, usize), Fail<Refused>>
     requires in_range { at ≤ length t.now }
     requires begins { terminal_at (from t.now at) ≡ Terminal.Name }
-    ensures { Gives PrimE (Stops level.PRIMARY) t.now at result }
+    ensures { IsRead PrimE (Stops level.PRIMARY) t.now at result }
 {
     let (path, mid) = read_path(alloc, t, at)?;
     let Some(_) = behind_sign(t, mid, Symbol::OpenSquare) else {
@@ -449,7 +449,7 @@ fn read_agg(
     at: usize,
     agg: Agg,
 ) -> Result<(Tree, usize), Fail<Refused>>
-    ensures { Gives (Behind (Aggregate agg)) (Stops level.PRIMARY) t.now at result }
+    ensures { IsRead (Behind (Aggregate agg)) (Stops level.PRIMARY) t.now at result }
 {
     match agg_head(t, at, agg) {
         AggHead::All(to) => {
@@ -479,7 +479,7 @@ fn read_range(
 ) -> Result<(Tree, usize), Fail<Refused>>
     requires in_range { at ≤ length t.now }
     requires begins { terminal_at (from t.now at) ≡ Terminal.Sign Symbol.OpenSquare }
-    ensures { Gives (CellsOf agg measure) (Stops level.PRIMARY) t.now at result }
+    ensures { IsRead (CellsOf agg measure) (Stops level.PRIMARY) t.now at result }
 {
     let (places, to) = read_brackets(alloc, t, at)?;
     settled(t, to, levels::PRIMARY)?;
@@ -489,7 +489,7 @@ fn read_range(
 // The tree of an expression between brackets.
 #[cycle(parser)]
 fn read_inner(alloc: Global, t: &[Token<'_>], at: usize) -> Result<(Tree, usize), Fail<Refused>>
-    ensures { Gives RoundE Anywhere t.now at result }
+    ensures { IsRead RoundE Anywhere t.now at result }
 {
     let open = pass_sign(t, at, Symbol::Open)?;
     let (e, end) = read_whole(alloc, t, open)?;
@@ -500,7 +500,7 @@ fn read_inner(alloc: Global, t: &[Token<'_>], at: usize) -> Result<(Tree, usize)
 // A CAST, behind its word.
 #[cycle(parser)]
 fn read_cast(alloc: Global, t: &[Token<'_>], at: usize) -> Result<(Tree, usize), Fail<Refused>>
-    ensures { Gives (Behind (Word Keyword.Cast)) Anywhere t.now at result }
+    ensures { IsRead (Behind (Word Keyword.Cast)) Anywhere t.now at result }
 {
     let open = pass_sign(t, at, Symbol::Open)?;
     let (e, end) = read_whole(alloc, t, open)?;
@@ -511,7 +511,7 @@ fn read_cast(alloc: Global, t: &[Token<'_>], at: usize) -> Result<(Tree, usize),
 // A ROUND, behind its word.
 #[cycle(parser)]
 fn read_rounded(alloc: Global, t: &[Token<'_>], at: usize) -> Result<(Tree, usize), Fail<Refused>>
-    ensures { Gives (Behind (Word Keyword.Round)) Anywhere t.now at result }
+    ensures { IsRead (Behind (Word Keyword.Round)) Anywhere t.now at result }
 {
     let open = pass_sign(t, at, Symbol::Open)?;
     let (e, end) = read_whole(alloc, t, open)?;
@@ -528,7 +528,7 @@ fn read_call(
     word: Keyword,
 ) -> Result<(Tree, usize), Fail<Refused>>
     requires { spec_form (Terminal.Word word) ≡ Form.Call word }
-    ensures { Gives (Behind (Word word)) Anywhere t.now at result }
+    ensures { IsRead (Behind (Word word)) Anywhere t.now at result }
 {
     let (args, to) = read_tuple(alloc, t, at)?;
     match called(alloc, word, args)? {
@@ -540,7 +540,7 @@ fn read_call(
 // A CASE, behind its word.
 #[cycle(parser)]
 fn read_case(alloc: Global, t: &[Token<'_>], at: usize) -> Result<(Tree, usize), Fail<Refused>>
-    ensures { Gives (Behind (Word Keyword.Case)) Anywhere t.now at result }
+    ensures { IsRead (Behind (Word Keyword.Case)) Anywhere t.now at result }
 {
     let (subject, start) = read_subject(alloc, t, at)?;
     let (arms, mid) = read_whens(alloc, t, start)?;
@@ -555,7 +555,7 @@ fn read_subject(
     t: &[Token<'_>],
     at: usize,
 ) -> Result<(Option<Tree>, usize), Fail<Refused>>
-    ensures { Gives CaseE AtWhen t.now at result }
+    ensures { IsRead CaseE AtWhen t.now at result }
 {
     match behind_word(t, at, Keyword::When) {
         Some(_) => Ok((None, at)),
@@ -573,7 +573,7 @@ fn read_whens(
     t: &[Token<'_>],
     at: usize,
 ) -> Result<(Items<Arm>, usize), Fail<Refused>>
-    ensures { Gives SomeWhens (Ends (Terminal.Word Keyword.When)) t.now at result }
+    ensures { IsRead SomeWhens (Ends (Terminal.Word Keyword.When)) t.now at result }
 {
     let mut found = Items::new(alloc);
     let mut to = pass_word(t, at, Keyword::When)?;
@@ -596,7 +596,7 @@ fn read_else(
     t: &[Token<'_>],
     at: usize,
 ) -> Result<(Option<Tree>, usize), Fail<Refused>>
-    ensures { Gives ElseEnd Anywhere t.now at result }
+    ensures { IsRead ElseEnd Anywhere t.now at result }
 {
     match behind_word(t, at, Keyword::Else) {
         Some(behind) => {
@@ -618,7 +618,7 @@ fn read_brackets(
     t: &[Token<'_>],
     at: usize,
 ) -> Result<(Items<Place>, usize), Fail<Refused>>
-    ensures { Gives Brackets Anywhere t.now at result }
+    ensures { IsRead Brackets Anywhere t.now at result }
 {
     let open = pass_sign(t, at, Symbol::OpenSquare)?;
     let (first, mid) = read_place(alloc, t, open)?;
@@ -636,7 +636,7 @@ fn read_places(
 ) -> Result<(Items<Place>, usize), Fail<Refused>>
     requires in_range { at ≤ length t.now }
     requires stops { Stops level.EXPRESSION (from t.now at) }
-    ensures { Gives MorePlaces (Ends (Terminal.Sign Symbol.Comma)) t.now at result }
+    ensures { IsRead MorePlaces (Ends (Terminal.Sign Symbol.Comma)) t.now at result }
 {
     let mut found = Items::with_room(alloc, room(t, at));
     let mut to = at;
@@ -654,7 +654,7 @@ fn read_place(
     t: &[Token<'_>],
     at: usize,
 ) -> Result<(Boxed<Place>, usize), Fail<Refused>>
-    ensures { Gives PlaceE (Stops level.EXPRESSION) t.now at result }
+    ensures { IsRead PlaceE (Stops level.EXPRESSION) t.now at result }
 {
     match behind_word(t, at, Keyword::Any) {
         Some(to) => {

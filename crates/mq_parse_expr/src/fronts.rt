@@ -7,7 +7,7 @@ ghost use Rattle.mq_ast.specs.Tokens.{Tok, Word, Sign, closer, terminal_at};
 ghost use Rattle.mq_ast.specs.declared.levels.TheConstants as level;
 ghost use Rattle.mq_ast.specs.Continuing.{Stops, Not};
 ghost use Rattle.mq_ast.specs.GrammarExpression.{PrimE};
-ghost use Rattle.mq_parse_words.specs.Reading.{from, Then, Anywhere, Gives};
+ghost use Rattle.mq_parse_words.specs.Reading.{from, Then, Anywhere, IsRead};
 ghost use Rattle.mq_parse_words.specs.Forms.{FormInside, IsLeaf, TailInside, form_of as spec_form, tail_of as spec_tail};
 ghost use Rattle.mq_parse_words.specs.Fronts.{AsKind, Behind, Heads, HeadsAll, HeadsCells, NoAll, NoCells, IsTestE, NullOrPresent, Since, ToScale, is_front};
 
@@ -135,7 +135,7 @@ pub(crate) fn room(t: &[Token<'_>], at: usize) -> usize {
 
 /// AS, a kind and the closing bracket of a CAST.
 pub(crate) fn read_as_kind(t: &[Token<'_>], at: usize) -> Result<(Kind, usize), Fail<Refused>>
-    ensures { Gives AsKind Anywhere t.now at result }
+    ensures { IsRead AsKind Anywhere t.now at result }
 {
     let mid = pass_word(t, at, Keyword::As)?;
     let (kind, end) = read_kind(t, mid)?;
@@ -145,7 +145,7 @@ pub(crate) fn read_as_kind(t: &[Token<'_>], at: usize) -> Result<(Kind, usize), 
 
 /// A comma, a number without a point and the closing bracket of a ROUND.
 pub(crate) fn read_to_scale(t: &[Token<'_>], at: usize) -> Result<(Num, usize), Fail<Refused>>
-    ensures { Gives ToScale Anywhere t.now at result }
+    ensures { IsRead ToScale Anywhere t.now at result }
 {
     let mid = pass_sign(t, at, Symbol::Comma)?;
     let (scale, end) = read_int(t, mid)?;
@@ -163,7 +163,7 @@ pub(crate) fn read_leaf(
     requires in_range { at + 1 ≤ length t.now }
     requires begins { form ≡ spec_form (terminal_at (from t.now at)) }
     requires leaf { IsLeaf form }
-    ensures { Gives PrimE Anywhere t.now at result }
+    ensures { IsRead PrimE Anywhere t.now at result }
 {
     let (e, to) = read_small(alloc, t, at, form)?;
     Ok((Boxed::new(alloc, e)?, to))
@@ -178,7 +178,7 @@ fn read_small(
     requires in_range { at + 1 ≤ length t.now }
     requires begins { form ≡ spec_form (terminal_at (from t.now at)) }
     requires leaf { IsLeaf form }
-    ensures { Gives PrimE Anywhere t.now at result }
+    ensures { IsRead PrimE Anywhere t.now at result }
 {
     match form {
         Form::Number => match number_at(t, at) {
@@ -228,7 +228,7 @@ pub(crate) fn read_lone(
 
 // CV, behind its word.
 fn read_cv(alloc: Global, t: &[Token<'_>], at: usize) -> Result<(E, usize), Fail<Refused>>
-    ensures { Gives (Behind (Word Keyword.Cv)) Anywhere t.now at result }
+    ensures { IsRead (Behind (Word Keyword.Cv)) Anywhere t.now at result }
 {
     let open = pass_sign(t, at, Symbol::Open)?;
     if let Some(to) = behind_sign(t, open, Symbol::Close) {
@@ -241,7 +241,7 @@ fn read_cv(alloc: Global, t: &[Token<'_>], at: usize) -> Result<(E, usize), Fail
 
 // NULL or PRESENT.
 fn null_or_present(t: &[Token<'_>], at: usize, not: bool) -> Result<(IsTest, usize), Fail<Refused>>
-    ensures { Gives (NullOrPresent not) Anywhere t.now at result }
+    ensures { IsRead (NullOrPresent not) Anywhere t.now at result }
 {
     match behind_word(t, at, Keyword::Null) {
         Some(to) => Ok((IsTest::Null(not), to)),
@@ -254,7 +254,7 @@ fn null_or_present(t: &[Token<'_>], at: usize, not: bool) -> Result<(IsTest, usi
 
 // What a test by IS asks.
 fn is_test(t: &[Token<'_>], at: usize) -> Result<(IsTest, usize), Fail<Refused>>
-    ensures { Gives IsTestE Anywhere t.now at result }
+    ensures { IsRead IsTestE Anywhere t.now at result }
 {
     if let Some(to) = behind_word(t, at, Keyword::Any) {
         return Ok((IsTest::Any, to));
@@ -272,7 +272,7 @@ pub(crate) fn read_is(
     at: usize,
     a: Tree,
 ) -> Result<(Tree, usize), Fail<Refused>>
-    ensures { Gives (Since is_front a) (Stops level.TEST) t.now at result }
+    ensures { IsRead (Since is_front a) (Stops level.TEST) t.now at result }
 {
     let (test, to) = is_test(t, at)?;
     settled(t, to, levels::TEST)?;

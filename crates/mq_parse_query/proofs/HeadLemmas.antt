@@ -5,8 +5,8 @@ use Rattle.mq_values.specs.Number.{Number}
 use Rattle.mq_values.specs.declared.operators.Mode.{Mode}
 use Rattle.mq_ast.specs.declared.expressions.E.{E}
 use Rattle.mq_ast.specs.declared.clauses.TheConstants as clause
-use Rattle.mq_ast.specs.declared.terminals.Symbol.TheVariants as sign
-use Rattle.mq_ast.specs.declared.terminals.Terminal.TheVariants as terminal
+use Rattle.mq_lexer.specs.declared.terminals.Symbol.TheVariants as sign
+use Rattle.mq_lexer.specs.declared.terminals.Terminal.TheVariants as terminal
 use Rattle.mq_lexer.specs.declared.keywords.Keyword.TheVariants as word
 use Rattle.mq_ast.specs.Prelude.{AutoE, HeadE, IterateE, MaybeMode, Not, Num, Opens, Past, RoundInt, Tok, UntilE, Word, auto_no}
 use Rattle.mq_ast.specs.Prelude.{auto_none, auto_yes, head_none, head_some, iterate_none, iterate_some, opener, part, round_int}

@@ -6,11 +6,11 @@ use Rattle.mq_ast.specs.declared.queries.Opt.{Opt}
 use Rattle.mq_ast.specs.declared.queries.Plain.{Plain}
 use Rattle.mq_ast.specs.declared.queries.RefTree.{RefTree}
 use Rattle.mq_ast.specs.declared.queries.Sel.{Sel}
-use Rattle.mq_ast.specs.declared.terminals.Terminal.{Terminal}
+use Rattle.mq_lexer.specs.declared.terminals.Terminal.{Terminal}
 use Rattle.mq_ast.specs.declared.clauses.TheConstants as clause
 use Rattle.mq_ast.specs.declared.queries.Opt.TheVariants as opt
-use Rattle.mq_ast.specs.declared.terminals.Symbol.TheVariants as sign
-use Rattle.mq_ast.specs.declared.terminals.Terminal.TheVariants as terminal
+use Rattle.mq_lexer.specs.declared.terminals.Symbol.TheVariants as sign
+use Rattle.mq_lexer.specs.declared.terminals.Terminal.TheVariants as terminal
 use Rattle.mq_lexer.specs.declared.keywords.Keyword.TheVariants as word
 use Rattle.mq_ast.specs.Prelude.{AxesE, Cols, DimsE, MainE, ManyOf, Name, NameE, Not, OptE, PartsE, Past, RefE, RefSourceE, ReturnE}
 use Rattle.mq_ast.specs.Prelude.{Tok, WhichE, Word, axes, dims, main_none, main_some, many_end, many_more, name, opener, opt_ignore}

@@ -1,7 +1,7 @@
 -- Where ORDER BY reads nothing, by its parts. All of it is about lists of tokens.
 use Rattle.std.proofs.Common.{ℕ, Bool, List, ◌∷◌, refl, sym, subst}
 use Rattle.mq_ast.specs.declared.queries.OrderKey.{OrderKey}
-use Rattle.mq_ast.specs.declared.terminals.Terminal.TheVariants as terminal
+use Rattle.mq_lexer.specs.declared.terminals.Terminal.TheVariants as terminal
 use Rattle.mq_lexer.specs.declared.keywords.Keyword.TheVariants as word
 use Rattle.mq_ast.specs.Prelude.{DirectionE, EndsKey, EndsList, EndsOrder, KeyE, NameE, Not, OrderE, SomeOf, Tok, Word, direction_asc}
 use Rattle.mq_ast.specs.Prelude.{direction_none, key, key_of, name, order_none, order_some}

@@ -7,8 +7,8 @@ use Rattle.mq_ast.specs.declared.queries.FromItem.{FromItem}
 use Rattle.mq_lexer.specs.declared.keywords.Keyword.{Keyword}
 use Rattle.mq_ast.specs.declared.queries.Sel.{Sel}
 use Rattle.mq_ast.specs.declared.levels.TheConstants as level
-use Rattle.mq_ast.specs.declared.terminals.Symbol.TheVariants as sign
-use Rattle.mq_ast.specs.declared.terminals.Terminal.TheVariants as terminal
+use Rattle.mq_lexer.specs.declared.terminals.Symbol.TheVariants as sign
+use Rattle.mq_lexer.specs.declared.terminals.Terminal.TheVariants as terminal
 use Rattle.mq_lexer.specs.declared.keywords.Keyword.TheVariants as word
 use Rattle.mq_ast.specs.Prelude.{AliasE, BareFront, Cols, ConditionE, EndsList, Expr, FromE, ItemE, JoinE, ManyOf, Name, NameE, Not}
 use Rattle.mq_ast.specs.Prelude.{OnE, OnFront, SelE, SomeOf, Stops, Tok, Word, alias_as, alias_name, alias_none, cols, condition}

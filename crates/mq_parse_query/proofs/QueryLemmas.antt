@@ -11,7 +11,7 @@ use Rattle.mq_ast.specs.declared.queries.Plain.{Plain}
 use Rattle.mq_ast.specs.declared.queries.Sel.{Sel}
 use Rattle.mq_ast.specs.declared.clauses.TheConstants as clause
 use Rattle.mq_ast.specs.declared.levels.TheConstants as level
-use Rattle.mq_ast.specs.declared.terminals.Terminal.TheVariants as terminal
+use Rattle.mq_lexer.specs.declared.terminals.Terminal.TheVariants as terminal
 use Rattle.mq_lexer.specs.declared.keywords.Keyword.TheVariants as word
 use Rattle.mq_ast.specs.Prelude.{AxesE, BodyE, EndE, EndsOrder, FrontE, HeadE, MainE, ManyOf, ModelE, Not, Opens, OptE, OrderE, PartsE}
 use Rattle.mq_ast.specs.Prelude.{Past, PlainE, QueryE, RefE, ReturnE, RuleList, Stops, TailE, Tok, Word, body, ending, front}

@@ -8,12 +8,12 @@ use Rattle.mq_ast.specs.declared.queries.ForList.{ForList}
 use Rattle.mq_ast.specs.declared.queries.LeftTree.{LeftTree}
 use Rattle.mq_ast.specs.declared.queries.OrderKey.{OrderKey}
 use Rattle.mq_ast.specs.declared.queries.Plain.{Plain}
-use Rattle.mq_ast.specs.declared.terminals.Symbol.{Symbol}
+use Rattle.mq_lexer.specs.declared.terminals.Symbol.{Symbol}
 use Rattle.mq_ast.specs.declared.clauses.TheConstants as clause
 use Rattle.mq_ast.specs.declared.queries.LeftTree.TheVariants as left_tree
 use Rattle.mq_ast.specs.declared.levels.TheConstants as level
-use Rattle.mq_ast.specs.declared.terminals.Symbol.TheVariants as sign
-use Rattle.mq_ast.specs.declared.terminals.Terminal.TheVariants as terminal
+use Rattle.mq_lexer.specs.declared.terminals.Symbol.TheVariants as sign
+use Rattle.mq_lexer.specs.declared.terminals.Terminal.TheVariants as terminal
 use Rattle.mq_lexer.specs.declared.keywords.Keyword.TheVariants as word
 use Rattle.mq_ast.specs.Prelude.{AloneE, DownE, EndsList, EndsOrder, Expr, FinishE, ForListE, LitE, MaybeMode, Name, NameE, Not}
 use Rattle.mq_ast.specs.Prelude.{OneTree, OrderE, Past, PlainE, RangeE, RuleE, RuleFront, RuleList, RuleRight, Sign, SomeOf, StartE}

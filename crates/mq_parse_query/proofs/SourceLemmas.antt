@@ -7,7 +7,7 @@ use Rattle.mq_ast.specs.declared.expressions.Path.{Path}
 use Rattle.mq_ast.specs.declared.queries.Sel.{Sel}
 use Rattle.mq_ast.specs.declared.parts.Shown.{Shown}
 use Rattle.mq_ast.specs.declared.levels.TheConstants as level
-use Rattle.mq_ast.specs.declared.terminals.Terminal.TheVariants as terminal
+use Rattle.mq_lexer.specs.declared.terminals.Terminal.TheVariants as terminal
 use Rattle.mq_lexer.specs.declared.keywords.Keyword.TheVariants as word
 use Rattle.mq_ast.specs.Prelude.{EndsList, Expr, FromE, GroupE, Not, PathE, PlainE, SelE, ShownE, SomeOf, SourceE, Stops, Tok, WhereE}
 use Rattle.mq_ast.specs.Prelude.{Word, group_none, group_some, loose, plain, shown_list, shown_star, source, star, terminal_at}

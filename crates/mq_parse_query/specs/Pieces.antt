@@ -14,9 +14,9 @@ use Rattle.mq_ast.specs.declared.queries.Opt.{Opt}
 use Rattle.mq_ast.specs.declared.queries.Plain.{Plain}
 use Rattle.mq_ast.specs.declared.queries.RefTree.{RefTree}
 use Rattle.mq_ast.specs.declared.queries.RuleTree.{RuleTree}
-use Rattle.mq_ast.specs.declared.terminals.Terminal.{Terminal}
+use Rattle.mq_lexer.specs.declared.terminals.Terminal.{Terminal}
 use Rattle.mq_ast.specs.declared.queries.Opt.TheVariants as opt
-use Rattle.mq_ast.specs.declared.terminals.Terminal.TheVariants as terminal
+use Rattle.mq_lexer.specs.declared.terminals.Terminal.TheVariants as terminal
 use Rattle.mq_lexer.specs.declared.keywords.Keyword.TheVariants as word
 use Rattle.mq_ast.specs.Prelude.{HeadE, ItemE, IterateE, LeftE, LitE, MaybeMode, ModelE, Name, PlainE, RefE, ReturnE, SomeOf, Tok, Word}
 use Rattle.mq_ast.specs.Prelude.{close_square, closer, item_of, opener, terminal_at}

@@ -4,7 +4,7 @@ ghost use Rattle.std.specs.Prelude.{◌≡◌, ◌≤◌, length};
 ghost use Rattle.mq_ast.specs.declared.levels.TheConstants as level;
 ghost use Rattle.mq_ast.specs.Prelude.{AliasE, Cols, EndsList, SelE, SomeOf, Stops, sel_of};
 ghost use Rattle.mq_parse_query.specs.Pieces.{SomeName};
-ghost use Rattle.mq_parse_words.specs.Reading.{Anywhere, Gives};
+ghost use Rattle.mq_parse_words.specs.Reading.{Anywhere, IsRead};
 
 use crate::lists::{Listed, read_list};
 use mq_ast::{Keyword, Sel, Symbol, levels};
@@ -21,7 +21,7 @@ pub(crate) fn read_alias(
     at: usize,
 ) -> Result<(Option<Words>, usize), Fail<Refused>>
     requires { at ≤ length t.now }
-    ensures { Gives AliasE (Stops level.ITEM) t.now at result }
+    ensures { IsRead AliasE (Stops level.ITEM) t.now at result }
 {
     if let Some(behind) = behind_word(t, at, Keyword::As) {
         return read_alias_name(alloc, t, behind);
@@ -40,7 +40,7 @@ fn read_alias_name(
     at: usize,
 ) -> Result<(Option<Words>, usize), Fail<Refused>>
     requires { at ≤ length t.now }
-    ensures { Gives SomeName (Stops level.ITEM) t.now at result }
+    ensures { IsRead SomeName (Stops level.ITEM) t.now at result }
 {
     let (name, to) = read_name(alloc, t, at)?;
     settled(t, to, levels::ITEM)?;
@@ -85,7 +85,7 @@ pub(crate) fn read_sels(
     t: &[Token<'_>],
     at: usize,
 ) -> Result<(Items<Sel>, usize), Fail<Refused>>
-    ensures { Gives (SomeOf SelE) (EndsList (Stops level.ITEM)) t.now at result }
+    ensures { IsRead (SomeOf SelE) (EndsList (Stops level.ITEM)) t.now at result }
 {
     read_list::<Sel>(alloc, t, at)
 }
@@ -96,7 +96,7 @@ pub(crate) fn read_cols(
     t: &[Token<'_>],
     at: usize,
 ) -> Result<(Items<Sel>, usize), Fail<Refused>>
-    ensures { Gives Cols Anywhere t.now at result }
+    ensures { IsRead Cols Anywhere t.now at result }
 {
     let open = pass_sign(t, at, Symbol::Open)?;
     let (cols, mid) = read_sels(alloc, t, open)?;

@@ -4,7 +4,7 @@ ghost use Rattle.std.specs.Prelude.{◌≡◌, ◌≤◌, List, Some, None, leng
 ghost use Rattle.mq_ast.specs.declared.levels.TheConstants as level;
 ghost use Rattle.mq_ast.specs.Prelude.{BareFront, ConditionE, FromE, ItemE, OnE, OnFront, Stops, Tok, item_of};
 ghost use Rattle.mq_parse_query.specs.Pieces.{JoinFront, Leads, TableE};
-ghost use Rattle.mq_parse_words.specs.Reading.{Gives, from};
+ghost use Rattle.mq_parse_words.specs.Reading.{IsRead, from};
 
 use crate::columns::read_alias;
 use crate::lists::{Repeated, read_many};
@@ -21,7 +21,7 @@ fn read_table(
     t: &[Token<'_>],
     at: usize,
 ) -> Result<((Words, Option<Words>), usize), Fail<Refused>>
-    ensures { Gives TableE (Stops level.ITEM) t.now at result }
+    ensures { IsRead TableE (Stops level.ITEM) t.now at result }
 {
     let (table, mid) = read_name(alloc, t, at)?;
     let (alias, to) = read_alias(alloc, t, mid)?;
@@ -34,7 +34,7 @@ fn read_item(
     t: &[Token<'_>],
     at: usize,
 ) -> Result<(Boxed<FromItem>, usize), Fail<Refused>>
-    ensures { Gives (ItemE None) (Stops level.ITEM) t.now at result }
+    ensures { IsRead (ItemE None) (Stops level.ITEM) t.now at result }
 {
     let (named, to) = read_table(alloc, t, at)?;
     Ok((bare_item(alloc, named)?, to))
@@ -50,7 +50,7 @@ fn bare_item(alloc: Global, named: (Words, Option<Words>)) -> Result<Boxed<FromI
 
 // ON and a condition.
 fn read_condition(alloc: Global, t: &[Token<'_>], at: usize) -> Result<(Tree, usize), Fail<Refused>>
-    ensures { Gives ConditionE (Stops level.ITEM) t.now at result }
+    ensures { IsRead ConditionE (Stops level.ITEM) t.now at result }
 {
     let behind = pass_word(t, at, Keyword::On)?;
     let (e, to) = read_tree(alloc, t, behind)?;
@@ -64,7 +64,7 @@ fn read_on_item(
     t: &[Token<'_>],
     at: usize,
 ) -> Result<(Boxed<FromItem>, usize), Fail<Refused>>
-    ensures { Gives OnE (Stops level.ITEM) t.now at result }
+    ensures { IsRead OnE (Stops level.ITEM) t.now at result }
 {
     let (named, mid) = read_table(alloc, t, at)?;
     let (e, to) = read_condition(alloc, t, mid)?;
@@ -160,7 +160,7 @@ pub(crate) fn read_from(
     t: &[Token<'_>],
     at: usize,
 ) -> Result<(Items<FromItem>, usize), Fail<Refused>>
-    ensures { Gives FromE (Stops level.SOURCES) t.now at result }
+    ensures { IsRead FromE (Stops level.SOURCES) t.now at result }
 {
     let (first, mid) = read_item(alloc, t, at)?;
     let (mut all, to) = read_many::<Joins>(alloc, t, mid)?;

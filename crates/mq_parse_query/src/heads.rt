@@ -8,7 +8,7 @@ ghost use Rattle.mq_ast.specs.Prelude.{ReturnE, RoundInt, UntilE, WhichE, Word, 
 ghost use Rattle.mq_ast.specs.Laws.{opt_not_past, opt_same, ref_not_past, ref_past, ref_same};
 ghost use Rattle.mq_parse_query.specs.Pieces.{AutoEnd, Iterates, Refers, Returns, Ruling, first_word, option_of as spec_option};
 ghost use Rattle.mq_parse_query.specs.Pieces.{second_word as spec_second};
-ghost use Rattle.mq_parse_words.specs.Reading.{Anywhere, Gives, Then, from};
+ghost use Rattle.mq_parse_words.specs.Reading.{Anywhere, IsRead, Then, from};
 ghost use Rattle.mq_parse_query.specs.Lists as lists;
 
 use crate::columns::read_cols;
@@ -101,7 +101,7 @@ impl Repeated for Opt {
 
 // ALL or UPDATED.
 fn read_which(t: &[Token<'_>], at: usize) -> Result<(bool, usize), Fail<Refused>>
-    ensures { Gives WhichE Anywhere t.now at result }
+    ensures { IsRead WhichE Anywhere t.now at result }
 {
     match behind_word(t, at, Keyword::All) {
         Some(to) => Ok((false, to)),
@@ -114,7 +114,7 @@ fn read_which(t: &[Token<'_>], at: usize) -> Result<(bool, usize), Fail<Refused>
 
 // RETURN, behind it.
 fn read_rows(t: &[Token<'_>], at: usize) -> Result<(bool, usize), Fail<Refused>>
-    ensures { Gives Returns (Past clause.RETURN) t.now at result }
+    ensures { IsRead Returns (Past clause.RETURN) t.now at result }
 {
     let (updated, end) = read_which(t, at)?;
     let to = pass_word(t, end, Keyword::Rows)?;
@@ -125,7 +125,7 @@ fn read_rows(t: &[Token<'_>], at: usize) -> Result<(bool, usize), Fail<Refused>>
 /// RETURN, where it stands there, and whether UPDATED stands in it.
 pub(crate) fn read_return(t: &[Token<'_>], at: usize) -> Result<(bool, usize), Fail<Refused>>
     requires { at ≤ length t.now }
-    ensures { Gives ReturnE (Past clause.RETURN) t.now at result }
+    ensures { IsRead ReturnE (Past clause.RETURN) t.now at result }
 {
     match behind_word(t, at, Keyword::Return) {
         Some(behind) => read_rows(t, behind),
@@ -142,7 +142,7 @@ fn read_source(
     t: &[Token<'_>],
     at: usize,
 ) -> Result<((Words, Boxed<Plain>), usize), Fail<Refused>>
-    ensures { Gives RefSourceE Anywhere t.now at result }
+    ensures { IsRead RefSourceE Anywhere t.now at result }
 {
     let (name, end) = read_name(alloc, t, at)?;
     let on = pass_word(t, end, Keyword::On)?;
@@ -157,7 +157,7 @@ fn read_dims(
     t: &[Token<'_>],
     at: usize,
 ) -> Result<(Items<Sel>, usize), Fail<Refused>>
-    ensures { Gives DimsE Anywhere t.now at result }
+    ensures { IsRead DimsE Anywhere t.now at result }
 {
     let dimension = pass_word(t, at, Keyword::Dimension)?;
     let by = pass_word(t, dimension, Keyword::By)?;
@@ -172,7 +172,7 @@ pub(crate) fn read_axes(
     t: &[Token<'_>],
     at: usize,
 ) -> Result<((Items<Sel>, Items<Sel>), usize), Fail<Refused>>
-    ensures { Gives AxesE Anywhere t.now at result }
+    ensures { IsRead AxesE Anywhere t.now at result }
 {
     let (dims, mid) = read_dims(alloc, t, at)?;
     let (measures, to) = read_cols(alloc, t, mid)?;
@@ -207,7 +207,7 @@ fn read_ref(
     t: &[Token<'_>],
     at: usize,
 ) -> Result<(Boxed<RefTree>, usize), Fail<Refused>>
-    ensures { Gives Refers (Past clause.OPTION) t.now at result }
+    ensures { IsRead Refers (Past clause.OPTION) t.now at result }
 {
     let (source, mid) = read_source(alloc, t, at)?;
     let (axes, next) = read_axes(alloc, t, mid)?;
@@ -268,7 +268,7 @@ pub(crate) fn read_main(
     at: usize,
 ) -> Result<(Option<Words>, usize), Fail<Refused>>
     requires { at ≤ length t.now }
-    ensures { Gives MainE (Past clause.MAIN) t.now at result }
+    ensures { IsRead MainE (Past clause.MAIN) t.now at result }
 {
     match behind_word(t, at, Keyword::Main) {
         Some(behind) => {
@@ -290,7 +290,7 @@ pub(crate) fn read_parts(
     at: usize,
 ) -> Result<(Items<Sel>, usize), Fail<Refused>>
     requires { at ≤ length t.now }
-    ensures { Gives PartsE (Past clause.PARTITION) t.now at result }
+    ensures { IsRead PartsE (Past clause.PARTITION) t.now at result }
 {
     match behind_word(t, at, Keyword::Partition) {
         Some(partition) => {
@@ -308,7 +308,7 @@ pub(crate) fn read_parts(
 
 // ORDER, behind AUTOMATIC or SEQUENTIAL.
 fn read_auto_end(t: &[Token<'_>], at: usize, auto: bool) -> Result<(bool, usize), Fail<Refused>>
-    ensures { Gives (AutoEnd auto) (Past clause.ORDER) t.now at result }
+    ensures { IsRead (AutoEnd auto) (Past clause.ORDER) t.now at result }
 {
     let to = pass_word(t, at, Keyword::Order)?;
     past(t, to, clauses::ORDER)?;
@@ -318,7 +318,7 @@ fn read_auto_end(t: &[Token<'_>], at: usize, auto: bool) -> Result<(bool, usize)
 // The order of the rules, where it stands there: whether it is AUTOMATIC.
 fn read_auto(t: &[Token<'_>], at: usize) -> Result<(bool, usize), Fail<Refused>>
     requires { at ≤ length t.now }
-    ensures { Gives AutoE (Past clause.ORDER) t.now at result }
+    ensures { IsRead AutoE (Past clause.ORDER) t.now at result }
 {
     if let Some(behind) = behind_word(t, at, Keyword::Automatic) {
         return read_auto_end(t, behind, true);
@@ -339,7 +339,7 @@ fn read_until(
     at: usize,
 ) -> Result<(Option<Tree>, usize), Fail<Refused>>
     requires { at ≤ length t.now }
-    ensures { Gives UntilE (Past clause.UNTIL) t.now at result }
+    ensures { IsRead UntilE (Past clause.UNTIL) t.now at result }
 {
     match behind_word(t, at, Keyword::Until) {
         Some(behind) => {
@@ -356,7 +356,7 @@ fn read_until(
 
 // A number without a point between brackets.
 fn read_round_int(t: &[Token<'_>], at: usize) -> Result<(Num, usize), Fail<Refused>>
-    ensures { Gives RoundInt Anywhere t.now at result }
+    ensures { IsRead RoundInt Anywhere t.now at result }
 {
     let open = pass_sign(t, at, Symbol::Open)?;
     let (number, end) = read_int(t, open)?;
@@ -370,7 +370,7 @@ fn read_turns(
     t: &[Token<'_>],
     at: usize,
 ) -> Result<((Option<Num>, Option<Tree>), usize), Fail<Refused>>
-    ensures { Gives Iterates (Past clause.UNTIL) t.now at result }
+    ensures { IsRead Iterates (Past clause.UNTIL) t.now at result }
 {
     let (number, mid) = read_round_int(t, at)?;
     let (until, to) = read_until(alloc, t, mid)?;
@@ -384,7 +384,7 @@ fn read_iterate(
     at: usize,
 ) -> Result<((Option<Num>, Option<Tree>), usize), Fail<Refused>>
     requires { at ≤ length t.now }
-    ensures { Gives IterateE (Past clause.UNTIL) t.now at result }
+    ensures { IsRead IterateE (Past clause.UNTIL) t.now at result }
 {
     match behind_word(t, at, Keyword::Iterate) {
         Some(behind) => read_turns(alloc, t, behind),
@@ -423,7 +423,7 @@ fn read_ruling(
     at: usize,
 ) -> Result<(Boxed<Head>, usize), Fail<Refused>>
     requires { at ≤ length t.now }
-    ensures { Gives Ruling Opens t.now at result }
+    ensures { IsRead Ruling Opens t.now at result }
 {
     let (mode, mid) = read_mode(t, at)?;
     let (auto, next) = read_auto(t, mid)?;
@@ -439,7 +439,7 @@ pub(crate) fn read_head(
     at: usize,
 ) -> Result<(Boxed<Head>, usize), Fail<Refused>>
     requires { at ≤ length t.now }
-    ensures { Gives HeadE Opens t.now at result }
+    ensures { IsRead HeadE Opens t.now at result }
 {
     match behind_word(t, at, Keyword::Rules) {
         Some(behind) => read_ruling(alloc, t, behind),

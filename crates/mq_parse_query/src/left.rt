@@ -1,7 +1,7 @@
 //! The left sides of rules (docs/LANGUAGE.md, "The MODEL clause").
 
 ghost use Rattle.std.specs.Prelude.{◌≡◌, ◌≤◌, ◌∷◌, [], List, length, IfOk, MatchOption};
-ghost use Rattle.mq_parse_words.specs.Reading.{Anywhere, Gives, from};
+ghost use Rattle.mq_parse_words.specs.Reading.{Anywhere, IsRead, from};
 ghost use Rattle.std.proofs.Common.{arith};
 ghost use Rattle.mq_ast.specs.declared.levels.TheConstants as level;
 ghost use Rattle.mq_ast.specs.Prelude.{AloneE, DownE, EndsList, FinishE, ForListE, LitE, NameE, RangeE, Sign, StartE, Stops, Tok, Tuple};
@@ -30,7 +30,7 @@ pub(crate) fn read_closed<P: Listed>(
     close: Symbol,
 ) -> Result<(Items<P::Tree>, usize), Fail<Refused>>
     requires { (ts : List Tok) → EndsList P.stop (Sign close ∷ ts) }
-    ensures { Gives (Closed (Sign close) P.reads) Anywhere t.now at result }
+    ensures { IsRead (Closed (Sign close) P.reads) Anywhere t.now at result }
 {
     let (found, end) = read_list::<P>(alloc, t, at)?;
     let to = pass_sign(t, end, close)?;
@@ -43,7 +43,7 @@ pub(crate) fn read_plain_end(
     t: &[Token<'_>],
     at: usize,
 ) -> Result<(Boxed<Plain>, usize), Fail<Refused>>
-    ensures { Gives PlainEnd Anywhere t.now at result }
+    ensures { IsRead PlainEnd Anywhere t.now at result }
 {
     let (plain, end) = read_plain(alloc, t, at)?;
     let to = pass_sign(t, end, Symbol::Close)?;
@@ -109,7 +109,7 @@ impl Listed for Alone {
 
 // An expression, as a list of one.
 fn read_alone(alloc: Global, t: &[Token<'_>], at: usize) -> Result<(Items<E>, usize), Fail<Refused>>
-    ensures { Gives AloneE (Stops level.EXPRESSION) t.now at result }
+    ensures { IsRead AloneE (Stops level.EXPRESSION) t.now at result }
 {
     let (e, to) = read_tree(alloc, t, at)?;
     Ok((list_of(alloc, e)?, to))
@@ -132,7 +132,7 @@ fn read_for_list<P: Listed<Tree = Items<E>>>(
 ) -> Result<(Boxed<ForList>, usize), Fail<Refused>>
     requires closes { (ts : List Tok) → EndsList P.stop (closer ∷ ts) }
     requires no_query { NoQuery P.reads }
-    ensures { Gives (ForListE P.reads) Anywhere t.now at result }
+    ensures { IsRead (ForListE P.reads) Anywhere t.now at result }
 {
     let open = pass_sign(t, at, Symbol::Open)?;
     match behind_word(t, open, Keyword::Select) {
@@ -163,7 +163,7 @@ fn values_of(alloc: Global, list: Items<Items<E>>) -> Result<Boxed<ForList>, Mem
 
 // FROM, an expression and TO.
 fn read_start(alloc: Global, t: &[Token<'_>], at: usize) -> Result<(Tree, usize), Fail<Refused>>
-    ensures { Gives StartE Anywhere t.now at result }
+    ensures { IsRead StartE Anywhere t.now at result }
 {
     let behind = pass_word(t, at, Keyword::From)?;
     let (e, end) = read_tree(alloc, t, behind)?;
@@ -173,7 +173,7 @@ fn read_start(alloc: Global, t: &[Token<'_>], at: usize) -> Result<(Tree, usize)
 
 // INCREMENT or DECREMENT.
 fn read_down(t: &[Token<'_>], at: usize) -> Result<(bool, usize), Fail<Refused>>
-    ensures { Gives DownE Anywhere t.now at result }
+    ensures { IsRead DownE Anywhere t.now at result }
 {
     match behind_word(t, at, Keyword::Increment) {
         Some(to) => Ok((false, to)),
@@ -190,7 +190,7 @@ fn read_finish(
     t: &[Token<'_>],
     at: usize,
 ) -> Result<((Tree, bool), usize), Fail<Refused>>
-    ensures { Gives FinishE Anywhere t.now at result }
+    ensures { IsRead FinishE Anywhere t.now at result }
 {
     let (e, end) = read_tree(alloc, t, at)?;
     let (down, to) = read_down(t, end)?;
@@ -223,7 +223,7 @@ fn read_range(
     t: &[Token<'_>],
     at: usize,
 ) -> Result<(Boxed<Range>, usize), Fail<Refused>>
-    ensures { Gives RangeE (Stops level.EXPRESSION) t.now at result }
+    ensures { IsRead RangeE (Stops level.EXPRESSION) t.now at result }
 {
     let (start, mid) = read_start(alloc, t, at)?;
     let (finish, last) = read_finish(alloc, t, mid)?;
@@ -260,7 +260,7 @@ fn read_for(
     t: &[Token<'_>],
     at: usize,
 ) -> Result<(Boxed<LeftPlace>, usize), Fail<Refused>>
-    ensures { Gives ForPlace (Stops level.EXPRESSION) t.now at result }
+    ensures { IsRead ForPlace (Stops level.EXPRESSION) t.now at result }
 {
     let (dim, mid) = read_name(alloc, t, at)?;
     match behind_word(t, mid, Keyword::In) {
@@ -282,7 +282,7 @@ fn read_place(
     t: &[Token<'_>],
     at: usize,
 ) -> Result<(Boxed<LeftPlace>, usize), Fail<Refused>>
-    ensures { Gives LitE (Stops level.EXPRESSION) t.now at result }
+    ensures { IsRead LitE (Stops level.EXPRESSION) t.now at result }
 {
     if let Some(to) = behind_word(t, at, Keyword::Any) {
         settled(t, to, levels::EXPRESSION)?;
@@ -345,7 +345,7 @@ fn read_left_tuples(
     t: &[Token<'_>],
     at: usize,
 ) -> Result<(Boxed<LeftTree>, usize), Fail<Refused>>
-    ensures { Gives LeftTuples Anywhere t.now at result }
+    ensures { IsRead LeftTuples Anywhere t.now at result }
 {
     let (dims, end) = read_closed::<Naming>(alloc, t, at, Symbol::Close)?;
     let behind = pass_word(t, end, Keyword::In)?;
@@ -377,7 +377,7 @@ pub(crate) fn read_left(
     t: &[Token<'_>],
     at: usize,
 ) -> Result<(Boxed<LeftTree>, usize), Fail<Refused>>
-    ensures { Gives LeftEnd Anywhere t.now at result }
+    ensures { IsRead LeftEnd Anywhere t.now at result }
 {
     match behind_for(t, at) {
         Some(dims) => read_left_tuples(alloc, t, dims),

@@ -3,7 +3,7 @@
 ghost use Rattle.std.specs.Prelude.{◌≡◌, ◌<◌, ◌≤◌, ℕ, List, ◌∷◌, length};
 ghost use Rattle.mq_ast.specs.Prelude.{EndsList, ManyOf, MoreOf, OneTree, SomeOf, Tok, comma};
 ghost use Rattle.mq_parse_query.specs.Lists.{Turns};
-ghost use Rattle.mq_parse_words.specs.Reading.{Gives, from};
+ghost use Rattle.mq_parse_words.specs.Reading.{IsRead, from};
 
 use mq_ast::Symbol;
 use mq_lexer::Token;
@@ -25,7 +25,7 @@ pub trait Listed {
     /// The tree that reads the tokens from a place on, and the place behind it. SYNTAX where there is none, also behind the
     /// last token.
     fn read(alloc: Global, t: &[Token<'_>], at: usize) -> Result<(Self::Tree, usize), Fail<Refused>>
-        ensures { Gives reads stop t.now at result };
+        ensures { IsRead reads stop t.now at result };
 
     /// A part reads tokens in one way only.
     ghost one: { OneTree reads stop };
@@ -41,7 +41,7 @@ pub fn read_list<P: Listed>(
     t: &[Token<'_>],
     at: usize,
 ) -> Result<(Items<P::Tree>, usize), Fail<Refused>>
-    ensures { Gives (SomeOf P.reads) (EndsList P.stop) t.now at result }
+    ensures { IsRead (SomeOf P.reads) (EndsList P.stop) t.now at result }
 {
     let (first, mid) = P::read(alloc, t, at)?;
     let (mut all, to) = read_more::<P>(alloc, t, mid)?;
@@ -57,7 +57,7 @@ fn read_more<P: Listed>(
 ) -> Result<(Items<P::Tree>, usize), Fail<Refused>>
     requires in_range { at ≤ length t.now }
     requires stops { P.stop (from t.now at) }
-    ensures { Gives (MoreOf P.reads) (EndsList P.stop) t.now at result }
+    ensures { IsRead (MoreOf P.reads) (EndsList P.stop) t.now at result }
 {
     let mut found = Items::new(alloc);
     let mut to = at;
@@ -112,7 +112,7 @@ pub(crate) fn read_many<P: Repeated>(
     at: usize,
 ) -> Result<(Items<P::Tree>, usize), Fail<Refused>>
     requires { at ≤ length t.now }
-    ensures { Gives (ManyOf P.reads) P.end t.now at result }
+    ensures { IsRead (ManyOf P.reads) P.end t.now at result }
 {
     let mut found = Items::new(alloc);
     let mut to = at;

@@ -4,7 +4,7 @@ ghost use Rattle.std.specs.Prelude.{◌≡◌, ◌≤◌, length, IfOk};
 ghost use Rattle.mq_ast.specs.declared.clauses.TheConstants as clause;
 ghost use Rattle.mq_ast.specs.Prelude.{BodyE, FrontE, ModelE, Past, TailE, model_of};
 ghost use Rattle.mq_parse_query.specs.Pieces.{Modelling, tail_of};
-ghost use Rattle.mq_parse_words.specs.Reading.{Anywhere, Gives};
+ghost use Rattle.mq_parse_words.specs.Reading.{Anywhere, IsRead};
 
 use crate::heads::{read_axes, read_head, read_main, read_parts, read_return};
 use crate::lists::read_many;
@@ -18,7 +18,7 @@ use std::alloc::Global;
 
 fn read_front(alloc: Global, t: &[Token<'_>], at: usize) -> Result<(Front, usize), Fail<Refused>>
     requires { at ≤ length t.now }
-    ensures { Gives FrontE (Past clause.REFERENCE) t.now at result }
+    ensures { IsRead FrontE (Past clause.REFERENCE) t.now at result }
 {
     let (opts, mid) = read_many::<Opt>(alloc, t, at)?;
     let (updated, next) = read_return(t, mid)?;
@@ -35,7 +35,7 @@ fn read_front(alloc: Global, t: &[Token<'_>], at: usize) -> Result<(Front, usize
 
 fn read_body(alloc: Global, t: &[Token<'_>], at: usize) -> Result<(Body, usize), Fail<Refused>>
     requires { at ≤ length t.now }
-    ensures { Gives BodyE Anywhere t.now at result }
+    ensures { IsRead BodyE Anywhere t.now at result }
 {
     let (main, mid) = read_main(alloc, t, at)?;
     let (parts, next) = read_parts(alloc, t, mid)?;
@@ -49,7 +49,7 @@ fn read_tail(
     at: usize,
 ) -> Result<(Boxed<Tail>, usize), Fail<Refused>>
     requires { at ≤ length t.now }
-    ensures { Gives TailE Anywhere t.now at result }
+    ensures { IsRead TailE Anywhere t.now at result }
 {
     let (opts, mid) = read_many::<Opt>(alloc, t, at)?;
     let (head, next) = read_head(alloc, t, mid)?;
@@ -122,7 +122,7 @@ fn read_modelling(
     at: usize,
 ) -> Result<(Boxed<ModelTree>, usize), Fail<Refused>>
     requires { at ≤ length t.now }
-    ensures { Gives Modelling Anywhere t.now at result }
+    ensures { IsRead Modelling Anywhere t.now at result }
 {
     let (front, mid) = read_front(alloc, t, at)?;
     let (body, next) = read_body(alloc, t, mid)?;
@@ -136,7 +136,7 @@ pub(crate) fn read_model(
     t: &[Token<'_>],
     at: usize,
 ) -> Result<(Boxed<ModelTree>, usize), Fail<Refused>>
-    ensures { Gives ModelE Anywhere t.now at result }
+    ensures { IsRead ModelE Anywhere t.now at result }
 {
     match behind_word(t, at, Keyword::Model) {
         Some(behind) => read_modelling(alloc, t, behind),

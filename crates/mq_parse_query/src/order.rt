@@ -2,7 +2,7 @@
 
 ghost use Rattle.std.specs.Prelude.{◌≡◌, ◌≢◌, ◌≤◌, length, MatchResult};
 ghost use Rattle.mq_ast.specs.Prelude.{DirectionE, EndsKey, EndsOrder, OrderE, key_of};
-ghost use Rattle.mq_parse_words.specs.Reading.{Fails, Gives, from};
+ghost use Rattle.mq_parse_words.specs.Reading.{Fails, IsRead, from};
 
 use crate::lists::{Listed, read_list};
 use mq_ast::{Keyword, OrderKey, Symbol};
@@ -40,7 +40,7 @@ fn ends_order(t: &[Token<'_>], at: usize) -> Result<(), Fail<Refused>>
 // ASC, DESC or neither; whether it is DESC.
 fn read_direction(t: &[Token<'_>], at: usize) -> Result<(bool, usize), Fail<Refused>>
     requires { at ≤ length t.now }
-    ensures { Gives DirectionE EndsKey t.now at result }
+    ensures { IsRead DirectionE EndsKey t.now at result }
 {
     if let Some(to) = behind_word(t, at, Keyword::Asc) {
         ends_key(t, to)?;
@@ -88,7 +88,7 @@ pub(crate) fn read_order(
     at: usize,
 ) -> Result<(Items<OrderKey>, usize), Fail<Refused>>
     requires { at ≤ length t.now }
-    ensures { Gives OrderE EndsOrder t.now at result }
+    ensures { IsRead OrderE EndsOrder t.now at result }
 {
     let Some(order) = behind_word(t, at, Keyword::Order) else {
         ends_order(t, at)?;

@@ -3,7 +3,7 @@
 ghost use Rattle.std.specs.Prelude.{◌≡◌, ◌≤◌, true, false, [], length, IfOk};
 ghost use Rattle.mq_ast.specs.declared.levels.TheConstants as level;
 ghost use Rattle.mq_ast.specs.Prelude.{GroupE, PlainE, ShownE, SourceE, Stops, WhereE, plain_of, shown_of, source_of};
-ghost use Rattle.mq_parse_words.specs.Reading.{Anywhere, Gives};
+ghost use Rattle.mq_parse_words.specs.Reading.{Anywhere, IsRead};
 
 use crate::columns::read_sels;
 use crate::froms::read_from;
@@ -25,7 +25,7 @@ pub fn read_where(
     at: usize,
 ) -> Result<(Option<E>, usize), Fail<Refused>>
     requires { at ≤ length t.now }
-    ensures { Gives WhereE (Stops level.FILTERED) t.now at result }
+    ensures { IsRead WhereE (Stops level.FILTERED) t.now at result }
 {
     opened_choice(read_filter(alloc, t, at))
 }
@@ -37,7 +37,7 @@ fn read_filter(
     at: usize,
 ) -> Result<(Option<Tree>, usize), Fail<Refused>>
     requires { at ≤ length t.now }
-    ensures { Gives WhereE (Stops level.FILTERED) t.now at result }
+    ensures { IsRead WhereE (Stops level.FILTERED) t.now at result }
 {
     let Some(behind) = behind_word(t, at, Keyword::Where) else {
         settled(t, at, levels::FILTERED)?;
@@ -76,7 +76,7 @@ fn read_group(
     at: usize,
 ) -> Result<(Items<Path>, usize), Fail<Refused>>
     requires { at ≤ length t.now }
-    ensures { Gives GroupE (Stops level.PLAIN) t.now at result }
+    ensures { IsRead GroupE (Stops level.PLAIN) t.now at result }
 {
     let Some(group) = behind_word(t, at, Keyword::Group) else {
         settled(t, at, levels::PLAIN)?;
@@ -105,7 +105,7 @@ fn these(sels: Items<Sel>) -> Shown
 
 // What stands between SELECT and FROM, with FROM.
 fn read_shown(alloc: Global, t: &[Token<'_>], at: usize) -> Result<(Shown, usize), Fail<Refused>>
-    ensures { Gives ShownE Anywhere t.now at result }
+    ensures { IsRead ShownE Anywhere t.now at result }
 {
     if let Some(star) = behind_sign(t, at, Symbol::Prod(ProdOp::Mul)) {
         let to = pass_word(t, star, Keyword::From)?;
@@ -141,7 +141,7 @@ fn read_source(
     t: &[Token<'_>],
     at: usize,
 ) -> Result<(Boxed<Source>, usize), Fail<Refused>>
-    ensures { Gives SourceE (Stops level.PLAIN) t.now at result }
+    ensures { IsRead SourceE (Stops level.PLAIN) t.now at result }
 {
     let (froms, mid) = read_from(alloc, t, at)?;
     let (filter, last) = read_filter(alloc, t, mid)?;
@@ -171,7 +171,7 @@ pub(crate) fn read_plain(
     t: &[Token<'_>],
     at: usize,
 ) -> Result<(Boxed<Plain>, usize), Fail<Refused>>
-    ensures { Gives PlainE (Stops level.PLAIN) t.now at result }
+    ensures { IsRead PlainE (Stops level.PLAIN) t.now at result }
 {
     let select = pass_word(t, at, Keyword::Select)?;
     let (shown, mid) = read_shown(alloc, t, select)?;

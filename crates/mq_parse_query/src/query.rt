@@ -3,7 +3,7 @@
 ghost use Rattle.std.specs.Prelude.{◌≡◌, ◌≤◌, length};
 ghost use Rattle.mq_ast.specs.declared.levels.TheConstants as level;
 ghost use Rattle.mq_ast.specs.Prelude.{EndE, OrderE, QueryE, Stops, query_of};
-ghost use Rattle.mq_parse_words.specs.Reading.{Gives};
+ghost use Rattle.mq_parse_words.specs.Reading.{IsRead};
 
 use crate::heap::inner;
 use crate::model::read_model;
@@ -22,7 +22,7 @@ fn read_last(
     at: usize,
 ) -> Result<(Items<OrderKey>, usize), Fail<Refused>>
     requires { at ≤ length t.now }
-    ensures { Gives OrderE (Stops level.QUERY) t.now at result }
+    ensures { IsRead OrderE (Stops level.QUERY) t.now at result }
 {
     let (order, to) = read_order(alloc, t, at)?;
     settled(t, to, levels::QUERY)?;
@@ -36,7 +36,7 @@ fn read_end(
     at: usize,
 ) -> Result<((Option<Boxed<ModelTree>>, Items<OrderKey>), usize), Fail<Refused>>
     requires { at ≤ length t.now }
-    ensures { Gives EndE (Stops level.QUERY) t.now at result }
+    ensures { IsRead EndE (Stops level.QUERY) t.now at result }
 {
     match behind_word(t, at, Keyword::Model) {
         Some(_) => {
@@ -69,7 +69,7 @@ pub fn read_query(
     t: &[Token<'_>],
     at: usize,
 ) -> Result<(Query, usize), Fail<Refused>>
-    ensures { Gives QueryE (Stops level.QUERY) t.now at result }
+    ensures { IsRead QueryE (Stops level.QUERY) t.now at result }
 {
     let (plain, mid) = read_plain(alloc, t, at)?;
     let (end, to) = read_end(alloc, t, mid)?;

@@ -1,7 +1,7 @@
 //! The rules of a MODEL clause (docs/LANGUAGE.md, "The MODEL clause").
 
 ghost use Rattle.std.specs.Prelude.{◌≡◌, ◌≤◌, ◌<◌, length, MatchResult};
-ghost use Rattle.mq_parse_words.specs.Reading.{Anywhere, Fails, Gives, from};
+ghost use Rattle.mq_parse_words.specs.Reading.{Anywhere, Fails, IsRead, from};
 ghost use Rattle.std.proofs.Common.{arith};
 ghost use Rattle.mq_ast.specs.declared.clauses.TheConstants as clause;
 ghost use Rattle.mq_ast.specs.declared.levels.TheConstants as level;
@@ -54,7 +54,7 @@ pub(crate) fn past(t: &[Token<'_>], at: usize, last: u8) -> Result<(), Fail<Refu
 // UPSERT with ALL or without it, behind UPSERT.
 fn read_upsert(t: &[Token<'_>], at: usize) -> Result<(Option<Mode>, usize), Fail<Refused>>
     requires { at ≤ length t.now }
-    ensures { Gives Upserts (Past clause.MODE) t.now at result }
+    ensures { IsRead Upserts (Past clause.MODE) t.now at result }
 {
     match behind_word(t, at, Keyword::All) {
         Some(to) => {
@@ -71,7 +71,7 @@ fn read_upsert(t: &[Token<'_>], at: usize) -> Result<(Option<Mode>, usize), Fail
 /// A mode, where one stands there.
 pub(crate) fn read_mode(t: &[Token<'_>], at: usize) -> Result<(Option<Mode>, usize), Fail<Refused>>
     requires { at ≤ length t.now }
-    ensures { Gives MaybeMode (Past clause.MODE) t.now at result }
+    ensures { IsRead MaybeMode (Past clause.MODE) t.now at result }
 {
     if let Some(to) = behind_word(t, at, Keyword::Update) {
         past(t, to, clauses::MODE)?;
@@ -93,7 +93,7 @@ fn read_front(
     at: usize,
 ) -> Result<((Option<Mode>, Words), usize), Fail<Refused>>
     requires { at ≤ length t.now }
-    ensures { Gives RuleFront Anywhere t.now at result }
+    ensures { IsRead RuleFront Anywhere t.now at result }
 {
     let (mode, mid) = read_mode(t, at)?;
     let (measure, end) = read_name(alloc, t, mid)?;
@@ -108,7 +108,7 @@ fn read_right(
     at: usize,
 ) -> Result<((Items<OrderKey>, Tree), usize), Fail<Refused>>
     requires { at ≤ length t.now }
-    ensures { Gives RuleRight (Stops level.EXPRESSION) t.now at result }
+    ensures { IsRead RuleRight (Stops level.EXPRESSION) t.now at result }
 {
     let (order, end) = read_order(alloc, t, at)?;
     let behind = pass_sign(t, end, Symbol::Cmp(CmpOp::Eq))?;
@@ -137,7 +137,7 @@ fn rule_tree(
 // A rule.
 fn read_rule(alloc: Global, t: &[Token<'_>], at: usize) -> Result<(RuleTree, usize), Fail<Refused>>
     requires { at ≤ length t.now }
-    ensures { Gives RuleE (Stops level.EXPRESSION) t.now at result }
+    ensures { IsRead RuleE (Stops level.EXPRESSION) t.now at result }
 {
     let (front, mid) = read_front(alloc, t, at)?;
     let (left, next) = read_left(alloc, t, mid)?;
@@ -170,7 +170,7 @@ pub(crate) fn read_rules(
     t: &[Token<'_>],
     at: usize,
 ) -> Result<(Items<RuleTree>, usize), Fail<Refused>>
-    ensures { Gives RuleList Anywhere t.now at result }
+    ensures { IsRead RuleList Anywhere t.now at result }
 {
     let open = pass_sign(t, at, Symbol::Open)?;
     match behind_sign(t, open, Symbol::Close) {

@@ -6,7 +6,7 @@ use Rattle.std.proofs.lemmas.Bool.{cases_lt}
 use mir.Val.{bool_byte}
 use Rattle.mq_values.specs.declared.limits.TheConstants.{MAX_DEPTH}
 use Rattle.mq_lexer.specs.declared.sorts.Token.{Token}
-use Rattle.mq_ast.specs.declared.terminals.Terminal.{Terminal}
+use Rattle.mq_lexer.specs.declared.terminals.Terminal.{Terminal}
 use Rattle.mq_ast.specs.Prelude.{Tok, terminal_at, tok_of, toks}
 use Rattle.mq_parse_words.specs.Reading.{from}
 use Rattle.mq_parse_stmt.specs.Depth.{opens, closes, count, Over, TooDeep}

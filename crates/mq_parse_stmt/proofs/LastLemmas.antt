@@ -8,7 +8,7 @@ use Rattle.mq_ast.specs.declared.levels.TheConstants as level
 use Rattle.mq_ast.specs.Prelude.{EndsList, NameE, QueryE, SomeOf, Stops, Tok, Tuple, WhereE}
 use Rattle.mq_ast.specs.Laws.{Whatever, name_same, query_same, tuples_same, where_same}
 use Rattle.mq_parse_words.specs.Names.{TextE, txt}
-use Rattle.mq_parse_words.specs.Reading.{from, Anywhere, Fails, Gives}
+use Rattle.mq_parse_words.specs.Reading.{from, Anywhere, Fails, IsRead}
 use Rattle.mq_parse_words.specs.StepLemmas.{exit, till, as_value}
 use Rattle.mq_parse_stmt.specs.Pieces.{Body, Changes, WordName}
 use Rattle.mq_parse_stmt.specs.Results.{Ended}
@@ -28,7 +28,7 @@ pub record MayBeLast {A : Type 0} (R : A → List Tok → List Tok → Type 0) (
   pub same : (a b : A) (ts to to' : List Tok) → R a ts to → R b ts to' → Stop to → Stop to' → to ≡ to'
   pub stop : Stop []
 
-pub read_all : {A : Type 0} {R : A → List Tok → List Tok → Type 0} {Stop : List Tok → Type 0} → MayBeLast R Stop → (t : List Token) (at : ℕ) (found : Result (A × ℕ) (Fail Refused)) (r : Result A (Fail Refused)) → Gives R Stop t at found → Ended t found r → ReadsAll R (from t at) r
+pub read_all : {A : Type 0} {R : A → List Tok → List Tok → Type 0} {Stop : List Tok → Type 0} → MayBeLast R Stop → (t : List Token) (at : ℕ) (found : Result (A × ℕ) (Fail Refused)) (r : Result A (Fail Refused)) → IsRead R Stop t at found → Ended t found r → ReadsAll R (from t at) r
 read_all {A} {R} m t at (Ok x) (Ok y) g e = as_value R e.0 (till R e.1 g.2)
 read_all m t at (Ok x) (Err f) g e = exit f e (λ h a d. h (m.same x.0 a _ _ _ g.2 d g.3 m.stop))
 read_all m t at (Err f) (Ok y) g e = absurd cc

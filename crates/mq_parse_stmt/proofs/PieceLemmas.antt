@@ -10,8 +10,8 @@ use Rattle.mq_ast.specs.declared.statements.ColDef.{ColDef}
 use Rattle.mq_ast.specs.declared.expressions.E.{E}
 use Rattle.mq_lexer.specs.declared.keywords.Keyword.{Keyword}
 use Rattle.mq_ast.specs.declared.levels.TheConstants as level
-use Rattle.mq_ast.specs.declared.terminals.Symbol.TheVariants as sign
-use Rattle.mq_ast.specs.declared.terminals.Terminal.TheVariants as terminal
+use Rattle.mq_lexer.specs.declared.terminals.Symbol.TheVariants as sign
+use Rattle.mq_lexer.specs.declared.terminals.Terminal.TheVariants as terminal
 use Rattle.mq_lexer.specs.declared.keywords.Keyword.TheVariants as word
 use Rattle.mq_ast.specs.Prelude.{ColE, EndsCols, EndsList, Expr, KindE, MoreOf, Name, NameE, NamesE, Not, NotNullE, PrimaryE, SetE}
 use Rattle.mq_ast.specs.Prelude.{SomeOf, Stops, Text, Tok, WhereE, Word, col, comma, equal, loose, more_comma, more_end, name}
@@ -20,13 +20,13 @@ use Rattle.mq_ast.specs.Prelude.{terminal_at}
 use Rattle.mq_ast.specs.Laws.{begin, col_same, cols_of_same, kind_same, names_of_same, names_same, primary_ends, primary_same}
 use Rattle.mq_ast.specs.Laws.{sets_same, stops_not, where_same, where_stop}
 use Rattle.mq_parse_words.specs.Names.{TextE, txt}
-use Rattle.mq_parse_words.specs.Reading.{from, No, Anywhere, Gives}
+use Rattle.mq_parse_words.specs.Reading.{from, No, Anywhere, IsRead}
 use Rattle.mq_parse_words.specs.StepLemmas.{exit}
 use Rattle.mq_parse_stmt.specs.Results.{beside}
 use Rattle.mq_parse_stmt.specs.Pieces.{WordName, word_name, KeyEnd, KeyBehind, Body, body, NamesValues, Changes, changes}
 
 -- a part with another before it
-pub beside_gives : {A B : Type 0} (R : A × B → List Tok → List Tok → Type 0) (S : B → List Tok → List Tok → Type 0) (Stop : List Tok → Type 0) (t : List Token) (at mid : ℕ) (a : A) (found : Result (B × ℕ) (Fail Refused)) → at ≤ mid → ((b : B) (to : List Tok) → S b (from t mid) to → R (a, b) (from t at) to) → (No S Stop (from t mid) → No R Stop (from t at)) → Gives S Stop t mid found → Gives R Stop t at (beside a found)
+pub beside_gives : {A B : Type 0} (R : A × B → List Tok → List Tok → Type 0) (S : B → List Tok → List Tok → Type 0) (Stop : List Tok → Type 0) (t : List Token) (at mid : ℕ) (a : A) (found : Result (B × ℕ) (Fail Refused)) → at ≤ mid → ((b : B) (to : List Tok) → S b (from t mid) to → R (a, b) (from t at) to) → (No S Stop (from t mid) → No R Stop (from t at)) → IsRead S Stop t mid found → IsRead R Stop t at (beside a found)
 beside_gives R S Stop t at mid a (Ok r) l f h g = (omega (arith, l, g.0), g.1, f r.0 _ g.2, g.3)
 beside_gives R S Stop t at mid a (Err f') l f h g = exit f' g h
 

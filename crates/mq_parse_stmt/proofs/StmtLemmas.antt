@@ -10,7 +10,7 @@ use Rattle.mq_ast.specs.declared.statements.ColDef.{ColDef}
 use Rattle.mq_ast.specs.declared.expressions.E.{E}
 use Rattle.mq_ast.specs.declared.statements.Stmt.{Stmt}
 use Rattle.mq_ast.specs.declared.statements.Stmt.TheVariants as stmt
-use Rattle.mq_ast.specs.declared.terminals.Terminal.TheVariants as terminal
+use Rattle.mq_lexer.specs.declared.terminals.Terminal.TheVariants as terminal
 use Rattle.mq_lexer.specs.declared.keywords.Keyword.TheVariants as word
 use Rattle.mq_ast.specs.Prelude.{Name, NameE, Not, QueryE, SomeOf, StmtE, Tok, Tuple, WhereE, Word, name}
 use Rattle.mq_ast.specs.Prelude.{stmt_create_table, stmt_create_view, stmt_delete, stmt_drop_table, stmt_drop_view, stmt_insert}

@@ -4,7 +4,7 @@ ghost use Rattle.std.specs.Prelude.{◌≡◌, ◌≢◌, ◌≤◌, ◌<◌, Li
 ghost use Rattle.mq_ast.specs.declared.levels.TheConstants as level;
 ghost use Rattle.mq_ast.specs.Prelude.{SetE, Stops, Word};
 ghost use Rattle.mq_ast.specs.Laws.{set_same};
-ghost use Rattle.mq_parse_words.specs.Reading.{from, Anywhere, Gives};
+ghost use Rattle.mq_parse_words.specs.Reading.{from, Anywhere, IsRead};
 ghost use Rattle.mq_parse_stmt.specs.Pieces.{NamesValues, Changes};
 ghost use Rattle.mq_parse_stmt.specs.Parsing.{Whole};
 
@@ -33,7 +33,7 @@ fn read_names_values(
     t: &[Token<'_>],
     at: usize,
 ) -> Result<(Option<Items<Words>>, usize), Fail<Refused>>
-    ensures { Gives NamesValues Anywhere t.now at result }
+    ensures { IsRead NamesValues Anywhere t.now at result }
 {
     match behind_word(t, at, Keyword::Values) {
         Some(to) => Ok((None, to)),
@@ -69,7 +69,7 @@ fn read_changes(
     at: usize,
 ) -> Result<((Items<(Words, E)>, Option<E>), usize), Fail<Refused>>
     requires { at ≤ length t.now }
-    ensures { Gives Changes (Stops level.FILTERED) t.now at result }
+    ensures { IsRead Changes (Stops level.FILTERED) t.now at result }
 {
     let (sets, mid) = read_list::<Set>(alloc, t, at)?;
     beside(sets, read_where(alloc, t, mid))
@@ -101,7 +101,7 @@ impl Listed for Set {
 }
 
 fn read_set(alloc: Global, t: &[Token<'_>], at: usize) -> Result<((Words, E), usize), Fail<Refused>>
-    ensures { Gives SetE (Stops level.EXPRESSION) t.now at result }
+    ensures { IsRead SetE (Stops level.EXPRESSION) t.now at result }
 {
     let (name, mid) = read_name(alloc, t, at)?;
     let value = pass_sign(t, mid, Symbol::Cmp(CmpOp::Eq))?;

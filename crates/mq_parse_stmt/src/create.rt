@@ -3,7 +3,7 @@
 ghost use Rattle.std.specs.Prelude.{◌≡◌, ◌≢◌, ◌≤◌, List, ◌∷◌, length};
 ghost use Rattle.mq_ast.specs.declared.levels.TheConstants as level;
 ghost use Rattle.mq_ast.specs.Prelude.{ColE, EndsCols, MoreOf, Not, NotNullE, SomeOf, Stops, Word, col_of};
-ghost use Rattle.mq_parse_words.specs.Reading.{from, Anywhere, Gives};
+ghost use Rattle.mq_parse_words.specs.Reading.{from, Anywhere, IsRead};
 ghost use Rattle.mq_parse_stmt.specs.Pieces.{Body, KeyEnd, KeyBehind, NextCol};
 ghost use Rattle.mq_parse_stmt.specs.Parsing.{Whole};
 
@@ -87,7 +87,7 @@ fn read_body(
     t: &[Token<'_>],
     at: usize,
 ) -> Result<((Items<ColDef>, Items<Words>), usize), Fail<Refused>>
-    ensures { Gives Body Anywhere t.now at result }
+    ensures { IsRead Body Anywhere t.now at result }
 {
     let open = pass_sign(t, at, Symbol::Open)?;
     let (cols, mid) = read_cols(alloc, t, open)?;
@@ -100,7 +100,7 @@ fn read_cols(
     t: &[Token<'_>],
     at: usize,
 ) -> Result<(Items<ColDef>, usize), Fail<Refused>>
-    ensures { Gives (SomeOf ColE) EndsCols t.now at result }
+    ensures { IsRead (SomeOf ColE) EndsCols t.now at result }
 {
     let (first, mid) = read_col(alloc, t, at)?;
     let (mut all, to) = read_more_cols(alloc, t, mid)?;
@@ -116,7 +116,7 @@ fn read_more_cols(
 ) -> Result<(Items<ColDef>, usize), Fail<Refused>>
     requires in_range { at ≤ length t.now }
     requires stops { Stops level.EXPRESSION (from t.now at) }
-    ensures { Gives (MoreOf ColE) EndsCols t.now at result }
+    ensures { IsRead (MoreOf ColE) EndsCols t.now at result }
 {
     let mut found = Items::new(alloc);
     let mut to = at;
@@ -143,7 +143,7 @@ fn behind_comma(t: &[Token<'_>], at: usize) -> Option<usize>
 
 // A column: its name, its kind, and NOT NULL where it stands there.
 fn read_col(alloc: Global, t: &[Token<'_>], at: usize) -> Result<(ColDef, usize), Fail<Refused>>
-    ensures { Gives ColE (Stops level.EXPRESSION) t.now at result }
+    ensures { IsRead ColE (Stops level.EXPRESSION) t.now at result }
 {
     let (name, mid) = read_name(alloc, t, at)?;
     let (kind, next) = read_kind(t, mid)?;
@@ -164,7 +164,7 @@ fn column(name: Words, kind: Kind, not_null: bool) -> ColDef
 // Whether NOT NULL stands at a place, and the place behind it.
 fn read_not_null(t: &[Token<'_>], at: usize) -> Result<(bool, usize), Fail<Refused>>
     requires { at ≤ length t.now }
-    ensures { Gives NotNullE (Stops level.EXPRESSION) t.now at result }
+    ensures { IsRead NotNullE (Stops level.EXPRESSION) t.now at result }
 {
     match behind_word(t, at, Keyword::Not) {
         Some(not) => {
@@ -185,7 +185,7 @@ fn read_key_end(
     t: &[Token<'_>],
     at: usize,
 ) -> Result<(Items<Words>, usize), Fail<Refused>>
-    ensures { Gives KeyEnd Anywhere t.now at result }
+    ensures { IsRead KeyEnd Anywhere t.now at result }
 {
     match behind_sign(t, at, Symbol::Comma) {
         Some(behind) => read_key(alloc, t, behind),
@@ -202,7 +202,7 @@ fn read_key(
     t: &[Token<'_>],
     at: usize,
 ) -> Result<(Items<Words>, usize), Fail<Refused>>
-    ensures { Gives KeyBehind Anywhere t.now at result }
+    ensures { IsRead KeyBehind Anywhere t.now at result }
 {
     let primary = pass_word(t, at, Keyword::Primary)?;
     let key = pass_word(t, primary, Keyword::Key)?;

@@ -2,7 +2,7 @@
 
 ghost use Rattle.std.specs.Prelude.{◌≡◌, ◌↔◌, IsTrue};
 ghost use Rattle.mq_parse_words.specs.Reading.{from};
-ghost use Rattle.mq_parse_stmt.specs.Depth.{TooDeep, opens as spec_opens, closes as spec_closes};
+ghost use Rattle.mq_parse_stmt.specs.Depth.{TooDeep, opens, closes};
 
 use mq_ast::{Keyword, Symbol, Terminal};
 use mq_lexer::Token;
@@ -18,8 +18,9 @@ pub(crate) fn is_too_deep(t: &[Token<'_>]) -> bool
     let mut at = 0;
     'levels: while let Some(token) = token_at(t, at) {
         let terminal = terminal_of(&token);
-        opened += opens(terminal) as usize;
-        closed += closes(terminal) as usize;
+        let (opening, closing) = opens_or_closes(terminal);
+        opened += opening as usize;
+        closed += closing as usize;
         at += 1;
         if opened > MAX_DEPTH && opened - MAX_DEPTH > closed {
             return true;
@@ -28,22 +29,18 @@ pub(crate) fn is_too_deep(t: &[Token<'_>]) -> bool
     false
 }
 
-// Whether a token opens a level.
-fn opens(terminal: Terminal) -> bool
-    ensures { result ≡ spec_opens terminal }
+// Whether a token opens a level, and whether it closes one.
+fn opens_or_closes(terminal: Terminal) -> (bool, bool)
+    ensures opens { result.0 ≡ opens terminal }
+    ensures closes { result.1 ≡ closes terminal }
 {
     match terminal {
-        Terminal::Sign(Symbol::Open | Symbol::OpenSquare) | Terminal::Word(Keyword::Case) => true,
-        _ => false,
-    }
-}
-
-// Whether a token closes a level.
-fn closes(terminal: Terminal) -> bool
-    ensures { result ≡ spec_closes terminal }
-{
-    match terminal {
-        Terminal::Sign(Symbol::Close | Symbol::CloseSquare) | Terminal::Word(Keyword::End) => true,
-        _ => false,
+        Terminal::Sign(Symbol::Open | Symbol::OpenSquare) | Terminal::Word(Keyword::Case) => {
+            (true, false)
+        }
+        Terminal::Sign(Symbol::Close | Symbol::CloseSquare) | Terminal::Word(Keyword::End) => {
+            (false, true)
+        }
+        _ => (false, false),
     }
 }

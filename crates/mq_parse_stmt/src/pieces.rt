@@ -2,7 +2,7 @@
 
 ghost use Rattle.std.specs.Prelude.{◌≡◌};
 ghost use Rattle.mq_ast.specs.Prelude.{NamesE};
-ghost use Rattle.mq_parse_words.specs.Reading.{Anywhere, Gives};
+ghost use Rattle.mq_parse_words.specs.Reading.{Anywhere, IsRead};
 ghost use Rattle.mq_parse_stmt.specs.Pieces.{WordName};
 ghost use Rattle.mq_parse_stmt.specs.Results.{Ended, beside as spec_beside};
 
@@ -19,7 +19,7 @@ pub(crate) fn read_names(
     t: &[Token<'_>],
     at: usize,
 ) -> Result<(Items<Words>, usize), Fail<Refused>>
-    ensures { Gives NamesE Anywhere t.now at result }
+    ensures { IsRead NamesE Anywhere t.now at result }
 {
     let open = pass_sign(t, at, Symbol::Open)?;
     let (list, end) = read_list::<Naming>(alloc, t, open)?;
@@ -34,7 +34,7 @@ pub(crate) fn read_word_name(
     at: usize,
     word: Keyword,
 ) -> Result<(Words, usize), Fail<Refused>>
-    ensures { Gives (WordName word) Anywhere t.now at result }
+    ensures { IsRead (WordName word) Anywhere t.now at result }
 {
     let behind = pass_word(t, at, word)?;
     let (name, to) = read_name(alloc, t, behind)?;

@@ -1,28 +1,13 @@
--- How numbers and texts are sought byte by byte.
-use Rattle.std.proofs.Common.{◌≡◌, ◌≢◌, ℕ, suc, ◌+◌, ◌<◌, ◌≤◌, Bool, true, false, List, [], ◌∷◌, ◌++◌, length, refl, sym, ap, ◌∙◌, arith, append_assoc, append-nil}
+-- How a text is cut at its quotes.
+use Rattle.std.proofs.Common.{◌≡◌, ◌≢◌, ℕ, suc, ◌+◌, ◌<◌, Bool, true, false, List, [], ◌∷◌, ◌++◌, length, refl, sym, ap, ◌∙◌, arith, append_assoc, append-nil}
 use Rattle.std.specs.Prelude.{◌==◌, Option, Some, None}
 use Rattle.std.specs.List.{position_or_len, before_first, after_first}
 use Rattle.std.specs.Option.{option_map}
 use Rattle.std.proofs.lemmas.Bool.Decides.{nat_tests}
-use Rattle.mq_values.specs.Text.{is_plain}
 use Rattle.mq_ast.specs.Spelling.{unquoted}
-use Rattle.mq_parse_words.specs.Rows.{fits, is_quote}
-
--- one byte more of a text
-pub fits_more : (n b : ℕ) (o : Option (List ℕ)) → is_plain b ≡ true → fits n (option_map (λ c. b ∷ c) o) ≡ fits (n + 1) o
-fits_more n b None e = refl
-fits_more n b (Some z) e = grind (arith, nat_tests, e)
-
-pub fits_full : (n b : ℕ) (o : Option (List ℕ)) → 256 ≤ n → fits n (option_map (λ c. b ∷ c) o) ≡ false
-fits_full n b None e = refl
-fits_full n b (Some z) e = grind (arith, nat_tests, e)
-
-pub fits_bad : (n b : ℕ) (o : Option (List ℕ)) → is_plain b ≡ false → fits n (option_map (λ c. b ∷ c) o) ≡ false
-fits_bad n b None e = refl
-fits_bad n b (Some z) e = grind (arith, nat_tests, e)
+use Rattle.mq_parse_words.specs.Quotes.{is_quote}
 
 -- a text up to its next quote
-
 pub unquoted_none : (z : List ℕ) → position_or_len is_quote z ≡ length z → unquoted false z ≡ None
 unquoted_none [] e = refl
 unquoted_none (b ∷ z) e = let h = unquoted_none z in grind (arith, nat_tests, e, h)

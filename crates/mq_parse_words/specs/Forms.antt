@@ -6,9 +6,9 @@ use Rattle.mq_ast.specs.declared.expressions.E.{E}
 use Rattle.mq_ast.specs.declared.expressions.E.TheVariants as e
 use Rattle.mq_lexer.specs.declared.keywords.Keyword.{Keyword}
 use Rattle.mq_lexer.specs.declared.keywords.Keyword.TheVariants as word
-use Rattle.mq_ast.specs.declared.terminals.Symbol.TheVariants as sign
-use Rattle.mq_ast.specs.declared.terminals.Terminal.{Terminal}
-use Rattle.mq_ast.specs.declared.terminals.Terminal.TheVariants as terminal
+use Rattle.mq_lexer.specs.declared.terminals.Symbol.TheVariants as sign
+use Rattle.mq_lexer.specs.declared.terminals.Terminal.{Terminal}
+use Rattle.mq_lexer.specs.declared.terminals.Terminal.TheVariants as terminal
 use Rattle.mq_ast.specs.Calls.{call_of}
 use Rattle.mq_parse_words.specs.declared.forms.Form.{Form}
 use Rattle.mq_parse_words.specs.declared.forms.Form.TheVariants as form

@@ -10,8 +10,8 @@ use Rattle.mq_ast.specs.declared.expressions.Arm.{Arm}
 use Rattle.mq_ast.specs.declared.expressions.E.{E}
 use Rattle.mq_ast.specs.declared.expressions.E.TheVariants as e
 use Rattle.mq_lexer.specs.declared.keywords.Keyword.TheVariants as word
-use Rattle.mq_ast.specs.declared.terminals.Symbol.TheVariants as sign
-use Rattle.mq_ast.specs.declared.terminals.Terminal.TheVariants as terminal
+use Rattle.mq_lexer.specs.declared.terminals.Symbol.TheVariants as sign
+use Rattle.mq_lexer.specs.declared.terminals.Terminal.TheVariants as terminal
 use Rattle.mq_ast.specs.Tokens.{Tok, Word, Aggregate, Sign, Name, Num, terminal_at, opener, closer, comma, star}
 use Rattle.mq_ast.specs.Continuing.{Not}
 use Rattle.mq_ast.specs.GrammarNames.{KindE, IsInt}

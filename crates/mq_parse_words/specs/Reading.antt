@@ -31,6 +31,7 @@ Fails (fail.Cause refused.Syntax) P = P
 Fails (fail.Cause _) P = ⊥
 
 -- What was read is R of the tokens up to the place given, and such an end is there. SYNTAX: no tree is R of the tokens here.
-abbrev pub Gives : {A : Type 0} → (A → List Tok → List Tok → Type 0) → (List Tok → Type 0) → List Token → ℕ → Result (A × ℕ) (Fail Refused) → Type 0
-Gives R Stop t at (Ok r) = (at ≤ r.1) × (r.1 ≤ length t) × R r.0 (from t at) (from t r.1) × Stop (from t r.1)
-Gives R Stop t at (Err f) = Fails f (No R Stop (from t at))
+abbrev pub IsRead : {A : Type 0} → (A → List Tok → List Tok → Type 0) → (List Tok → Type 0) → List Token → ℕ
+    → Result (A × ℕ) (Fail Refused) → Type 0
+IsRead R Stop t at (Ok r) = (at ≤ r.1) × (r.1 ≤ length t) × R r.0 (from t at) (from t r.1) × Stop (from t r.1)
+IsRead R Stop t at (Err f) = Fails f (No R Stop (from t at))

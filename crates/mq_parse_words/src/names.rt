@@ -7,13 +7,13 @@ ghost use Rattle.mq_ast.specs.declared.levels.TheConstants as level;
 ghost use Rattle.mq_ast.specs.Continuing.{Stops, Not};
 ghost use Rattle.mq_ast.specs.GrammarNames.{PathE, KindE, path_of, scale_of as spec_scale};
 ghost use Rattle.mq_ast.specs.GrammarLists.{NameE};
-ghost use Rattle.mq_parse_words.specs.Reading.{from, Then, Anywhere, Gives};
+ghost use Rattle.mq_parse_words.specs.Reading.{from, Then, Anywhere, IsRead};
 ghost use Rattle.mq_parse_words.specs.Names.{IntE, TextE};
 
-use crate::spelling::content;
+use crate::spelling::{content, number};
 use crate::terminals::{behind_sign, behind_word, pass_sign, pass_word, settled, token_at};
 use mq_ast::{Keyword, Path, Symbol, Terminal, levels};
-use mq_lexer::{Sort, Token, read_number, reserved_word};
+use mq_lexer::Token;
 use mq_values::{Fail, Kind, Memory, Num, Refused, Text, Words};
 use std::alloc::Global;
 
@@ -22,11 +22,8 @@ pub fn name_at<'a>(t: &[Token<'a>], at: usize) -> Option<&'a str>
     ensures { MatchOption result (Not Terminal.Name (from t.now at)) (λ n. Then (tok.Name n.now) t.now at (at + 1)) }
 {
     match token_at(t, at) {
-        Some(token) => match token.sort {
-            Sort::Word => match reserved_word(token.text) {
-                Some(_) => None,
-                None => Some(token.text),
-            },
+        Some(token) => match token.terminal {
+            Terminal::Name => Some(token.text),
             _ => None,
         },
         None => None,
@@ -38,8 +35,8 @@ pub fn number_at(t: &[Token<'_>], at: usize) -> Option<Num>
     ensures { MatchOption result (Not Terminal.Number (from t.now at)) (λ n. Then (tok.Num n) t.now at (at + 1)) }
 {
     match token_at(t, at) {
-        Some(token) => match token.sort {
-            Sort::Number => read_number(token.text),
+        Some(token) => match token.terminal {
+            Terminal::Number => Some(number(token.text)),
             _ => None,
         },
         None => None,
@@ -51,8 +48,8 @@ pub fn text_at(alloc: Global, t: &[Token<'_>], at: usize) -> Result<Option<Text>
     ensures { IfOk result (λ o. MatchOption o (Not Terminal.Text (from t.now at)) (λ z. Then (tok.Text z) t.now at (at + 1))) }
 {
     match token_at(t, at) {
-        Some(token) => match token.sort {
-            Sort::Text => content(alloc, token.text),
+        Some(token) => match token.terminal {
+            Terminal::Text => Ok(Some(content(alloc, token.text)?)),
             _ => Ok(None),
         },
         None => Ok(None),
@@ -61,7 +58,7 @@ pub fn text_at(alloc: Global, t: &[Token<'_>], at: usize) -> Result<Option<Text>
 
 /// A name, as it is spelled.
 pub fn read_name(alloc: Global, t: &[Token<'_>], at: usize) -> Result<(Words, usize), Fail<Refused>>
-    ensures { Gives NameE Anywhere t.now at result }
+    ensures { IsRead NameE Anywhere t.now at result }
 {
     match name_at(t, at) {
         Some(name) => Ok((Words::new(alloc, name)?, at + 1)),
@@ -71,7 +68,7 @@ pub fn read_name(alloc: Global, t: &[Token<'_>], at: usize) -> Result<(Words, us
 
 /// A text's content, as words.
 pub fn read_text(alloc: Global, t: &[Token<'_>], at: usize) -> Result<(Words, usize), Fail<Refused>>
-    ensures { Gives TextE Anywhere t.now at result }
+    ensures { IsRead TextE Anywhere t.now at result }
 {
     match text_at(alloc, t, at)? {
         Some(text) => Ok((Words::new(alloc, text.as_str())?, at + 1)),
@@ -81,7 +78,7 @@ pub fn read_text(alloc: Global, t: &[Token<'_>], at: usize) -> Result<(Words, us
 
 /// A number without a point.
 pub fn read_int(t: &[Token<'_>], at: usize) -> Result<(Num, usize), Fail<Refused>>
-    ensures { Gives IntE Anywhere t.now at result }
+    ensures { IsRead IntE Anywhere t.now at result }
 {
     match number_at(t, at) {
         Some(number) => {
@@ -97,7 +94,7 @@ pub fn read_int(t: &[Token<'_>], at: usize) -> Result<(Num, usize), Fail<Refused
 
 /// A name, or two with a point between them (docs/LANGUAGE.md, "Expressions").
 pub fn read_path(alloc: Global, t: &[Token<'_>], at: usize) -> Result<(Path, usize), Fail<Refused>>
-    ensures { Gives PathE (Stops level.PATH) t.now at result }
+    ensures { IsRead PathE (Stops level.PATH) t.now at result }
 {
     let (first, next) = read_name(alloc, t, at)?;
     let Some(second) = behind_sign(t, next, Symbol::Point) else {
@@ -140,7 +137,7 @@ pub fn scale_of(number: Num) -> u8
 
 /// INT, DECIMAL with its scale, or TEXT (docs/LANGUAGE.md, "Values").
 pub fn read_kind(t: &[Token<'_>], at: usize) -> Result<(Kind, usize), Fail<Refused>>
-    ensures { Gives KindE Anywhere t.now at result }
+    ensures { IsRead KindE Anywhere t.now at result }
 {
     if let Some(to) = behind_word(t, at, Keyword::Int) {
         return Ok((Kind::Int, to));
@@ -155,7 +152,7 @@ pub fn read_kind(t: &[Token<'_>], at: usize) -> Result<(Kind, usize), Fail<Refus
 fn read_decimal(t: &[Token<'_>], at: usize) -> Result<(Kind, usize), Fail<Refused>>
     requires int { Not (Terminal.Word Keyword.Int) (from t.now at) }
     requires text { Not (Terminal.Word Keyword.Text) (from t.now at) }
-    ensures { Gives KindE Anywhere t.now at result }
+    ensures { IsRead KindE Anywhere t.now at result }
 {
     let decimal = pass_word(t, at, Keyword::Decimal)?;
     let open = pass_sign(t, decimal, Symbol::Open)?;

@@ -2,43 +2,24 @@
 
 ghost use Rattle.std.specs.Prelude.{◌≡◌, ◌≢◌, ◌↔◌, ◌<◌, ◌≤◌, ◌+◌, [], ◌∷◌, length, IsTrue, MatchOption, MatchResult};
 ghost use Rattle.mq_lexer.specs.declared.keywords.Keyword.{Keyword};
-ghost use Rattle.mq_ast.specs.declared.terminals.Symbol.{Symbol};
+ghost use Rattle.mq_lexer.specs.declared.terminals.Symbol.{Symbol};
 ghost use Rattle.mq_ast.specs.Tokens.{Word, Sign, terminal_at};
 ghost use Rattle.mq_ast.specs.Spelling.{tok_of};
 ghost use Rattle.mq_ast.specs.Continuing.{loose, Stops, Not};
 ghost use Rattle.mq_parse_words.specs.Reading.{from, Then, Fails};
 
-use crate::spelling::{is_text, symbol};
 use mq_ast::{Keyword, Symbol, Terminal, levels};
-use mq_lexer::{Reserved, Sort, Token, read_number, reserved_word};
+use mq_lexer::Token;
 use mq_values::{Fail, Refused};
 
 /// What a token is for the grammar (docs/LANGUAGE.md, "Tokens").
+#[tactic(auto, using(crate::specs::TokenLemmas::carried))]
 pub fn terminal_of(token: &Token<'_>) -> Terminal
     ensures { result ≡ terminal_at (tok_of token.now ∷ []) }
 {
-    match token.sort {
-        Sort::Word => match reserved_word(token.text) {
-            Some(Reserved::Word(word)) => Terminal::Word(word),
-            Some(Reserved::Aggregate(agg)) => Terminal::Aggregate(agg),
-            None => Terminal::Name,
-        },
-        Sort::Sign => match symbol(token.text) {
-            Some(sign) => Terminal::Sign(sign),
-            None => Terminal::Bad,
-        },
-        Sort::Number => match read_number(token.text) {
-            Some(_) => Terminal::Number,
-            None => Terminal::Bad,
-        },
-        Sort::Text => {
-            if is_text(token.text) {
-                Terminal::Text
-            } else {
-                Terminal::Bad
-            }
-        }
-        Sort::Bad => Terminal::Bad,
+    match token.terminal {
+        Terminal::Nothing => Terminal::Bad,
+        terminal => terminal,
     }
 }
 
@@ -60,32 +41,25 @@ pub fn terminal(t: &[Token<'_>], at: usize) -> Terminal
     }
 }
 
-// The reserved word at a place, where one stands there. The spelling is asked of words alone.
+// The reserved word at a place, where one stands there.
 fn word_at(t: &[Token<'_>], at: usize) -> Option<Keyword>
-    ensures { MatchOption result ((k : Keyword) → Not (Terminal.Word k) (from t.now at)) (λ k. (at < length t.now) × (terminal_at (from t.now at) ≡ Terminal.Word k)) }
+    ensures { MatchOption result ((k : Keyword) → Not (Terminal.Word k) (from t.now at))
+        (λ k. (at < length t.now) × (terminal_at (from t.now at) ≡ Terminal.Word k)) }
 {
-    match token_at(t, at) {
-        Some(token) => match token.sort {
-            Sort::Word => match reserved_word(token.text) {
-                Some(Reserved::Word(word)) => Some(word),
-                _ => None,
-            },
-            _ => None,
-        },
-        None => None,
+    match terminal(t, at) {
+        Terminal::Word(word) => Some(word),
+        _ => None,
     }
 }
 
-/// The sign at a place, where one stands there. The spelling is asked of signs alone.
+/// The sign at a place, where one stands there.
 pub fn sign_at(t: &[Token<'_>], at: usize) -> Option<Symbol>
-    ensures { MatchOption result ((s : Symbol) → Not (Terminal.Sign s) (from t.now at)) (λ s. (at < length t.now) × (terminal_at (from t.now at) ≡ Terminal.Sign s)) }
+    ensures { MatchOption result ((s : Symbol) → Not (Terminal.Sign s) (from t.now at))
+        (λ s. (at < length t.now) × (terminal_at (from t.now at) ≡ Terminal.Sign s)) }
 {
-    match token_at(t, at) {
-        Some(token) => match token.sort {
-            Sort::Sign => symbol(token.text),
-            _ => None,
-        },
-        None => None,
+    match terminal(t, at) {
+        Terminal::Sign(sign) => Some(sign),
+        _ => None,
     }
 }
 
@@ -186,14 +160,11 @@ pub fn looseness(terminal: Terminal) -> u8
     }
 }
 
-/// Whether no token stands at the place that goes on at this level. Below tests signs alone go on.
+/// Whether no token stands at the place that goes on at this level.
 pub fn stops(t: &[Token<'_>], at: usize, level: u8) -> bool
     ensures { IsTrue result ↔ Stops level (from t.now at) }
 {
-    match sign_at(t, at) {
-        Some(sign) => looseness_of_sign(sign) > level,
-        None => level < levels::TEST || looseness(terminal(t, at)) > level,
-    }
+    looseness(terminal(t, at)) > level
 }
 
 /// Nothing, where no token stands at the place that goes on at this level; else SYNTAX.

@@ -10,7 +10,7 @@ use Rattle.mq_ir.specs.declared.query.Left.TheVariants as left
 use Rattle.mq_ir.specs.declared.query.LeftItem.{LeftItem}
 use Rattle.mq_ir.specs.declared.query.PlainPart.{PlainPart}
 use Rattle.mq_ir.specs.Results.{◌>>=◌}
-use Rattle.mq_single_lefts.specs.Conditions.{LeftHasPlaces}
+use Rattle.mq_ir.specs.Ready.{LeftHasPlaces}
 use Rattle.mq_bind_scopes.specs.declared.misuse_numbers.TheConstants.{MISUSE_OF_FOR, MISUSE_OF_PLACE_COUNT}
 use Rattle.mq_bind_scopes.specs.declared.scopes.Owner.TheVariants as owner
 use Rattle.mq_bind_scopes.specs.declared.scopes.Scope.{Scope}

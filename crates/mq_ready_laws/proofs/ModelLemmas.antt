@@ -13,7 +13,6 @@ use Rattle.mq_ir.specs.declared.query.ModelPart.{ModelPart}
 use Rattle.mq_ir.specs.declared.query.PlainPart.{PlainPart}
 use Rattle.mq_ir.specs.declared.query.Rule.{Rule}
 use Rattle.mq_ir.specs.Results.{◌>>=◌}
-use Rattle.mq_single_lefts.specs.Conditions.{LeftHasPlaces}
 use Rattle.mq_bind_scopes.specs.declared.misuse_numbers.TheConstants.{MISUSE_OF_OPTIONS}
 use Rattle.mq_bind_scopes.specs.declared.scopes.Part.TheVariants as part
 use Rattle.mq_bind_scopes.specs.declared.scopes.Scope.{Scope}
@@ -30,7 +29,7 @@ use Rattle.mq_binder.specs.ListWalk.{list_columns, list_exprs, list_kinds}
 use Rattle.mq_binder.specs.ModelWalk.{all_items, iterate_of, lists_and_rules, lists_bound, model_over, model_part, rule_scope, rules_over}
 use Rattle.mq_binder.specs.ReferenceWalk.{references_bound}
 use Rattle.mq_binder.specs.RuleWalk.{rules_bound}
-use Rattle.mq_ready_laws.specs.ReadyLaws.{ModelIsReady}
+use Rattle.mq_ir.specs.Ready.{LeftHasPlaces, ModelIsReady}
 use Rattle.mq_ready_laws.proofs.RuleLemmas.{rules_have_places}
 use Rattle.mq_ready_laws.proofs.StepLemmas.{ok_is, passed, went}
 

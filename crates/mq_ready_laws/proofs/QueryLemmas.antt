@@ -14,7 +14,7 @@ use Rattle.mq_binder.specs.FromWalk.{base_of, grouped_by}
 use Rattle.mq_binder.specs.ModelWalk.{model_group, model_over}
 use Rattle.mq_binder.specs.PlainWalk.{plain_bound}
 use Rattle.mq_binder.specs.QueryWalk.{few_shown, model_key, model_query, model_rows, plain_query, printed_key, query_bound, query_with, shown_scope}
-use Rattle.mq_ready_laws.specs.ReadyLaws.{ModelIsReady, QueryIsReady}
+use Rattle.mq_ir.specs.Ready.{ModelIsReady, QueryIsReady}
 use Rattle.mq_ready_laws.proofs.ModelLemmas.{model_ready}
 use Rattle.mq_ready_laws.proofs.StepLemmas.{ok_is, went}
 

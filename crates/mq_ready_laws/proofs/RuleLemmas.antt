@@ -8,7 +8,7 @@ use Rattle.mq_ir.specs.declared.catalog.Catalog.{Catalog}
 use Rattle.mq_ir.specs.declared.query.PlainPart.{PlainPart}
 use Rattle.mq_ir.specs.declared.query.Rule.{Rule}
 use Rattle.mq_ir.specs.Results.{◌>>=◌}
-use Rattle.mq_single_lefts.specs.Conditions.{LeftHasPlaces}
+use Rattle.mq_ir.specs.Ready.{LeftHasPlaces}
 use Rattle.mq_bind_scopes.specs.declared.scopes.Found.{Found}
 use Rattle.mq_bind_scopes.specs.declared.scopes.Scope.{Scope}
 use Rattle.mq_bind_scopes.specs.Names.{called}

@@ -31,14 +31,15 @@ use Rattle.mq_binder.specs.QueryWalk.{query_bound}
 use Rattle.mq_binder.specs.StatementWalk.{delete_bound, insert_bound, statement_bound, update_bound, update_over, view_bound}
 use Rattle.mq_binder.specs.TableWalk.{columns_named, columns_of, schema_with, table_bound}
 use Rattle.mq_ready_laws.specs.BuiltForms.{built}
-use Rattle.mq_ready_laws.specs.ReadyLaws.{BoundQueryIsReady, BoundViewIsReady, CreatedTableIsNew, LoadIsNotBuilt, QueryIsReady}
+use Rattle.mq_ir.specs.Ready.{QueryIsReady}
+use Rattle.mq_ready_laws.specs.ReadyLaws.{BoundQueryIsReady, BoundViewIsReady, CreatedTableIsNew, CreatedViewIsNew, LoadIsNotBuilt}
 use Rattle.mq_ready_laws.proofs.QueryLemmas.{query_ready}
 use Rattle.mq_ready_laws.proofs.StepLemmas.{ok_is, passed, went}
 
 -- what is known of what a statement is bound to
 abbrev Stands : Catalog → Stmt → Bound → Type 0
 Stands catalog s (bound.CreateTable def) = is_taken catalog def.name ≡ false
-Stands catalog s (bound.CreateView name q) = QueryIsReady q
+Stands catalog s (bound.CreateView name q) = (is_taken catalog name ≡ false) × QueryIsReady q
 Stands catalog s (bound.Query q) = QueryIsReady q
 Stands catalog s (bound.Load table file) = built s ≡ false
 Stands catalog s _ = Unit {0}
@@ -65,7 +66,7 @@ view_stands catalog s name q b h =
     let p = passed (is_taken catalog name) (duplicate_name name) (refused_where (nat_le MAX_VIEWS (length catalog.views)) (limit LIMIT_OF_VIEWS) rest) b h in
     let r = passed (nat_le MAX_VIEWS (length catalog.views)) (limit LIMIT_OF_VIEWS) rest b p.after in
     let w = went (query_bound catalog q) (λ b. Ok (bound.CreateView name b)) b r.after in
-    subst (Stands catalog s) (ok_is (bound.CreateView name w.value) b w.after) (query_ready catalog q w.value w.first)
+    subst (Stands catalog s) (ok_is (bound.CreateView name w.value) b w.after) (p.holds_not, query_ready catalog q w.value w.first)
 
 -- ---- names of tables and views
 named_stands : (catalog : Catalog) (s : Stmt) (test : Bool) (name : Name) (made b : Bound) → refused_where test (unknown_name name) (Ok made) ≡ Ok b → Stands catalog s made → Stands catalog s b
@@ -120,11 +121,14 @@ statement_stands catalog (stmt.Query q) b h =
 pub table_is_new : (catalog : Catalog) (s : Stmt) (def : TableDef) → CreatedTableIsNew catalog s def
 table_is_new catalog s def = statement_stands catalog s (bound.CreateTable def)
 
+pub view_is_new : (catalog : Catalog) (s : Stmt) (name : Name) (q : BoundQuery) → CreatedViewIsNew catalog s name q
+view_is_new catalog s name q h = (statement_stands catalog s (bound.CreateView name q) h).0
+
 pub query_is_ready : (catalog : Catalog) (s : Stmt) (q : BoundQuery) → BoundQueryIsReady catalog s q
 query_is_ready catalog s q = statement_stands catalog s (bound.Query q)
 
 pub view_is_ready : (catalog : Catalog) (s : Stmt) (name : Name) (q : BoundQuery) → BoundViewIsReady catalog s name q
-view_is_ready catalog s name q = statement_stands catalog s (bound.CreateView name q)
+view_is_ready catalog s name q h = (statement_stands catalog s (bound.CreateView name q) h).1
 
 pub load_is_not_built : (catalog : Catalog) (s : Stmt) (table file : Name) → LoadIsNotBuilt catalog s table file
 load_is_not_built catalog s table file is_built h = let n = statement_stands catalog s (bound.Load table file) h in let c : true ≡ false = sym is_built ∙ n in absurd cc

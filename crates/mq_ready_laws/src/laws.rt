@@ -3,11 +3,16 @@ ghost use Rattle.mq_ir.specs.declared.catalog.Catalog.{Catalog};
 ghost use Rattle.mq_ir.specs.declared.query.BoundQuery.{BoundQuery};
 ghost use Rattle.mq_ir.specs.declared.statement.TableDef.{TableDef};
 ghost use Rattle.mq_bind_scopes.specs.Names.{Name};
-ghost use Rattle.mq_ready_laws.specs.ReadyLaws.{BoundQueryIsReady, BoundViewIsReady, CreatedTableIsNew, LoadIsNotBuilt};
+ghost use Rattle.mq_ready_laws.specs.ReadyLaws.{BoundQueryIsReady, BoundViewIsReady, CreatedTableIsNew, CreatedViewIsNew, LoadIsNotBuilt};
 
 /// A table that may be created has a name that no table and no view has.
 pub fn created_tables_are_new()
     ensures { (catalog : Catalog) (s : Stmt) (def : TableDef) → CreatedTableIsNew catalog s def }
+{}
+
+/// So has a view that may be created.
+pub fn created_views_are_new()
+    ensures { (catalog : Catalog) (s : Stmt) (name : Name) (q : BoundQuery) → CreatedViewIsNew catalog s name q }
 {}
 
 /// The model of a query has a place for each dimension on each left side, and the query's items are the columns of its

@@ -5,7 +5,7 @@ ghost use Rattle.mq_ir.specs.Placed.{at_partition, placed_fault};
 ghost use Rattle.mq_refmodel.specs.Arrays.{array_of};
 
 use crate::rows::evaluated_rows;
-use mq_ir::{RefArray, RefPart};
+use mq_ir::{PlacedFault, RefArray, RefPart};
 use mq_shape::{RowCells, cells_of};
 use mq_values::{Fail, FaultKind, Key, MAX_CELLS_OF_REFERENCE, QueryFault};
 use std::alloc::Global;
@@ -32,10 +32,5 @@ pub fn reference(alloc: Global, q: &RefPart, items: &[Key]) -> Result<RefArray, 
 fn fault_at(kind: FaultKind, cell: Key) -> QueryFault
     ensures { result ≡ at_partition [] (placed_fault 0 cell kind) }
 {
-    QueryFault {
-        kind,
-        rule: 0,
-        partition: Key::empty(),
-        cell,
-    }
+    PlacedFault::new(0, cell, kind).at_partition(Key::empty())
 }

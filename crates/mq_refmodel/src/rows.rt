@@ -1,14 +1,11 @@
 //! The rows of a reference, their dimensions and measures evaluated.
-ghost use Rattle.std.specs.Prelude.{◌≡◌};
 ghost use Rattle.mq_values.specs.Answers.{Gives};
-ghost use Rattle.mq_ir.specs.Answer as answer;
-ghost use Rattle.mq_ir.specs.Placed as placed;
 ghost use Rattle.mq_ir.specs.Results.{each};
 ghost use Rattle.mq_refmodel.specs.Arrays.{row_found, values_found};
 
 use crate::place::evaluated;
-use mq_ir::RefPart;
-use mq_values::{Fail, FaultKind, Items, Key, QueryFault, ValueFault};
+use mq_ir::{RefPart, kind_of, plain_fault};
+use mq_values::{Fail, Items, Key, QueryFault, ValueFault};
 use std::alloc::Global;
 
 /// The dimensions and then the measures over each row, which stands as the one FROM item; or the first fault.
@@ -32,7 +29,7 @@ fn evaluated_row(alloc: Global, q: &RefPart, row: &Key) -> Result<(Key, Key), Fa
 {
     match values_over(alloc, q, row) {
         Ok(cell) => Ok(cell),
-        Err(Fail::Cause(fault)) => Err(Fail::Cause(plain_fault(fault))),
+        Err(Fail::Cause(fault)) => Err(Fail::Cause(plain_fault(0, kind_of(fault)))),
         Err(Fail::Memory) => Err(Fail::Memory),
     }
 }
@@ -44,26 +41,4 @@ fn values_over(alloc: Global, q: &RefPart, row: &Key) -> Result<(Key, Key), Fail
     let key = evaluated(alloc, q.dims.as_slice(), row)?;
     let measures = evaluated(alloc, q.measures.as_slice(), row)?;
     Ok((key, measures))
-}
-
-// The fault that a value fault makes in a reference.
-fn plain_fault(fault: ValueFault) -> QueryFault
-    ensures { result ≡ answer.plain_fault 0 (placed.kind_of fault) }
-{
-    QueryFault {
-        kind: kind_of(fault),
-        rule: 0,
-        partition: Key::empty(),
-        cell: Key::empty(),
-    }
-}
-
-fn kind_of(fault: ValueFault) -> FaultKind
-    ensures { result ≡ placed.kind_of fault }
-{
-    match fault {
-        ValueFault::Overflow => FaultKind::Overflow,
-        ValueFault::DivideByZero => FaultKind::DivideByZero,
-        ValueFault::TextTooLong => FaultKind::TextTooLong,
-    }
 }

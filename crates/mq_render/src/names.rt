@@ -1,9 +1,8 @@
 //! The printed names of faults.
 ghost use Rattle.std.specs.Prelude.{◌≡◌};
 ghost use Rattle.mq_ir.specs.Lines.{fault_name as name_of_fault};
-ghost use Rattle.mq_ir.specs.Placed.{kind_of as spec_kind_of};
 
-use mq_values::{FaultKind, ValueFault};
+use mq_values::FaultKind;
 
 /// The printed name of a fault (docs/LANGUAGE.md, "Faults").
 pub fn fault_name(kind: FaultKind) -> &'static str
@@ -20,16 +19,5 @@ pub fn fault_name(kind: FaultKind) -> &'static str
         FaultKind::TooManyCells => "TOO_MANY_CELLS",
         FaultKind::TooManyUnfolded => "TOO_MANY_UNFOLDED",
         FaultKind::TooManyRows => "TOO_MANY_ROWS",
-    }
-}
-
-/// The fault of a query that a value fault makes.
-pub fn kind_of(fault: ValueFault) -> FaultKind
-    ensures { result ≡ spec_kind_of fault }
-{
-    match fault {
-        ValueFault::Overflow => FaultKind::Overflow,
-        ValueFault::DivideByZero => FaultKind::DivideByZero,
-        ValueFault::TextTooLong => FaultKind::TextTooLong,
     }
 }

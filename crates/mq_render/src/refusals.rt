@@ -3,8 +3,9 @@ ghost use Rattle.std.specs.Prelude.{◌≡◌, ◌++◌, OnOk, OnErr};
 ghost use Rattle.mq_ir.specs.Lines.{RefusalLine, line_text, refusal_text as text_of_refusal};
 ghost use Rattle.mq_render.specs.Pieces.{BeginsWith, piece_text};
 
-use crate::names::{fault_name, kind_of};
+use crate::names::fault_name;
 use crate::pieces::{Piece, push_piece, push_pieces};
+use mq_ir::kind_of;
 use mq_values::{Memory, Refused};
 
 /// Appends the line of a refusal of the statement whose first token is on this line of the script

@@ -10,9 +10,9 @@ use Rattle.mq_ir.specs.Results.{◌>>=◌, each_in_turn, marked}
 use Rattle.mq_ir.specs.Targets.{Targets}
 use Rattle.mq_ir.specs.Unfolding.{Model, unfold_rule}
 use Rattle.mq_unfold.specs.LeftSides.{rule_of}
-use Rattle.mq_single_lefts.specs.declared.fixed.Fixed.{Fixed}
-use Rattle.mq_single_lefts.specs.FixedLefts.{IsFixed, NamesKey}
-use Rattle.mq_single_lefts.specs.Lefts.{lefts_of}
+use Rattle.mq_unfold.specs.declared.fixed.Fixed.{Fixed}
+use Rattle.mq_unfold.specs.FixedLefts.{IsFixed, NamesKey}
+use Rattle.mq_unfold.specs.SingleLefts.{lefts_of}
 use Rattle.mq_seq.specs.Steps.{State, acting, left_done, rule_done}
 
 -- ---- the rule acts by this left side

@@ -6,7 +6,7 @@ use Rattle.mq_ir.specs.Keys.{Tuple}
 use Rattle.mq_ir.specs.Partitions.{Cells}
 use Rattle.mq_ir.specs.Unfolding.{Model}
 use Rattle.mq_dim_index.specs.Places.{with_key}
-use Rattle.mq_single_lefts.specs.Conditions.{HaveLength}
+use Rattle.mq_ir.specs.Ready.{HaveLength}
 use Rattle.mq_seq.specs.Tracks.{Track, create}
 use Rattle.mq_seq.proofs.NoteLemmas.{create_cells}
 use Rattle.mq_seq.proofs.PlaceLemmas.{keys_with}

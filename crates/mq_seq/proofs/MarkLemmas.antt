@@ -12,7 +12,7 @@ use Rattle.mq_ir.specs.declared.query.OutCell.{OutCell}
 use Rattle.mq_ir.specs.Iteration.{out_cell}
 use Rattle.mq_ir.specs.Keys.{Tuple, is_among, is_same}
 use Rattle.mq_dim_index.specs.Places.{is_there, place_of, with_key}
-use Rattle.mq_single_lefts.specs.StepLaws.{next_item}
+use Rattle.mq_ir.specs.StepLaws.{next_item}
 use Rattle.mq_seq.specs.Marks.{marked_keys, row_of}
 use Rattle.mq_seq.proofs.MapLemmas.{none_after, stands}
 use Rattle.mq_seq.proofs.NoteLemmas.{turned}

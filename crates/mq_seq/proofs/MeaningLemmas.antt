@@ -29,9 +29,9 @@ use Rattle.mq_ir.specs.Unfolding.{Model}
 use Rattle.mq_seq.specs.Outcomes.{rows_left, rows_of, rows_over}
 use Rattle.mq_seq.specs.Steps.{State, acting, begun, left_done, rule_done, target_done, target_value, turn_done, turn_with, turns_done, until_in, until_true}
 use Rattle.mq_seq.specs.Tracks.{Firsts, Track, assign, create, measure_from, start_of}
-use Rattle.mq_single_lefts.specs.Lefts.{lefts_of}
-use Rattle.mq_single_lefts.specs.KeySetLaws.{among_with}
-use Rattle.mq_single_lefts.specs.StepLaws.{fault_is_last}
+use Rattle.mq_unfold.specs.SingleLefts.{lefts_of}
+use Rattle.mq_values.specs.KeySetLaws.{among_with}
+use Rattle.mq_ir.specs.StepLaws.{fault_is_last}
 use Rattle.mq_seq.proofs.NoteLemmas.{assign_cells, assign_tells, create_cells, create_tells}
 
 -- the same targets so far

@@ -3,7 +3,7 @@ use Rattle.std.proofs.Common.{◌≡◌, ℕ, ◌+◌, ◌<◌, ◌≤◌, List,
 use Rattle.std.specs.Prelude.{if◌then◌else◌}
 use Rattle.std.specs.List.{find, fold}
 use Rattle.std.proofs.lemmas.List.{drop_all}
-use Rattle.mq_single_lefts.specs.StepLaws.{next_item}
+use Rattle.mq_ir.specs.StepLaws.{next_item}
 
 -- `fold`: what the first i items made
 pub record Folded {A B : Type 0} (f : B → A → B) (first : B) (xs : List A) (i : ℕ) (now : B) : Type 0 where

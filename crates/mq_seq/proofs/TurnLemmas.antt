@@ -6,7 +6,7 @@ use Rattle.mq_ir.specs.Placed.{Placed}
 use Rattle.mq_ir.specs.Results.{◌>>=◌}
 use Rattle.mq_ir.specs.Unfolding.{Model}
 use Rattle.mq_seq.specs.Steps.{State, turn_with, turns_done, until_in}
-use Rattle.mq_single_lefts.specs.StepLaws.{fault_is_last}
+use Rattle.mq_ir.specs.StepLaws.{fault_is_last}
 
 -- the state when a turn begins, of so many
 pub record Rounds (model : Model) (count : ℕ) (first : State) (turn : ℕ) (now : State) : Type 0 where

@@ -8,7 +8,7 @@ use Rattle.mq_ir.specs.declared.query.Model.{Model as Lent}
 use Rattle.mq_ir.specs.Partitions.{Tuple}
 use Rattle.mq_ir.specs.Unfolding.{model_of}
 use Rattle.mq_refs.specs.Orders.{ArraysAscend}
-use Rattle.mq_single_lefts.specs.FixedLefts.{AreFixed}
+use Rattle.mq_unfold.specs.FixedLefts.{AreFixed}
 use Rattle.mq_seq.specs.declared.prepared.Prepared.{Prepared}
 
 -- the cells of every reference ascend, where that is known

@@ -18,7 +18,7 @@ use Rattle.mq_ir.specs.Targets.{targets}
 use Rattle.mq_ir.specs.Unfolding.{Model, model_of}
 use Rattle.mq_values.specs.Truth.{is_true}
 use Rattle.mq_dim_index.specs.Places.{with_key}
-use Rattle.mq_single_lefts.specs.Lefts.{lefts_of}
+use Rattle.mq_unfold.specs.SingleLefts.{lefts_of}
 use Rattle.mq_seq.specs.Tracks.{Track, assign, begun_track, create, measure_from}
 use Rattle.mq_seq.specs.declared.acting.Acting.{Acting}
 

@@ -10,8 +10,8 @@ ghost use Rattle.mq_seq.specs.Steps.{act_in, target_done, target_value};
 use crate::acting::Acting;
 use crate::grid::Grid;
 use crate::lent_values::LentValues;
+use mq_ir::{PlacedFault, kind_of};
 use mq_refs::right_value_over;
-use mq_single_lefts::{PlacedFault, kind_of};
 use mq_values::{Fail, Key, Value, ValueFault};
 use std::alloc::Global;
 

@@ -7,7 +7,7 @@ ghost use Rattle.mq_values.specs.Order.{cmp_key};
 ghost use Rattle.mq_ir.specs.Iteration.{out_cell as spec_out_cell};
 ghost use Rattle.mq_ir.specs.Unfolding.{model_of};
 ghost use Rattle.mq_dim_index.specs.Places.{is_there, with_key};
-ghost use Rattle.mq_single_lefts.specs.Conditions.{HaveLength};
+ghost use Rattle.mq_ir.specs.Ready.{HaveLength};
 ghost use Rattle.mq_seq.specs.Marks.{marked_keys, row_of};
 ghost use Rattle.mq_seq.specs.Steps.{begun, created_in};
 ghost use Rattle.mq_seq.specs.Tracks.{assign};
@@ -36,7 +36,7 @@ impl Model for Grid {
     ghost use Rattle.std.specs.List.Sorted.{IsStrictlySortedBy};
     ghost use Rattle.std.specs.Map.{keys_of};
     ghost use Rattle.mq_values.specs.Order.{cmp_key};
-    ghost use Rattle.mq_single_lefts.specs.Conditions.{HaveLength};
+    ghost use Rattle.mq_ir.specs.Ready.{HaveLength};
     ghost use Rattle.mq_seq.specs.Marks.{marked_keys};
     ghost use Rattle.mq_seq.specs.Steps.{State};
 

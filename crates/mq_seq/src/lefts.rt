@@ -6,17 +6,17 @@ ghost use Rattle.mq_ir.specs.Results.{each_in_turn};
 ghost use Rattle.mq_ir.specs.Keys.{is_among};
 ghost use Rattle.mq_ir.specs.Sequential as spec;
 ghost use Rattle.mq_ir.specs.Targets.{targets as spec_targets};
-ghost use Rattle.mq_single_lefts.specs.Conditions.{HavePlaces};
-ghost use Rattle.mq_single_lefts.specs.FixedLefts.{NamesKey};
+ghost use Rattle.mq_ir.specs.Ready.{HavePlaces};
+ghost use Rattle.mq_unfold.specs.FixedLefts.{NamesKey};
 ghost use Rattle.mq_seq.specs.Steps.{act_in, left_done};
 
 use crate::acting::Acting;
 use crate::assigning::assign_all;
 use crate::grid::Grid;
 use crate::self_order::order_missing;
-use mq_ir::SingleLeft;
-use mq_single_lefts::{Fixed, PlacedFault};
+use mq_ir::{PlacedFault, SingleLeft};
 use mq_targets::targets;
+use mq_unfold::Fixed;
 use mq_values::{Fail, FaultKind, Key, MAX_CELLS_OF_PARTITION, Memory, Mode};
 use std::alloc::Global;
 

@@ -8,15 +8,14 @@ ghost use Rattle.mq_ir.specs.Iteration.{sequential};
 ghost use Rattle.mq_values.specs.declared.memory.Fail.TheVariants as fail;
 ghost use Rattle.mq_ir.specs.Placed.{placed_fault};
 ghost use Rattle.mq_ir.specs.Unfolding.{model_of};
-ghost use Rattle.mq_single_lefts.specs.Conditions.{HaveLength, IsReady, LeftsHavePlaces};
+ghost use Rattle.mq_ir.specs.Ready.{HaveLength, IsReady, LeftsHavePlaces};
 ghost use Rattle.mq_seq.specs.Outcomes.{rows_left, rows_over};
 
 use crate::cell_map::map_of;
 use crate::grid::Grid;
 use crate::turns::take_turns;
-use mq_ir::{Model, OutCell, PartInput, PartResult};
+use mq_ir::{Model, OutCell, PartInput, PartResult, PlacedFault};
 use mq_refs::arrays_ascend;
-use mq_single_lefts::PlacedFault;
 use mq_values::{Fail, FaultKind, Items, Key, MAX_CELLS_OF_PARTITION, Memory};
 use std::alloc::Global;
 

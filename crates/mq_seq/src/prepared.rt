@@ -1,11 +1,11 @@
 //! What is found of a model once, before its turns.
 ghost use Rattle.std.specs.Prelude.{◌≡◌, IfOk, IfSome};
 ghost use Rattle.mq_ir.specs.Unfolding.{model_of, Model as Modeled};
-ghost use Rattle.mq_single_lefts.specs.Conditions.{LeftsHavePlaces};
-ghost use Rattle.mq_single_lefts.specs.FixedLefts.{AreFixed, IsFixed};
+ghost use Rattle.mq_ir.specs.Ready.{LeftsHavePlaces};
+ghost use Rattle.mq_unfold.specs.FixedLefts.{AreFixed, IsFixed};
 
 use mq_ir::Model;
-use mq_single_lefts::{Fixed, fixed_left};
+use mq_unfold::{Fixed, fixed_left};
 use mq_values::Memory;
 use std::alloc::Global;
 

@@ -3,7 +3,7 @@ ghost use Rattle.std.specs.Prelude.{◌≡◌, length, Some, IfOk};
 ghost use Rattle.mq_values.specs.Answers.{Gives};
 ghost use Rattle.mq_ir.specs.Unfolding.{model_of};
 ghost use Rattle.mq_unfold.specs.LeftSides.{rule_of};
-ghost use Rattle.mq_single_lefts.specs.Conditions.{LeftHasPlaces, LeftsHavePlaces};
+ghost use Rattle.mq_ir.specs.Ready.{LeftHasPlaces, LeftsHavePlaces};
 ghost use Rattle.mq_seq.specs.Known.{IsPrepared};
 ghost use Rattle.mq_seq.specs.Steps.{rule_done, turn_done};
 
@@ -11,8 +11,8 @@ use crate::acting::Acting;
 use crate::grid::Grid;
 use crate::lefts::{act_all, act_fixed};
 use crate::prepared::{Prepared, fixed_at};
-use mq_ir::{Model, Rule};
-use mq_single_lefts::{PlacedFault, single_lefts};
+use mq_ir::{Model, PlacedFault, Rule};
+use mq_unfold::single_lefts;
 use mq_values::Fail;
 use std::alloc::Global;
 

@@ -5,15 +5,14 @@ ghost use Rattle.std.specs.Map.{keys_of};
 ghost use Rattle.mq_ir.specs.Looks as looks;
 ghost use Rattle.mq_ir.specs.Sequential as spec;
 ghost use Rattle.mq_ir.specs.Targets.{is_symbolic as spec_is_symbolic, place_is_symbolic};
-ghost use Rattle.mq_single_lefts.specs.KeySets.{HasKeysOf};
+ghost use Rattle.mq_values.specs.KeySets.{HasKeysOf};
 ghost use Rattle.mq_seq.specs.Steps.{act_in, first_past, looks_past as spec_looks_past};
 
 use crate::acting::Acting;
 use crate::grid::Grid;
 use mq_ir::{Look, SingleLeft, SinglePlace};
 use mq_refs::looks_in;
-use mq_single_lefts::{KeySet, set_of};
-use mq_values::{Key, Memory};
+use mq_values::{Key, KeySet, Memory, set_of};
 use std::alloc::Global;
 
 /// Where a left side has a symbolic item and no ORDER BY: the first of its targets that looks at the assigned measure of

@@ -4,7 +4,7 @@ ghost use Rattle.std.specs.Option.{option_copied};
 ghost use Rattle.mq_values.specs.Answers.{Gives};
 ghost use Rattle.mq_ir.specs.Iteration.{turn_count};
 ghost use Rattle.mq_ir.specs.Unfolding.{model_of};
-ghost use Rattle.mq_single_lefts.specs.Conditions.{LeftsHavePlaces};
+ghost use Rattle.mq_ir.specs.Ready.{LeftsHavePlaces};
 ghost use Rattle.mq_seq.specs.Known.{IsPrepared, RefsInOrder};
 ghost use Rattle.mq_seq.specs.Steps.{turn_with, turns_done, until_in};
 
@@ -12,8 +12,7 @@ use crate::grid::Grid;
 use crate::prepared::{Prepared, fixed_lefts};
 use crate::rules::act_rules;
 use crate::until::until_true;
-use mq_ir::{Expr, Model};
-use mq_single_lefts::PlacedFault;
+use mq_ir::{Expr, Model, PlacedFault};
 use mq_values::Fail;
 use std::alloc::Global;
 

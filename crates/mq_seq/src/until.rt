@@ -18,14 +18,13 @@ ghost use Rattle.mq_seq.specs.Tracks.{measure_from};
 use crate::cell_map::CellMap;
 use crate::grid::Grid;
 use crate::tracked::Tracked;
-use mq_ir::{Expr, Leaf, Model, Test};
+use mq_ir::{Expr, Leaf, Model, PlacedFault, Test, kind_of};
 use mq_reads::{Aggregation, nav};
 use mq_refs::{
     Standpoint, UNKNOWN_ORDER, cell_named, flag, inner_leaf, is_there, kind_in, meets_every,
     reference_cell, tests_named,
 };
 use mq_scalar::{Env, holds};
-use mq_single_lefts::{PlacedFault, kind_of};
 use mq_values::{Agg, DimTest, Fail, Key, Value, ValueFault};
 use std::alloc::Global;
 

@@ -10,8 +10,8 @@ use Rattle.mq_values.specs.OrderTells.{key_itself, same_key}
 use Rattle.mq_ir.specs.Keys.{Tuple, each_first, is_same}
 use Rattle.mq_ir.specs.Partitions.{ascending, first_of, repeated, stands_twice}
 use Rattle.mq_shape.specs.Repeats.{first_twice, twice_from}
-use Rattle.mq_sort.specs.Rising.{Low, Rising}
-use Rattle.mq_sort.specs.SortLaws.{none_tied, one_rising, rising_ascending, rising_kept, tied_ascending}
+use Rattle.mq_ir.specs.Rising.{Low, Rising}
+use Rattle.mq_ir.specs.SortLaws.{none_tied, one_rising, rising_ascending, rising_kept, tied_ascending}
 
 equal_is : (r : Ordering) → is_eq r ≡ true → r ≡ Equal
 equal_is Less h = cc

@@ -10,10 +10,10 @@ use Rattle.mq_values.specs.OrderLaws.{key_total}
 use Rattle.mq_ir.specs.declared.query.ModelPart.{ModelPart}
 use Rattle.mq_ir.specs.Keys.{Tuple, each_first, is_same}
 use Rattle.mq_ir.specs.Partitions.{ascending, input_of, partitions}
-use Rattle.mq_sort.specs.Rising.{Low, Rising}
+use Rattle.mq_ir.specs.Rising.{Low, Rising}
 use Rattle.mq_shape.specs.Runs.{by_parts, has_parts, input_from, inputs_in}
 use Rattle.mq_shape.proofs.KeyLemmas.{first_ascending, first_kept, kept_mapped, kept_twice, same_is, same_itself}
-use Rattle.mq_sort.specs.SortLaws.{kept_ascending, less_on, mapped_ascending, none_front}
+use Rattle.mq_ir.specs.SortLaws.{kept_ascending, less_on, mapped_ascending, none_front}
 
 next_item : {A : Type 0} (xs : List A) (i : ℕ) (x : A) → i < length xs → x ≡ get_or xs i x → drop i xs ≡ x ∷ drop (i + 1) xs
 next_item xs i x h e = drop-cons xs i x h ∙ (λ j. sym e j ∷ drop (sym (add-one i) j) xs)

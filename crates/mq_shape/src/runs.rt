@@ -3,7 +3,7 @@ ghost use Rattle.std.specs.Prelude.{◌≡◌, ◌≤◌, take, drop, not, lengt
 ghost use Rattle.std.specs.List.{filter};
 ghost use Rattle.mq_ir.specs.Partitions as spec;
 ghost use Rattle.mq_shape.specs.Runs.{by_parts, has_parts, input_from, inputs_in};
-ghost use Rattle.mq_sort.specs.Rising.{Low, Rising};
+ghost use Rattle.mq_ir.specs.Rising.{Low, Rising};
 
 use crate::cells::cells_of;
 use crate::cuts::{cut_rows, key_of, up_to};

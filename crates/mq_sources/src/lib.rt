@@ -4,7 +4,6 @@
 #![tactic(auto)]
 
 mod arrays;
-mod faults;
 mod joined_rows;
 mod lists;
 mod sources;

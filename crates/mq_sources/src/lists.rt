@@ -5,9 +5,8 @@ ghost use Rattle.mq_values.specs.Answers.{Gives};
 ghost use Rattle.mq_ir.specs.Answer as spec;
 ghost use Rattle.mq_ir.specs.Results.{each};
 
-use crate::faults::rule_fault;
 use crate::sources::items_over;
-use mq_ir::{Left, LeftItem, ListSource, ModelPart, PlainPart, Rule};
+use mq_ir::{Left, LeftItem, ListSource, ModelPart, PlainPart, Rule, plain_fault};
 use mq_tables::TableSet;
 use mq_values::{Fail, Items, Key, Memory, QueryFault};
 use std::alloc::Global;
@@ -54,7 +53,7 @@ fn list_over<T: TableSet>(
         Ok(rows) => Ok(rows),
         Err(Fail::Cause(fault)) => {
             let rule = rule_of_list(part, number)?;
-            Err(Fail::Cause(rule_fault(rule, fault.kind)))
+            Err(Fail::Cause(plain_fault(rule, fault.kind)))
         }
         Err(Fail::Memory) => Err(Fail::Memory),
     }

@@ -27,27 +27,28 @@ use Rattle.mq_engine.specs.declared.views.NoView.{NoView}
 use Rattle.mq_engine.specs.Catalogs.{catalog_of}
 use Rattle.mq_engine.specs.Sessions.{view_answer}
 use Rattle.mq_ready_laws.specs.BuiltForms.{built}
-use Rattle.mq_ready_laws.specs.ReadyLaws.{BoundQueryIsReady, BoundViewIsReady, CreatedTableIsNew, LoadIsNotBuilt}
+use Rattle.mq_ready_laws.specs.ReadyLaws.{BoundQueryIsReady, BoundViewIsReady, CreatedTableIsNew, CreatedViewIsNew, LoadIsNotBuilt}
 use Rattle.mq_tool.specs.Script.{IsReadAs, Read, Tree, meaning, or_refusal, statement_step}
 use Rattle.mq_tool.specs.Steps.{CanRun, CutShort, Does, Steps, Takes, Tries, Writes}
-use Rattle.mq_tool.proofs.CatalogLemmas.{not_there, ready}
+use Rattle.mq_tool.proofs.CatalogLemmas.{no_view, not_there}
 use Rattle.mq_tool.proofs.ReadLemmas.{one_read}
 
 -- what a built statement is bound to can be done
 pub can_run : (state : State) (s : Stmt) (b : Bound) → built s ≡ true → statement_bound (catalog_of state) s ≡ Ok b
     → ((def : TableDef) → CreatedTableIsNew (catalog_of state) s def)
+    → ((name : List ℕ) (q : BoundQuery) → CreatedViewIsNew (catalog_of state) s name q)
     → ((q : BoundQuery) → BoundQueryIsReady (catalog_of state) s q)
     → ((name : List ℕ) (q : BoundQuery) → BoundViewIsReady (catalog_of state) s name q)
     → ((table file : List ℕ) → LoadIsNotBuilt (catalog_of state) s table file)
     → CanRun state b
-can_run state s (bound.CreateTable def) is e tables queries views loads = not_there state def.name (tables def e)
-can_run state s (bound.DropTable name) is e tables queries views loads = tt
-can_run state s (bound.CreateView name q) is e tables queries views loads = ready q (views name q e)
-can_run state s (bound.DropView name) is e tables queries views loads = tt
-can_run state s (bound.Change change) is e tables queries views loads = tt
-can_run state s (bound.Load table file) is e tables queries views loads = loads table file is e
-can_run state s (bound.Show name) is e tables queries views loads = tt
-can_run state s (bound.Query q) is e tables queries views loads = ready q (queries q e)
+can_run state s (bound.CreateTable def) is e tables named queries views loads = not_there state def.name (tables def e)
+can_run state s (bound.DropTable name) is e tables named queries views loads = tt
+can_run state s (bound.CreateView name q) is e tables named queries views loads = (no_view (catalog_of state) name (named name q e), views name q e)
+can_run state s (bound.DropView name) is e tables named queries views loads = tt
+can_run state s (bound.Change change) is e tables named queries views loads = tt
+can_run state s (bound.Load table file) is e tables named queries views loads = loads table file is e
+can_run state s (bound.Show name) is e tables named queries views loads = tt
+can_run state s (bound.Query q) is e tables named queries views loads = queries q e
 
 -- the answer of a view that is there or not, and what SHOW prints of it
 abbrev answered : State → Option View → List ℕ → Result Answer NoView

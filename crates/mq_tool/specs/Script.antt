@@ -27,7 +27,7 @@ pub data Read : Type 0 where
 
 -- the tokens as the grammar sees them
 abbrev pub seen : List Lexeme → List Tok
-seen tokens = map (λ t. tok t.sort t.text) tokens
+seen tokens = map (λ t. tok t.terminal t.text) tokens
 
 abbrev pub IsReadAs : List Lexeme → Read → Type 0
 IsReadAs tokens Deep = TooDeep (seen tokens)

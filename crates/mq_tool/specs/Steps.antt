@@ -1,5 +1,5 @@
 -- What the parts of a run give.
-use Rattle.std.specs.Prelude.{◌≡◌, ⊤, ℕ, Bool, List, ◌++◌, Option, None, Result, Ok, Err}
+use Rattle.std.specs.Prelude.{◌≡◌, ⊤, ℕ, Bool, false, List, ◌++◌, Option, None, Result, Ok, Err}
 use Rattle.std.specs.List.{list_any}
 use Rattle.std.specs.Io.KnownBytes.{Appends}
 use Rattle.mq_io.specs.Progress.{AppendsFront}
@@ -12,9 +12,11 @@ use Rattle.mq_ast.specs.declared.statements.Stmt.{Stmt}
 use Rattle.mq_ir.specs.declared.statement.Bound.{Bound}
 use Rattle.mq_ir.specs.declared.statement.Bound.TheVariants as bound
 use Rattle.mq_ir.specs.Lines.{Line, is_flaw, text_of}
+use Rattle.mq_ir.specs.Names.{is_view}
 use Rattle.mq_ir.specs.Statement.{Files, Printed, State}
 use Rattle.mq_ir.specs.Tables.{table_at}
-use Rattle.mq_engine.specs.Queries.{IsReady}
+use Rattle.mq_ir.specs.Ready.{QueryIsReady}
+use Rattle.mq_engine.specs.Catalogs.{catalog_of}
 use Rattle.mq_tool.specs.Script.{ArePrinted, IsReadAs, Read, Tree, meaning, statement_step, tree_of}
 
 -- What tokens are read as, with the tree where they have one. Want of memory says nothing.
@@ -23,11 +25,11 @@ Finds tokens (Ok s) = IsReadAs tokens (Tree s)
 Finds tokens (Err (fail.Cause refusal)) = (read : Read) × IsReadAs tokens read × (tree_of read ≡ Err refusal)
 Finds tokens (Err fail.Memory) = ⊤
 
--- what the engine asks of a bound statement: a table is new, a query is ready, and it is no LOAD
+-- what the engine asks of a bound statement: a table or a view is new, a query is ready, and it is no LOAD
 abbrev pub CanRun : State → Bound → Type 0
 CanRun state (bound.CreateTable def) = table_at state.tables def.name ≡ None
-CanRun state (bound.CreateView name query) = IsReady query
-CanRun state (bound.Query query) = IsReady query
+CanRun state (bound.CreateView name query) = (is_view (catalog_of state) name ≡ false) × QueryIsReady query
+CanRun state (bound.Query query) = QueryIsReady query
 CanRun state (bound.Load table file) = ⊥
 CanRun state _ = ⊤
 

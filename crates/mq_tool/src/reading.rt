@@ -15,7 +15,8 @@ use mq_ir::Bound;
 use mq_lexer::Token;
 use mq_parse_stmt::parse;
 use mq_ready_laws::{
-    built, created_tables_are_new, loads_are_not_built, queries_are_ready, views_are_ready,
+    built, created_tables_are_new, created_views_are_new, loads_are_not_built, queries_are_ready,
+    views_are_ready,
 };
 use mq_values::{Boxed, Fail, Refused};
 use std::alloc::Global;
@@ -40,6 +41,7 @@ pub fn bound_of(alloc: Global, engine: &Engine, tree: &Stmt) -> Result<Bound, Fa
     ensures can_run { IfOk result (CanRun engine.now) }
 {
     created_tables_are_new();
+    created_views_are_new();
     queries_are_ready();
     views_are_ready();
     loads_are_not_built();

@@ -73,33 +73,6 @@ pub fn run<S: Source, F: Shelf, K: Sink, G: Gate>(
     if !words.is_empty() {
         return BAD_WORDS;
     }
-    run_source(alloc, script, out, gate)
-}
-
-// Reads the script and runs it.
-fn run_source<S: Source, K: Sink, G: Gate>(
-    alloc: Global,
-    script: &mut S,
-    out: &mut K,
-    gate: &G,
-) -> u8
-    ensures range { IsStatus result × (result ≢ BAD_WORDS) }
-    ensures read_failed { result ≡ READ_FAILED → Rose (S.faults script.old) (S.faults script.new) }
-    ensures write_failed { result ≡ WRITE_FAILED → Rose (K.faults out.old) (K.faults out.new) }
-    ensures nothing { (result ≡ READ_FAILED) ⊎ (result ≡ TOO_LONG) ⊎ (result ≡ NOT_UTF8) → out.new ≡ out.old }
-    ensures end { IsWhole result → IsAtEnd (S.left script.new) }
-    ensures stops { GaveAtMost (MAX_SCRIPT_BYTES + READ_SIZE) (S.left script.old) (S.left script.new) }
-    ensures too_long { IfSome (S.left script.old)
-        (λ b. (result ≡ TOO_LONG) ↔ GaveMore MAX_SCRIPT_BYTES (Some b) (S.left script.new)) }
-    ensures not_utf8 { result ≡ NOT_UTF8 → IfSome (S.left script.old)
-        (λ b. (length b ≤ MAX_SCRIPT_BYTES) × ¬ IsUtf8 b) }
-    ensures is_script { IsWhole result ⊎ (result ≡ WRITE_FAILED) → IfSome (S.left script.old) IsScript }
-    ensures done { IsWhole result → IfSome (S.left script.old) (λ b. (files : Files) → (lines : List Line) × IsOutput files b lines
-        × Appends (K.taken out.old) (K.taken out.new) (text_of lines) × (result ≡ status_of lines)) }
-    ensures cut_short { (result ≡ WRITE_FAILED) ⊎ (result ≡ NO_MEMORY) → IfSome (S.left script.old) (λ b. (files : Files) (lines : List Line)
-        → IsOutput files b lines → AppendsFront (K.taken out.old) (K.taken out.new) (text_of lines)) }
-    ensures no_script { result ≡ NO_MEMORY → IfSome (S.left script.old) (λ b. ¬ IsScript b → out.new ≡ out.old) }
-{
     match read_all(alloc, script, MAX_SCRIPT_BYTES) {
         Ok(bytes) => run_bytes(alloc, &bytes, out, gate),
         Err(ReadFault::TooLong) => TOO_LONG,

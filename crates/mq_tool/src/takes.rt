@@ -1,11 +1,13 @@
 //! What a bound statement does, and the lines that it prints.
 
-ghost use Rattle.std.specs.Prelude.{◌≡◌, None};
+ghost use Rattle.std.specs.Prelude.{◌≡◌, None, false};
 ghost use Rattle.std.specs.List.{list_any};
 ghost use Rattle.mq_ir.specs.Lines.{is_flaw};
+ghost use Rattle.mq_ir.specs.Names.{is_view};
 ghost use Rattle.mq_ir.specs.Statement as spec;
 ghost use Rattle.mq_ir.specs.Tables.{table_at};
-ghost use Rattle.mq_engine.specs.Queries.{IsReady};
+ghost use Rattle.mq_ir.specs.Ready.{QueryIsReady};
+ghost use Rattle.mq_engine.specs.Catalogs.{catalog_of};
 ghost use Rattle.mq_tool.specs.Steps.{CanLend, CanRun, Takes};
 
 use mq_engine::Engine;
@@ -46,8 +48,8 @@ fn take_lent<G: Gate>(
     ensures { (files : spec.Files) → Takes (spec.taken files engine.old bound.now) engine.old engine.new out.old.items out.new.items result }
 {
     match bound {
-        Bound::DropTable(name) => drop_table(alloc, engine, name, out),
-        Bound::DropView(name) => drop_view(alloc, engine, name, out),
+        Bound::DropTable(name) => drop_table(engine, name, out),
+        Bound::DropView(name) => drop_view(engine, name, out),
         Bound::Change(change) => apply(alloc, engine, change, out, gate),
         Bound::Show(name) => show(alloc, engine, name, out, gate),
         Bound::Query(query) => ask(alloc, engine, query, out, gate),
@@ -70,15 +72,10 @@ fn create_table(
     Ok(false)
 }
 
-fn drop_table(
-    alloc: Global,
-    engine: &mut Engine,
-    name: &Words,
-    out: &mut Vec<u8>,
-) -> Result<bool, Fail<Refused>>
+fn drop_table(engine: &mut Engine, name: &Words, out: &mut Vec<u8>) -> Result<bool, Fail<Refused>>
     ensures { (files : spec.Files) → Takes (spec.taken files engine.old (Bound.DropTable name.now)) engine.old engine.new out.old.items out.new.items result }
 {
-    engine.drop_table(alloc, name.as_str())?;
+    engine.drop_table(name.as_str())?;
     done_text(out)?;
     Ok(false)
 }
@@ -91,7 +88,8 @@ fn create_view<G: Gate>(
     out: &mut Vec<u8>,
     gate: &G,
 ) -> Result<bool, Fail<Refused>>
-    requires { IsReady query }
+    requires named { is_view (catalog_of engine.old) name.now ≡ false }
+    requires ready { QueryIsReady query }
     ensures { (files : spec.Files) → Takes (spec.taken files engine.old (Bound.CreateView name.now query)) engine.old engine.new out.old.items out.new.items result }
 {
     engine.create_view(alloc, name.as_str(), query, gate)?;
@@ -99,15 +97,10 @@ fn create_view<G: Gate>(
     Ok(false)
 }
 
-fn drop_view(
-    alloc: Global,
-    engine: &mut Engine,
-    name: &Words,
-    out: &mut Vec<u8>,
-) -> Result<bool, Fail<Refused>>
+fn drop_view(engine: &mut Engine, name: &Words, out: &mut Vec<u8>) -> Result<bool, Fail<Refused>>
     ensures { (files : spec.Files) → Takes (spec.taken files engine.old (Bound.DropView name.now)) engine.old engine.new out.old.items out.new.items result }
 {
-    engine.drop_view(alloc, name.as_str());
+    engine.drop_view(name.as_str());
     done_text(out)?;
     Ok(false)
 }
@@ -152,7 +145,7 @@ fn ask<G: Gate>(
     out: &mut Vec<u8>,
     gate: &G,
 ) -> Result<bool, Fail<Refused>>
-    requires { IsReady query.now }
+    requires { QueryIsReady query.now }
     ensures { (files : spec.Files) → Takes (spec.taken files engine.now (Bound.Query query.now)) engine.now engine.now out.old.items out.new.items result }
 {
     let answer = engine.query(alloc, query, gate)?;

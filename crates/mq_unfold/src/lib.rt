@@ -4,13 +4,17 @@
 #![tactic(auto)]
 
 mod copies;
+mod fixed;
 mod forms;
 mod fronts;
 mod left_sides;
 mod places;
+mod rule_lefts;
 mod sources;
 mod spreads;
 mod steps;
 mod turn;
 
+pub use fixed::{Fixed, fixed_left};
 pub use left_sides::{UnfoldFault, unfold};
+pub use rule_lefts::single_lefts;

@@ -5,8 +5,11 @@ pub mod Bytes
 pub mod Convert
 pub mod DimTestLaws
 pub mod DimTests
+pub mod KeySetLaws
+pub mod KeySets
 pub mod Keys
 pub mod Laws
+pub mod ListLaws
 pub mod Number
 pub mod NumberLaws
 pub mod NumberOrder

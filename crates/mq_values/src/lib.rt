@@ -11,6 +11,7 @@ mod dim_tests;
 mod faults;
 mod items;
 mod key;
+mod key_set;
 mod laws;
 mod limits;
 mod memory;
@@ -32,6 +33,7 @@ pub use dim_tests::{compare, truth_and, truth_not, truth_or};
 pub use faults::{FaultKind, QueryFault, Refused, ValueFault};
 pub use items::Items;
 pub use key::Key;
+pub use key_set::{KeySet, set_of};
 pub use laws::{
     keys_are_ordered, order_agrees_with_comparison, values_are_ordered, values_print_apart,
 };

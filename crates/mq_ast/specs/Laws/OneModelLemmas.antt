@@ -15,9 +15,9 @@ use Rattle.mq_ast.specs.declared.parts.Head.{Head}
 use Rattle.mq_ast.specs.declared.parts.Body.{Body}
 use Rattle.mq_ast.specs.declared.parts.Tail.{Tail}
 use Rattle.mq_lexer.specs.declared.keywords.Keyword.TheVariants as word
-use Rattle.mq_ast.specs.declared.terminals.Symbol.TheVariants as sign
-use Rattle.mq_ast.specs.declared.terminals.Terminal.{Terminal}
-use Rattle.mq_ast.specs.declared.terminals.Terminal.TheVariants as terminal
+use Rattle.mq_lexer.specs.declared.terminals.Symbol.TheVariants as sign
+use Rattle.mq_lexer.specs.declared.terminals.Terminal.{Terminal}
+use Rattle.mq_lexer.specs.declared.terminals.Terminal.TheVariants as terminal
 use Rattle.mq_ast.specs.Tokens.{Tok}
 use Rattle.mq_ast.specs.declared.levels.TheConstants as level
 use Rattle.mq_ast.specs.declared.clauses.TheConstants as clause

@@ -1,4 +1,4 @@
-use Rattle.std.proofs.Common.{◌≡◌, ℕ, ◌<◌, Bool, true, false, ◌&&◌, cond, eqb, List, [], ◌∷◌, ◌++◌, length, get_or, refl, ap, sym, ◌∙◌, inl, inr, arith}
+use Rattle.std.proofs.Common.{◌≡◌, ℕ, ◌<◌, Bool, true, false, ◌&&◌, cond, eqb, List, [], ◌∷◌, ◌++◌, length, get_or, refl, ap, sym, subst, ◌∙◌, inl, inr, arith}
 use Rattle.std.proofs.lemmas.Bool.Decides.{nat_tests, Decides-eqb}
 use Rattle.std.proofs.lemmas.List.{append-nil}
 use Rattle.std.specs.Prelude.{Option, Some, None, nat_le, is_some, pos}
@@ -7,16 +7,18 @@ use Rattle.std.specs.List.{fold, list_all, list_any}
 use Rattle.std.specs.Option.{option_map}
 use Rattle.std.specs.Str.{bytes_eq}
 use Rattle.mq_values.specs.declared.limits.TheConstants.{MAX_SCALE}
-use Rattle.mq_lexer.specs.declared.keywords.Reserved.{Reserved}
-use Rattle.mq_lexer.specs.declared.keywords.Reserved.TheVariants as reserved
+use Rattle.mq_lexer.specs.declared.terminals.Terminal.{Terminal}
+use Rattle.mq_lexer.specs.declared.terminals.Terminal.TheVariants as terminal
 use Rattle.mq_lexer.specs.declared.sorts.Sort.{Sort}
 use Rattle.mq_lexer.specs.declared.sorts.Sort.TheVariants as sort
+use Rattle.mq_lexer.specs.Classes.{symbols, symbol_of, class_of_word, class_of_sign, class_of}
 use Rattle.mq_lexer.specs.Lexemes.{Lexeme}
 use Rattle.mq_lexer.specs.Numbers.{number_of, places, with_digit, is_small}
 use Rattle.mq_lexer.specs.SignLemmas.{listed}
 use Rattle.mq_lexer.specs.Spelling.{IsSpelled, SpellsText, SpellsWhole, doubled, signs}
 use Rattle.mq_lexer.specs.Tokens.{tokens}
-use Rattle.mq_ast.specs.Spelling.{Reads, ReadsNumber, ReadsSign, ReadsText, content_tok, number_tok, sign_tok, symbol_of, symbols, text_tok, tok, unquoted, word_tok}
+use Rattle.mq_lexer.specs.Words.{folded, spelled, reserved, reserved_of}
+use Rattle.mq_ast.specs.Spelling.{Reads, ReadsNumber, ReadsSign, ReadsText, number_or_zero, text_or_empty, content_of, tok, unquoted, ReadsWord}
 use Rattle.mq_ast.specs.Tokens.{Tok, Num, Text, Bad}
 use Rattle.mq_ast.proofs.laws.tokens_are_read.Goals as goal
 
@@ -56,10 +58,10 @@ all-append p (x ∷ xs) ys all more =
 
 -- the limits are kept
 within : (z : List ℕ) (m : ℕ) (scale : ℕ) → places z ≡ scale → nat_le scale MAX_SCALE ≡ true → is_small z ≡ true → fold with_digit 0 z ≡ m
-    → number_tok (number_of z) ≡ Num (record { mant = pos m; scale = scale })
+    → Num (number_or_zero (number_of z)) ≡ Num (record { mant = pos m; scale = scale })
 within z m scale at few small is = rw (at, few, small, is) refl
 
-whole-reads : (z : List ℕ) → SpellsWhole z true → ReadsNumber z (number_tok (number_of z))
+whole-reads : (z : List ℕ) → SpellsWhole z true → ReadsNumber z (Num (number_or_zero (number_of z)))
 whole-reads z s =
     let same : z ++ [] ≡ z = append-nil z in
     record {
@@ -71,7 +73,7 @@ whole-reads z s =
     }
 
 fraction-reads : (z whole fraction : List ℕ) → z ≡ whole ++ 46 ∷ fraction → 0 < length fraction → list_all is_ascii_digit whole ≡ true → list_all is_ascii_digit fraction ≡ true
-    → true ≡ (nat_le (length fraction) MAX_SCALE && is_small z) → ReadsNumber z (number_tok (number_of z))
+    → true ≡ (nat_le (length fraction) MAX_SCALE && is_small z) → ReadsNumber z (Num (number_or_zero (number_of z)))
 fraction-reads z whole [] is some digits more limit = absurd (omega arith)
 fraction-reads z whole (b ∷ fraction) is some digits more limit =
     let f = b ∷ fraction in
@@ -103,12 +105,12 @@ unquoted-doubled (b ∷ c) =
       | false ↦ λ e. rw e (ap (option_map (λ c. b ∷ c)) (unquoted-doubled c))
     ] refl
 
-text-reads : (z : List ℕ) → SpellsText z true → ReadsText z (text_tok z)
+text-reads : (z : List ℕ) → SpellsText z true → ReadsText z (Text (text_or_empty (content_of z)))
 text-reads z s =
     record {
       content = s.content;
       spelled = s.is;
-      is = ap text_tok s.is ∙ ap content_tok (unquoted-doubled s.content) ∙ ap (λ q. cond q (Text s.content) Bad) (sym s.limit);
+      is = ap (λ z. Text (text_or_empty (content_of z))) s.is ∙ ap (λ o. Text (text_or_empty o)) (unquoted-doubled s.content) ∙ ap (λ q. Text (cond q s.content [])) (sym s.limit);
     }
 
 -- ---- signs
@@ -120,18 +122,56 @@ all_symbols : list_all has_symbol signs ≡ true
 unfolding has_symbol symbols
 all_symbols = refl
 
-sign-reads : (z : List ℕ) → list_any (bytes_eq z) signs ≡ true → ReadsSign z (sign_tok (symbol_of z))
+sign-reads : (z : List ℕ) → list_any (bytes_eq z) signs ≡ true → ReadsSign z (tok (class_of_sign (symbol_of z)) z)
 unfolding has_symbol
 sign-reads z is =
-    elim (symbol_of z) as (λ o. (symbol_of z ≡ o) → is_some o ≡ true → ReadsSign z (sign_tok o)) [
+    elim (symbol_of z) as (λ o. (symbol_of z ≡ o) → is_some o ≡ true → ReadsSign z (tok (class_of_sign o) z)) [
       | None ↦ λ e some. absurd (cc)
       | Some s ↦ λ e some. record { symbol = s; spelled = e; is = refl }
     ] refl (listed has_symbol z signs is all_symbols)
 
 -- ---- each token
 
-reads : (k : Sort) (z : List ℕ) → IsSpelled k z → Reads k z (tok k z)
-reads sort.Word z s = refl
+-- the table of reserved words has keywords and aggregates alone
+abbrev is_reserved_class : Option Terminal → Bool
+is_reserved_class None = true
+is_reserved_class (Some (terminal.Word k)) = true
+is_reserved_class (Some (terminal.Aggregate g)) = true
+is_reserved_class (Some _) = false
+
+listed-class : (z : List ℕ) (ws : List (List ℕ × Terminal)) → list_all (λ w. is_reserved_class (Some w.1)) ws ≡ true → is_reserved_class (spelled z ws) ≡ true
+listed-class z [] all = refl
+listed-class z (w ∷ ws) all =
+    elim (bytes_eq w.0 z) as (λ q. is_reserved_class (cond q (Some w.1) (spelled z ws)) ≡ true) [
+      | true ↦ first (is_reserved_class (Some w.1)) (list_all (λ w. is_reserved_class (Some w.1)) ws) all
+      | false ↦ listed-class z ws (second (is_reserved_class (Some w.1)) (list_all (λ w. is_reserved_class (Some w.1)) ws) all)
+    ]
+  where
+    first : (q r : Bool) → (q && r) ≡ true → q ≡ true
+    first true r e = refl
+    first false r e = absurd (cc)
+
+    second : (q r : Bool) → (q && r) ≡ true → r ≡ true
+    second true r e = e
+    second false r e = absurd (cc)
+
+all_reserved : list_all (λ w. is_reserved_class (Some w.1)) reserved ≡ true
+unfolding reserved
+all_reserved = refl
+
+word-reads : (z : List ℕ) (o : Option Terminal) → is_reserved_class o ≡ true → ReadsWord z o (tok (class_of_word o) z)
+word-reads z None e = refl
+word-reads z (Some (terminal.Word k)) e = refl
+word-reads z (Some (terminal.Aggregate g)) e = refl
+word-reads z (Some (terminal.Sign s)) e = absurd (cc)
+word-reads z (Some terminal.Name) e = absurd (cc)
+word-reads z (Some terminal.Number) e = absurd (cc)
+word-reads z (Some terminal.Text) e = absurd (cc)
+word-reads z (Some terminal.Bad) e = absurd (cc)
+word-reads z (Some terminal.Nothing) e = absurd (cc)
+
+reads : (k : Sort) (z : List ℕ) → IsSpelled k z → Reads k z (tok (class_of k z) z)
+reads sort.Word z s = word-reads z (reserved_of z) (listed-class (folded z) reserved all_reserved)
 reads sort.Number z (inl bad) = absurd (cc)
 reads sort.Number z (inr (inl s)) = whole-reads z s
 reads sort.Number z (inr (inr s)) = fraction-reads z s.whole s.fraction s.is s.some s.whole_digits s.fraction_digits s.limit
@@ -141,13 +181,19 @@ reads sort.Sign z (inl bad) = absurd (cc)
 reads sort.Sign z (inr s) = sign-reads z s.0
 reads sort.Bad z s = refl
 
-word-good : (z : List ℕ) (o : Option Reserved) → word_tok z o ≡ Bad → ⊥
-word-good z None e = absurd (cc)
-word-good z (Some (reserved.Word k)) e = absurd (cc)
-word-good z (Some (reserved.Aggregate g)) e = absurd (cc)
+word-good : (z : List ℕ) (o : Option Terminal) (t : Tok) → ReadsWord z o t → t ≡ Bad → ⊥
+word-good z None t r e = absurd (cc)
+word-good z (Some (terminal.Word k)) t r e = absurd (cc)
+word-good z (Some (terminal.Aggregate g)) t r e = absurd (cc)
+word-good z (Some (terminal.Sign s)) t r e = r
+word-good z (Some terminal.Name) t r e = r
+word-good z (Some terminal.Number) t r e = r
+word-good z (Some terminal.Text) t r e = r
+word-good z (Some terminal.Bad) t r e = r
+word-good z (Some terminal.Nothing) t r e = r
 
 bad_alone : (k : Sort) (z : List ℕ) (t : Tok) → Reads k z t → t ≡ Bad → k ≡ sort.Bad
-bad_alone sort.Word z t r e = absurd (word-good z _ (sym r ∙ e))
+bad_alone sort.Word z t r e = absurd (word-good z (reserved_of z) t r e)
 bad_alone sort.Number z t r e = let is = r.is in absurd (cc)
 bad_alone sort.Text z t r e = let is = r.is in absurd (cc)
 bad_alone sort.Sign z t r e = let is = r.is in absurd (cc)
@@ -156,9 +202,10 @@ bad_alone sort.Bad z t r e = refl
 pub returns : goal.returns
 returns c =
     let token : (z : List ℕ) (k : ℕ) (d : Lexeme) → Lexeme = λ z k d. get_or (tokens z) k d in
-    let read : (z : List ℕ) (k : ℕ) (d : Lexeme) → k < length (tokens z) → Reads (token z k d).sort (token z k d).text (tok (token z k d).sort (token z k d).text) =
-    λ z k d below. reads (token z k d).sort (token z k d).text (c.tokens_are_spelled.ensures z k d below) in
+    let read : (z : List ℕ) (k : ℕ) (d : Lexeme) → k < length (tokens z) → Reads (token z k d).sort (token z k d).text (tok (token z k d).terminal (token z k d).text) =
+    λ z k d below. subst (λ s. Reads (token z k d).sort (token z k d).text (tok s (token z k d).text)) (sym (c.tokens_are_of_their_class.ensures z k d below))
+    (reads (token z k d).sort (token z k d).text (c.tokens_are_spelled.ensures z k d below)) in
     record {
       read = read;
-      bad = λ z k d below. bad_alone (token z k d).sort (token z k d).text (tok (token z k d).sort (token z k d).text) (read z k d below);
+      bad = λ z k d below. bad_alone (token z k d).sort (token z k d).text (tok (token z k d).terminal (token z k d).text) (read z k d below);
     }

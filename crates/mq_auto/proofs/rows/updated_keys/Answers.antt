@@ -1,5 +1,5 @@
 use Rattle.mq_ir.specs.Shape.{Assignment}
-use Rattle.mq_single_lefts.specs.KeySetLaws.{gather_end, gather_next, gather_start}
+use Rattle.mq_values.specs.KeySetLaws.{gather_end, gather_next, gather_start}
 use Rattle.mq_auto.proofs.rows.updated_keys.Goals as goal
 
 pub marking-init : goal.marking-init

@@ -1,5 +1,5 @@
 use Rattle.mq_ir.specs.Shape.{Assignment}
-use Rattle.mq_single_lefts.specs.KeySetLaws.{Gathered}
+use Rattle.mq_values.specs.KeySetLaws.{Gathered}
 use Rattle.mq_auto.proofs.rows.updated_keys.Given as goal
 
 abbrev pub invariant-marking : goal.invariant-marking

@@ -3,7 +3,7 @@ use Rattle.std.proofs.lemmas.Map.Views.{All-insert_key}
 use Rattle.mq_values.specs.Order.{cmp_key}
 use Rattle.mq_ir.specs.Keys.{Tuple}
 use Rattle.mq_dim_index.specs.Places.{is_there}
-use Rattle.mq_single_lefts.specs.Conditions.{HaveLength}
+use Rattle.mq_ir.specs.Ready.{HaveLength}
 use Rattle.mq_auto_shape.proofs.GrowthLemmas.{put_there}
 use Rattle.mq_auto_shape.proofs.growth.put_key.Goals as goal
 

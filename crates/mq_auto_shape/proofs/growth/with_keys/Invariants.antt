@@ -1,7 +1,7 @@
 use Rattle.std.proofs.Common.{◌≡◌, ◌≤◌, ◌++◌, length, drop}
 use Rattle.mq_values.specs.Order.{cmp_key}
 use Rattle.mq_ir.specs.Partitions.{ascending}
-use Rattle.mq_single_lefts.specs.Conditions.{HaveLength}
+use Rattle.mq_ir.specs.Ready.{HaveLength}
 use Rattle.mq_auto_shape.proofs.growth.with_keys.Given as goal
 
 abbrev pub invariant-placing : goal.invariant-placing

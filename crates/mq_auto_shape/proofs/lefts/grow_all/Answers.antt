@@ -1,6 +1,6 @@
 use Rattle.std.proofs.lemmas.Result.{err_from_is_err_and}
 use Rattle.mq_auto_shape.specs.Walk.{left_grown}
-use Rattle.mq_single_lefts.specs.StepLaws.{turn_exit, turn_next}
+use Rattle.mq_ir.specs.StepLaws.{turn_exit, turn_next}
 use Rattle.mq_auto_shape.proofs.lefts.grow_all.Goals as goal
 
 pub returns-in_err-growth : goal.returns-in_err-growth

@@ -1,5 +1,5 @@
 use Rattle.mq_auto_shape.specs.Walk.{left_grown}
-use Rattle.mq_single_lefts.specs.StepLaws.{Turned}
+use Rattle.mq_ir.specs.StepLaws.{Turned}
 use Rattle.mq_auto_shape.proofs.lefts.grow_all.Given as goal
 
 abbrev pub invariant-lefts : goal.invariant-lefts

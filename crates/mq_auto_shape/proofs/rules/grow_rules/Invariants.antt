@@ -1,7 +1,7 @@
 use Rattle.std.proofs.Common.{◌≡◌}
 use Rattle.mq_ir.specs.Unfolding.{model_of}
 use Rattle.mq_auto_shape.specs.Walk.{rule_grown}
-use Rattle.mq_single_lefts.specs.StepLaws.{Numbered}
+use Rattle.mq_ir.specs.StepLaws.{Numbered}
 use Rattle.mq_auto_shape.proofs.rules.grow_rules.Given as goal
 
 abbrev pub invariant-rules : goal.invariant-rules

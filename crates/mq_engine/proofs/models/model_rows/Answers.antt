@@ -1,6 +1,6 @@
 use Rattle.std.proofs.Common.{Ok, ap, subst, sym, ◌∙◌}
 use Rattle.std.specs.List.{All}
-use Rattle.mq_single_lefts.specs.Conditions.{IsReady}
+use Rattle.mq_ir.specs.Ready.{IsReady}
 use Rattle.mq_sources.specs.References.{cells_of_arrays}
 use Rattle.mq_engine.proofs.ReadyLemmas.{all_ready}
 use Rattle.mq_engine.proofs.RowLemmas.{rows_gathered}

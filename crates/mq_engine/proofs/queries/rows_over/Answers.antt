@@ -1,8 +1,8 @@
-use Rattle.std.proofs.Common.{subst}
+use Rattle.std.proofs.Common.{length, subst}
 use Rattle.std.specs.Option.{IfSome}
 use Rattle.std.proofs.lemmas.Result.{err_from_is_err_and}
 use Rattle.mq_values.specs.Answers.{Gives}
-use Rattle.mq_engine.specs.Queries.{HasModel}
+use Rattle.mq_ir.specs.Ready.{ModelIsReady}
 use Rattle.mq_engine.proofs.AnswerLemmas.{items_have, may_run, no_items, with_model, without_model}
 use Rattle.mq_engine.proofs.queries.rows_over.Goals as goal
 
@@ -16,7 +16,7 @@ shown_cells-requires g c =
     let q = c.args.q.now in
     let items = c.in_ok-items.items in
     let long = items_have (g.T.TableSet.tables c.args.tables.now) q.from q.items items c.in_ok-items.ensures in
-    let model = subst (λ o. IfSome o (HasModel q)) c.in-Some.is c.requires in
+    let model = subst (λ o. IfSome o (ModelIsReady (length q.items.items))) c.in-Some.is c.requires in
     may_run q c.in-Some.part items model long
 
 pub returns-in-Some : goal.returns-in-Some

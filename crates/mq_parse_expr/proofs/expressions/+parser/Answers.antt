@@ -3,8 +3,8 @@ use Rattle.mq_values.specs.declared.operators.Func.TheVariants as func
 use Rattle.mq_ast.specs.declared.expressions.E.{E}
 use Rattle.mq_ast.specs.declared.expressions.E.TheVariants as tree
 use Rattle.mq_lexer.specs.declared.keywords.Keyword.TheVariants as word
-use Rattle.mq_ast.specs.declared.terminals.Symbol.TheVariants as sign
-use Rattle.mq_ast.specs.declared.terminals.Terminal.TheVariants as terminal
+use Rattle.mq_lexer.specs.declared.terminals.Symbol.TheVariants as sign
+use Rattle.mq_lexer.specs.declared.terminals.Terminal.TheVariants as terminal
 use Rattle.mq_ast.specs.Tokens.{Word, Aggregate, Sign, Name, terminal_at, opener, closer, comma}
 use Rattle.mq_ast.specs.declared.levels.TheConstants as level
 use Rattle.mq_ast.specs.Continuing.{Stops, Ends}

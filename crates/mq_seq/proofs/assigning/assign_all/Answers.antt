@@ -1,7 +1,7 @@
 use Rattle.std.proofs.Common.{◌∙◌}
 use Rattle.std.proofs.lemmas.Result.{err_from_is_err_and}
 use Rattle.mq_seq.specs.Steps.{act_in, target_done}
-use Rattle.mq_single_lefts.specs.StepLaws.{turn_exit, turn_next}
+use Rattle.mq_ir.specs.StepLaws.{turn_exit, turn_next}
 use Rattle.mq_seq.proofs.assigning.assign_all.Goals as goal
 
 pub returns-in_err-grid-clause-exact : goal.returns-in_err-grid-clause-exact

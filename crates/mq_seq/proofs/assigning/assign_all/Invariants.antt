@@ -1,6 +1,6 @@
 use Rattle.std.proofs.Common.{◌≡◌}
 use Rattle.mq_seq.specs.Steps.{act_in, target_done}
-use Rattle.mq_single_lefts.specs.StepLaws.{Turned}
+use Rattle.mq_ir.specs.StepLaws.{Turned}
 use Rattle.mq_seq.proofs.assigning.assign_all.Given as goal
 
 abbrev pub invariant-targets : goal.invariant-targets

@@ -2,7 +2,7 @@ use Rattle.std.proofs.Common.{◌≡◌, length, sym, subst, ◌∙◌}
 use Rattle.std.proofs.lemmas.Result.{err_from_is_err_and}
 use Rattle.mq_ir.specs.declared.query.SingleLeft.{SingleLeft}
 use Rattle.mq_seq.specs.Steps.{act_in, left_done}
-use Rattle.mq_single_lefts.specs.StepLaws.{turn_exit, turn_next}
+use Rattle.mq_ir.specs.StepLaws.{turn_exit, turn_next}
 use Rattle.mq_seq.proofs.lefts.act_all.Goals as goal
 
 pub act_one-requires : goal.act_one-requires

@@ -1,6 +1,6 @@
 use Rattle.std.proofs.Common.{◌≡◌}
 use Rattle.mq_seq.specs.Steps.{act_in, left_done}
-use Rattle.mq_single_lefts.specs.StepLaws.{Turned}
+use Rattle.mq_ir.specs.StepLaws.{Turned}
 use Rattle.mq_seq.proofs.lefts.act_all.Given as goal
 
 abbrev pub invariant-lefts : goal.invariant-lefts

@@ -2,10 +2,10 @@ use Rattle.std.proofs.Common.{sym, ap, subst, ◌∙◌}
 use Rattle.mq_values.specs.Answers.{Gives}
 use Rattle.mq_ir.specs.Results.{each_in_turn}
 use Rattle.mq_ir.specs.Targets.{targets}
-use Rattle.mq_single_lefts.specs.Conditions.{HaveLength}
+use Rattle.mq_ir.specs.Ready.{HaveLength}
 use Rattle.mq_seq.specs.Steps.{act_in, target_done}
 use Rattle.mq_seq.proofs.LeftLemmas.{left_fails, left_passes}
-use Rattle.mq_single_lefts.specs.CreatedLaws.{created_long}
+use Rattle.mq_ir.specs.CreatedLaws.{created_long}
 use Rattle.mq_seq.proofs.lefts.act_one.Goals as goal
 
 pub targets-requires : goal.targets-requires

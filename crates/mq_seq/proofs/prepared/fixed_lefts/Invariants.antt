@@ -1,6 +1,6 @@
 use Rattle.std.proofs.Common.{◌≡◌}
 use Rattle.mq_ir.specs.Unfolding.{model_of}
-use Rattle.mq_single_lefts.specs.FixedLefts.{AreFixed}
+use Rattle.mq_unfold.specs.FixedLefts.{AreFixed}
 use Rattle.mq_seq.proofs.prepared.fixed_lefts.Given as goal
 
 abbrev pub invariant-rules : goal.invariant-rules

@@ -1,7 +1,7 @@
 use Rattle.std.proofs.Common.{◌≡◌}
 use Rattle.mq_ir.specs.Unfolding.{model_of}
 use Rattle.mq_seq.specs.Steps.{rule_done}
-use Rattle.mq_single_lefts.specs.StepLaws.{Numbered}
+use Rattle.mq_ir.specs.StepLaws.{Numbered}
 use Rattle.mq_seq.proofs.rules.act_rules.Given as goal
 
 abbrev pub invariant-rules : goal.invariant-rules

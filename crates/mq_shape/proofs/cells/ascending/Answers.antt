@@ -7,7 +7,7 @@ use Rattle.mq_values.specs.Order.{cmp_key}
 use Rattle.mq_values.specs.OrderLaws.{key_total}
 use Rattle.mq_ir.specs.Keys.{Tuple}
 use Rattle.mq_ir.specs.Partitions.{ascending}
-use Rattle.mq_sort.specs.SortLaws.{stable_is_ascending}
+use Rattle.mq_ir.specs.SortLaws.{stable_is_ascending}
 use Rattle.mq_shape.proofs.cells.ascending.Goals as goal
 
 pub returns : goal.returns

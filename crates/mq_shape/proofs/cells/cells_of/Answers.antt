@@ -3,7 +3,7 @@ use Rattle.mq_values.specs.Order.{cmp_key}
 use Rattle.mq_ir.specs.Keys.{Tuple}
 use Rattle.mq_shape.specs.Repeats.{first_twice}
 use Rattle.mq_shape.proofs.KeyLemmas.{repeated_is}
-use Rattle.mq_sort.specs.SortLaws.{mapped_ascending}
+use Rattle.mq_ir.specs.SortLaws.{mapped_ascending}
 use Rattle.mq_shape.proofs.cells.cells_of.Goals as goal
 
 pub returns-clause-repeated : goal.returns-clause-repeated

@@ -2,10 +2,10 @@ use Rattle.std.proofs.Common.{◌≡◌, arith, false, sym, ap, subst, ◌∙◌
 use Rattle.std.specs.Prelude.{◌==◌}
 use Rattle.std.proofs.lemmas.Bool.Decides.{nat_tests}
 use Rattle.std.proofs.lemmas.Result.{IfOk-weaker}
-use Rattle.mq_sort.specs.Rising.{Rising}
+use Rattle.mq_ir.specs.Rising.{Rising}
 use Rattle.mq_shape.specs.Runs.{by_parts, inputs_in}
 use Rattle.mq_shape.proofs.RunLemmas.{parts_total, partitions_in}
-use Rattle.mq_sort.specs.SortLaws.{rising_ascending}
+use Rattle.mq_ir.specs.SortLaws.{rising_ascending}
 use Rattle.mq_shape.proofs.parts.partitions.Goals as goal
 
 pub inputs-requires : goal.inputs-requires

@@ -6,7 +6,7 @@ use Rattle.mq_ir.specs.Keys.{Tuple}
 use Rattle.mq_ir.specs.Partitions.{ascending}
 use Rattle.mq_shape.specs.Runs.{by_parts}
 use Rattle.mq_shape.proofs.RunLemmas.{all_taken, parts_total}
-use Rattle.mq_sort.specs.SortLaws.{stable_is_ascending}
+use Rattle.mq_ir.specs.SortLaws.{stable_is_ascending}
 use Rattle.mq_shape.proofs.runs.ascending.Goals as goal
 
 pub returns : goal.returns

@@ -1,9 +1,9 @@
 use Rattle.std.proofs.Common.{◌≡◌, rules, ◌<◌, not, ◌++◌, ◌∷◌, [], length, take, drop, sym, ap, subst, ◌∙◌, append_assoc, arith}
 use Rattle.std.proofs.lemmas.List.{length-drop}
-use Rattle.mq_sort.specs.Rising.{Rising}
+use Rattle.mq_ir.specs.Rising.{Rising}
 use Rattle.mq_shape.specs.Runs.{by_parts, input_from, inputs_in, has_parts}
 use Rattle.mq_shape.proofs.RunLemmas.{low_first, parts_total, run_some, run_taken}
-use Rattle.mq_sort.specs.SortLaws.{rising_kept}
+use Rattle.mq_ir.specs.SortLaws.{rising_kept}
 use Rattle.mq_shape.proofs.runs.inputs.Goals as goal
 
 pub run_length-count-requires-clause-least : goal.run_length-count-requires-clause-least

@@ -1,5 +1,5 @@
 use Rattle.std.proofs.Common.{◌≡◌, ◌++◌, length}
-use Rattle.mq_sort.specs.Rising.{Rising}
+use Rattle.mq_ir.specs.Rising.{Rising}
 use Rattle.mq_shape.specs.Runs.{by_parts, inputs_in}
 use Rattle.mq_shape.proofs.runs.inputs.Given as goal
 

@@ -16,4 +16,4 @@ returns-in_ok-rule-in-Err-Cause g c =
     let faulted : marked (plain_fault 0) found ≡ Err fault = rw c.in-Err-Cause.field-0-is at c.in-Err-Cause.ensures in
     of_rule found (rule_of_list c.args.part.now c.args.number) fault faulted
     ∙ ap (λ rule. Err (plain_fault rule fault.kind)) (sym c.in_ok-rule-in-Err-Cause.ensures)
-    ∙ ap Err (sym c.rule_fault.ensures)
+    ∙ ap Err (sym c.plain_fault.ensures)

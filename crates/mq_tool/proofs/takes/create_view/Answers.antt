@@ -1,9 +1,14 @@
 use Rattle.std.proofs.Common.{false, refl, sym, ap, ◌∙◌}
 use Rattle.mq_ir.specs.declared.statement.Bound.TheVariants as bound
 use Rattle.mq_ir.specs.Lines.{Done}
+use Rattle.mq_ir.specs.Names.{is_view}
 use Rattle.mq_ir.specs.Statement.{taken}
+use Rattle.mq_engine.specs.Catalogs.{catalog_of}
 use Rattle.mq_tool.proofs.StepLemmas.{line_taken}
 use Rattle.mq_tool.proofs.takes.create_view.Goals as goal
+
+pub create_view-requires-clause-named : goal.create_view-requires-clause-named
+create_view-requires-clause-named g c κs alive = ap (is_view (catalog_of c.args.engine.now)) c.as_str.ensures ∙ c.requires.named
 
 pub returns : goal.returns
 returns g c =

@@ -1,0 +1,5 @@
+pub mod GrowthLemmas
+pub mod KeyLemmas
+pub mod LawLemmas
+pub mod SideLemmas
+pub mod StepLemmas

@@ -1,0 +1,10 @@
+pub mod ApartLaws
+pub mod ChangeLaws
+pub mod CycleLaws
+pub mod NodeLaws
+pub mod PoisonedLaws
+pub mod ReachLaws
+pub mod SettledLaws
+pub mod ShapeLaws
+pub mod Sides
+pub mod SoundLaws

@@ -1,3 +1,0 @@
-pub mod Catalogs
-pub mod FitLaws
-pub mod Literals

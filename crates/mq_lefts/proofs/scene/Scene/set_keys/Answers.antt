@@ -1,7 +1,0 @@
-use Rattle.std.specs.List.Sorted.{IsStrictlySortedBy}
-use Rattle.mq_lefts.proofs.scene.Scene.set_keys.Goals as goal
-
--- no keys ascend
-pub new-requires : goal.new-requires
-unfolding IsStrictlySortedBy
-new-requires c = tt

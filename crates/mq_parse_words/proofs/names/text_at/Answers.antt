@@ -1,0 +1,5 @@
+use Rattle.mq_parse_words.specs.NameLemmas.{token_no_text}
+use Rattle.mq_parse_words.proofs.names.text_at.Goals as goal
+
+pub returns-in_default : goal.returns-in_default
+returns-in_default c = token_no_text c.in-Some.token c.in-Some.ensures.1 c.in_default.not-Text

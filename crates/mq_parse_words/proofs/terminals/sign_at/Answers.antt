@@ -1,5 +1,0 @@
-use Rattle.mq_parse_words.specs.NameLemmas.{token_no_sign}
-use Rattle.mq_parse_words.proofs.terminals.sign_at.Goals as goal
-
-pub returns-in_default : goal.returns-in_default
-returns-in_default c = token_no_sign c.in-Some.token c.in-Some.ensures.1 c.in_default.not-Sign

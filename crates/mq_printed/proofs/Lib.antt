@@ -1,2 +1,0 @@
-mod ColumnLemmas
-mod PrintLemmas

@@ -1,2 +1,0 @@
-mod FixedLemmas
-mod LeftLemmas

@@ -1,7 +1,0 @@
-use Rattle.std.proofs.Common.{drop}
-use Rattle.std.specs.List.{All}
-use Rattle.mq_single_lefts.specs.FixedLefts.{IsSteady}
-use Rattle.mq_single_lefts.proofs.fixed.are_steady.Given as goal
-
-abbrev pub invariant-items : goal.invariant-items
-invariant-items l = All IsSteady (drop l.item-index l.items) → All IsSteady l.items

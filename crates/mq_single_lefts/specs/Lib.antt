@@ -1,9 +1,0 @@
-pub mod Conditions
-pub mod CreatedLaws
-pub mod EachLaws
-pub mod FixedLefts
-pub mod KeySetLaws
-pub mod KeySets
-pub mod Lefts
-pub mod RuleLaws
-pub mod StepLaws

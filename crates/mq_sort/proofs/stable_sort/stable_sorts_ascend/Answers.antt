@@ -1,5 +1,0 @@
-use Rattle.mq_sort.specs.SortLaws.{stable_is_ascending}
-use Rattle.mq_sort.proofs.stable_sort.stable_sorts_ascend.Goals as goal
-
-pub returns : goal.returns
-returns g c = λ order total xs ys sorted stable. stable_is_ascending total xs ys sorted stable

@@ -1,0 +1,18 @@
+-- A loan of 1000.00 at 1 % a month, paid back in four equal payments; the last one takes what rounding has left.
+CREATE TABLE LOAN (MON INT, AMT DECIMAL(2));
+INSERT INTO LOAN VALUES (0, 1000.00);
+
+SELECT MON, F, I, P, R
+FROM LOAN
+MODEL
+  DIMENSION BY (MON)
+  MEASURES (AMT R, CAST(NULL AS DECIMAL(8)) F, CAST(NULL AS DECIMAL(2)) I, CAST(NULL AS DECIMAL(2)) P)
+RULES AUTOMATIC ORDER (
+  F[0] = 1,
+  F[FOR MON FROM 1 TO 4 INCREMENT 1] = F[CV() - 1] / 1.01,
+  I[FOR MON FROM 1 TO 4 INCREMENT 1] = R[CV() - 1] * 0.01,
+  P[FOR MON FROM 1 TO 3 INCREMENT 1] = R[0] / SUM(F)[MON > 0],
+  P[4] = R[3] + I[4],
+  R[FOR MON FROM 1 TO 4 INCREMENT 1] = R[CV() - 1] + I[CV()] - P[CV()]
+)
+ORDER BY MON;

@@ -1,0 +1,17 @@
+-- Between two months that were counted a straight line is laid:
+-- first the next count is carried back to each month, and how many months off it is.
+CREATE TABLE COUNTS (MON INT, AMT DECIMAL(2), PRIMARY KEY (MON));
+INSERT INTO COUNTS VALUES (1, 40.00), (4, 52.00), (6, 50.00);
+
+SELECT MON, A, COMES, MONTHS, LINE
+FROM COUNTS
+MODEL
+  DIMENSION BY (MON)
+  MEASURES (AMT A, CAST(NULL AS DECIMAL(2)) COMES, CAST(NULL AS INT) MONTHS, CAST(NULL AS DECIMAL(2)) LINE)
+RULES (
+  COMES[FOR MON FROM 6 TO 1 DECREMENT 1] = PRESENTV(A[CV()], A[CV()], COMES[CV() + 1]),
+  MONTHS[FOR MON FROM 6 TO 1 DECREMENT 1] = PRESENTV(A[CV()], 0, MONTHS[CV() + 1] + 1),
+  LINE[FOR MON FROM 1 TO 6 INCREMENT 1] =
+    PRESENTV(A[CV()], A[CV()], LINE[CV() - 1] + (COMES[CV()] - LINE[CV() - 1]) / (MONTHS[CV()] + 1))
+)
+ORDER BY MON;

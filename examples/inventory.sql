@@ -1,0 +1,15 @@
+-- Stock month by month: what was there, what came, what went, what is left. What is left opens the next month.
+CREATE TABLE MOVES (MON INT, CAME INT, WENT INT, PRIMARY KEY (MON));
+INSERT INTO MOVES VALUES (1, 50, 30), (2, 0, 45), (3, 60, 40), (4, 20, 50);
+
+SELECT MON, OPENS, CAME, WENT, CLOSES
+FROM MOVES
+MODEL
+  DIMENSION BY (MON)
+  MEASURES (CAME, WENT, CAST(NULL AS INT) OPENS, CAST(NULL AS INT) CLOSES)
+RULES AUTOMATIC ORDER (
+  OPENS[1] = 40,
+  OPENS[MON > 1] = CLOSES[CV() - 1],
+  CLOSES[ANY] = OPENS[CV()] + CAME[CV()] - WENT[CV()]
+)
+ORDER BY MON;

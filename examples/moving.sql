@@ -1,0 +1,14 @@
+-- The sum of the year so far, and the average of the last three months, from the third month on.
+CREATE TABLE SALES (MON INT, AMT DECIMAL(2), PRIMARY KEY (MON));
+INSERT INTO SALES VALUES (1, 30.00), (2, 36.00), (3, 33.00), (4, 45.00), (5, 42.00), (6, 39.00);
+
+SELECT MON, S, TODATE, AVG3
+FROM SALES
+MODEL
+  DIMENSION BY (MON)
+  MEASURES (AMT S, CAST(NULL AS DECIMAL(2)) TODATE, CAST(NULL AS DECIMAL(2)) AVG3)
+RULES (
+  TODATE[ANY] = SUM(S)[MON <= CV(MON)],
+  AVG3[MON >= 3] = AVG(S)[MON BETWEEN CV(MON) - 2 AND CV(MON)]
+)
+ORDER BY MON;

@@ -1,0 +1,19 @@
+-- The rate at which 600.00 and 550.00 in the next two years are worth the 1000.00 of today:
+-- an interval is halved until the rate is met, or known to a hundredth of a percent.
+CREATE TABLE FLOWS (YR INT, AMT DECIMAL(2), PRIMARY KEY (YR));
+INSERT INTO FLOWS VALUES (0, -1000.00), (1, 600.00), (2, 550.00);
+
+SELECT YR, C, WORTH, RATE
+FROM FLOWS
+MODEL
+  DIMENSION BY (YR)
+  MEASURES (
+    AMT C, CAST(NULL AS DECIMAL(2)) WORTH, CAST(NULL AS DECIMAL(4)) RATE,
+    CAST(0 AS DECIMAL(4)) LOW, CAST(1 AS DECIMAL(4)) HIGH)
+RULES ITERATE (50) UNTIL (WORTH[0] = 0 OR HIGH[0] - LOW[0] <= 0.0001) (
+  RATE[0] = (LOW[0] + HIGH[0]) / 2,
+  WORTH[ANY] ORDER BY YR DESC = C[CV()] + NVL(WORTH[CV() + 1], 0) / (1 + RATE[0]),
+  LOW[0] = CASE WHEN WORTH[0] > 0 THEN RATE[0] ELSE LOW[0] END,
+  HIGH[0] = CASE WHEN WORTH[0] > 0 THEN HIGH[0] ELSE RATE[0] END
+)
+ORDER BY YR;
