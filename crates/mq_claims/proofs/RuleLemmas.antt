@@ -11,6 +11,7 @@ use Rattle.mq_claims.specs.declared.view.Entry.{Entry}
 use Rattle.mq_claims.specs.declared.view.View.{View}
 use Rattle.mq_claims.specs.Machine.{Status, claimed, Machine, machine, IsInHand}
 use Rattle.mq_claims.specs.Views.{entry, under, with_piece}
+use Rattle.mq_claims.specs.ViewLaws.{under-append}
 use Rattle.mq_claims.specs.Rule.{listed, IsHome, Shows}
 use Rattle.mq_claims.proofs.ListLemmas.{same}
 
@@ -36,15 +37,6 @@ module _ {P : Type 0} where
 
   pub under_else : (j k : ℕ) (x : Option P) (es : List (Entry P)) → j ≢ k → under j (entry k x ∷ es) ≡ under j es
   under_else j k x es ne = ap (λ (t : Bool). cond t (x ∷ under j es) (under j es)) (ne_eqb k j (λ e. ne (sym e)))
-
-  pub under-append : (k : ℕ) (a b : List (Entry P)) → under k (a ++ b) ≡ under k a ++ under k b
-  under-append k [] b = refl
-  under-append k (e ∷ a) b = go (eqb e.number k) (under-append k a b)
-    where
-      go : (t : Bool) → under k (a ++ b) ≡ under k a ++ under k b
-          → cond t (e.piece ∷ under k (a ++ b)) (under k (a ++ b)) ≡ cond t (e.piece ∷ under k a) (under k a) ++ under k b
-      go true h = ap (λ (l : List (Option P)). e.piece ∷ l) h
-      go false h = h
 
   pub put_here : (k : ℕ) (p : P) (es : List (Entry P)) → under k (map (with_piece k p) es) ≡ map (λ (x : Option P). Some p) (under k es)
   put_here k p [] = refl

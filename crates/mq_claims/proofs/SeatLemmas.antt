@@ -15,7 +15,8 @@ use Rattle.mq_claims.specs.Views.{newcomer, one_more_away, newcomer_of, joined, 
 use Rattle.mq_claims.specs.Rule.{is_live, listed, IsHome, Shows, Follows, Looks}
 use Rattle.mq_claims.proofs.ListLemmas.{there, inside, map_back, count-set, count-snoc, count-map}
 use Rattle.mq_claims.proofs.RunLemmas.{untold, Tells, sound, is_done-handed}
-use Rattle.mq_claims.proofs.RuleLemmas.{off, snoc_back, under-append, seat_by}
+use Rattle.mq_claims.specs.ViewLaws.{under-append}
+use Rattle.mq_claims.proofs.RuleLemmas.{off, snoc_back, seat_by}
 
 module _ {P : Type 0} where
   -- whose piece it is

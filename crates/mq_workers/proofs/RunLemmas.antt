@@ -5,7 +5,7 @@ use Rattle.mq_claims.specs.declared.view.Entry.{Entry}
 use Rattle.mq_claims.specs.declared.view.View.{View}
 use Rattle.mq_claims.specs.Views.{under, AllBelow}
 use Rattle.mq_claims.specs.Calls.{IsWhole}
-use Rattle.mq_claims.proofs.RuleLemmas.{under-append}
+use Rattle.mq_claims.specs.ViewLaws.{under-append}
 use Rattle.mq_workers.specs.Runs.{EachIsRun, GainsRun}
 use Rattle.mq_workers.proofs.ListLemmas.{one_of, zipped}
 use Rattle.mq_workers.proofs.EntryLemmas.{reach, reach_below}
