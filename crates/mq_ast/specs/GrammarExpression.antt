@@ -22,7 +22,7 @@ use Rattle.mq_lexer.specs.declared.keywords.Keyword.{Keyword}
 use Rattle.mq_lexer.specs.declared.keywords.Keyword.TheVariants as word
 use Rattle.mq_lexer.specs.declared.terminals.Symbol.TheVariants as sign
 use Rattle.mq_ast.specs.Tokens.{Tok, Word, Aggregate, Sign, Name, Num, Text, opener, closer, open_square, close_square, comma, minus, star}
-use Rattle.mq_ast.specs.GrammarNames.{PathE, IsInt, scale_of, KindE}
+use Rattle.mq_ast.specs.GrammarNames.{PathE, IsInt, scale_of, KindE, DayE}
 use Rattle.mq_ast.specs.Calls.{call_of}
 use Rattle.mq_ast.specs.Chains.{or_of, and_of, sum_of, prod_of, sum_term, prod_term, arm}
 
@@ -111,10 +111,11 @@ mutual
 
   -- prim := what is below
   pub data PrimE : E → List Tok → List Tok → Type 0 where
-    -- num | txt | NULL
+    -- num | txt | NULL | DATE dtxt
     prim_num : {n : Number} {to : List Tok} → PrimE (e.Lit (value.Num n)) (Num n ∷ to) to
     prim_text : {t : List ℕ} {to : List Tok} → PrimE (e.Lit (value.Text t)) (Text t ∷ to) to
     prim_null : {to : List Tok} → PrimE (e.Lit value.Null) (Word word.Null ∷ to) to
+    prim_date : {day : ℕ} {from to : List Tok} → DayE day from to → PrimE (e.Lit (value.Date day)) (Word word.Date ∷ from) to
     -- path | path '[' (ANY | e) {',' (ANY | e)} ']', where a path begins with a name
     prim_path : {p : Path} {n : List ℕ} {from to : List Tok} → PathE p (Name n ∷ from) to → PrimE (e.Name p) (Name n ∷ from) to
     prim_cell : {p : Path} {n : List ℕ} {ps : List Place} {from mid to : List Tok} →

@@ -14,7 +14,7 @@ pub use Rattle.mq_ast.specs.Laws.OneListLemmas.{some_same, Whatever, name_same, 
 pub use Rattle.mq_ast.specs.Laws.OneExpressionLemmas.{or_stop, and_stop, tail_stop, sum_stop, prod_stop, exprs_stop, places_stop}
 pub use Rattle.mq_ast.specs.Laws.OneExpressionLemmas.{brackets_front, brackets_stop, whens_stop, whens_front, else_stop, prim_no_minus}
 pub use Rattle.mq_ast.specs.Laws.OneExpressionLemmas.{test_no_not, expr_no_any, expr_no_star, expr_no_when, expr_no_for, name_ends}
-pub use Rattle.mq_ast.specs.Laws.OneExpressionLemmas.{no_square, path_same, kind_same, stops_when, begin_tail, one_call, expr_same}
+pub use Rattle.mq_ast.specs.Laws.OneExpressionLemmas.{no_square, path_same, kind_same, day_same, stops_when, begin_tail, one_call, expr_same}
 pub use Rattle.mq_ast.specs.Laws.OneExpressionLemmas.{and_same, not_same, test_same, tuple_same, exprs_same, sum_same, prod_same}
 pub use Rattle.mq_ast.specs.Laws.OneExpressionLemmas.{sign_same, brackets_same, places_same, place_same, case_same, whens_same}
 pub use Rattle.mq_ast.specs.Laws.OneExpressionLemmas.{else_same, closed_same}

@@ -8,14 +8,14 @@ pub use Rattle.mq_ast.specs.Chains.{or_of, and_of, sum_of, prod_of, sum_term, pr
 pub use Rattle.mq_ast.specs.Calls.{call_of}
 pub use Rattle.mq_ast.specs.OneTree.{OneTree}
 pub use Rattle.mq_ast.specs.GrammarNames.{path_of, PathE, path_one, path_two, IsInt, nat_of, scale_of, KindE, kind_int, kind_decimal}
-pub use Rattle.mq_ast.specs.GrammarNames.{kind_text}
+pub use Rattle.mq_ast.specs.GrammarNames.{kind_text, kind_date, DayE, dtxt}
 pub use Rattle.mq_ast.specs.GrammarLists.{MoreOf, more_end, more_comma, SomeOf, some_of, ManyOf, many_end, many_more, NameE, name}
 pub use Rattle.mq_ast.specs.GrammarExpression.{Expr, expr, MoreOr, or_end, or_more, AndE, and, MoreAnd, and_end, and_more, NotE}
 pub use Rattle.mq_ast.specs.GrammarExpression.{not_plain, not_not, TestE, test, TestTail, tail_none, tail_cmp, tail_between}
 pub use Rattle.mq_ast.specs.GrammarExpression.{tail_not_between, tail_in, tail_not_in, tail_null, tail_not_null, tail_present}
 pub use Rattle.mq_ast.specs.GrammarExpression.{tail_not_present, tail_any, Tuple, tuple, Exprs, exprs, MoreExprs, exprs_end, exprs_more}
 pub use Rattle.mq_ast.specs.GrammarExpression.{SumE, sum, MoreSum, sum_end, sum_more, ProdE, prod, MoreProd, prod_end, prod_more, SignE}
-pub use Rattle.mq_ast.specs.GrammarExpression.{sign_plain, sign_minus, PrimE, prim_num, prim_text, prim_null, prim_path, prim_cell}
+pub use Rattle.mq_ast.specs.GrammarExpression.{sign_plain, sign_minus, PrimE, prim_num, prim_text, prim_null, prim_date, prim_path, prim_cell}
 pub use Rattle.mq_ast.specs.GrammarExpression.{prim_round, prim_agg, prim_count, prim_range, prim_case, prim_cast, prim_call, prim_to}
 pub use Rattle.mq_ast.specs.GrammarExpression.{prim_cv, prim_cv_name, prim_turn, prim_previous, prim_presentv, prim_presentnnv}
 pub use Rattle.mq_ast.specs.GrammarExpression.{Brackets, brackets, MorePlaces, places_end, places_more, PlaceE, place_any, place_expr}

@@ -64,6 +64,7 @@ pub(crate) fn add_slot(slot: &Slot, answer: &mut Vec<u8>) -> Result<(), Memory> 
         Slot::Faulted(ValueFault::Overflow) => add("OVERFLOW", answer),
         Slot::Faulted(ValueFault::DivideByZero) => add("DIVIDE_BY_ZERO", answer),
         Slot::Faulted(ValueFault::TextTooLong) => add("TEXT_TOO_LONG", answer),
+        Slot::Faulted(ValueFault::DateRange) => add("DATE_RANGE", answer),
         Slot::Poisoned => add("poisoned", answer),
     }
 }

@@ -48,7 +48,7 @@ abbrev pub equated_by : CmpOp → ExprKind → Option ExprKind
 equated_by cmp.Eq k = Some k
 equated_by _ k = None
 
--- tests compare numbers with numbers and texts with texts
+-- tests compare numbers with numbers, texts with texts and dates with dates
 abbrev pub go_together : ExprKind → ExprKind → Result ExprKind Refused
 go_together k l = common (k ∷ l ∷ [])
 

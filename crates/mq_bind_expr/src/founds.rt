@@ -91,6 +91,15 @@ pub fn on_heap<T: Drop>(alloc: Global, found: Items<T>) -> Result<Items<Boxed<T>
     Ok(held)
 }
 
+/// A list with one more item. Generic, since it only holds and drops what it is given.
+pub fn pushed<T: Drop>(items: Items<T>, next: T) -> Result<Items<T>, Memory>
+    ensures { IfOk result (λ xs. xs ≡ items ++ next ∷ []) }
+{
+    let mut items = items;
+    items.push(next)?;
+    Ok(items)
+}
+
 /// Puts an operand behind others. Generic, since it only moves what it is given.
 pub fn push_held<T: Drop>(found: &mut Items<T>, next: Boxed<T>) -> Result<(), Memory>
     ensures { OnOk result (found.new ≡ found.old ++ next ∷ []) }
@@ -114,6 +123,16 @@ pub fn refused<T: Drop, A: Drop>(_tree: T, fault: Fail<Refused>) -> Result<A, Fa
     ensures { result ≡ Err fault }
 {
     Err(fault)
+}
+
+/// What stands on the heap, where there is something. Generic, since it only moves what it is given.
+pub fn unboxed<T: Drop>(e: Option<Boxed<T>>) -> Option<T>
+    ensures { result ≡ e }
+{
+    match e {
+        Some(e) => Some(e.into_inner()),
+        None => None,
+    }
 }
 
 /// Whether an operand is a condition.

@@ -22,7 +22,7 @@ mod visits;
 mod walk;
 
 pub use forms::{has_aggregate, is_condition, name_of};
-pub use founds::{Held, expr_of};
+pub use founds::{Held, expr_of, exprs_of, held, pushed, unboxed};
 pub use place_tests::{fits_dimension, place_of};
 pub use values::column_leaf;
-pub use walk::{bound, bound_filter, bound_value};
+pub use walk::{bound, bound_each, bound_filter, bound_value};

@@ -1,7 +1,7 @@
 //! A place of a bracket: the test that a condition makes of its dimension, and the index of a single cell
 //! (docs/LANGUAGE.md, "Misuses").
 
-ghost use Rattle.std.specs.Prelude.{◌≡◌, ◌&&◌, ◌∷◌, [], ◌++◌, true, None, Ok, IfOk};
+ghost use Rattle.std.specs.Prelude.{◌≡◌, ◌&&◌, true, None, Ok, IfOk};
 ghost use Rattle.std.specs.List.{list_all};
 ghost use Rattle.std.specs.Option.{option_map, option_map_or};
 ghost use Rattle.mq_ir.specs.declared.expression.Test.TheVariants as made;
@@ -15,7 +15,7 @@ ghost use Rattle.mq_bind_expr.specs.PlaceTests as spec;
 
 use crate::dimensions::{is_dimension, names_dimension};
 use crate::forms::{is_any_form, is_condition};
-use crate::founds::{Held, Operand, refused};
+use crate::founds::{Held, Operand, pushed, refused};
 use mq_ast::E;
 use mq_bind_scopes::{
     ExprKind, MISUSE_OF_CONDITION_IN_BRACKETS, MISUSE_OF_CONDITION_IN_CELL, Placed, is_index,
@@ -142,14 +142,6 @@ fn not_test(alloc: Global, part: Option<Test>) -> Result<Option<Test>, Memory>
 }
 
 // Generic, since it only holds and drops what it is given.
-fn pushed<T: Drop>(items: Items<T>, next: T) -> Result<Items<T>, Memory>
-    ensures { IfOk result (λ xs. xs ≡ items ++ next ∷ []) }
-{
-    let mut items = items;
-    items.push(next)?;
-    Ok(items)
-}
-
 fn with_next<T: Drop>(items: Items<T>, next: Option<T>) -> Result<Option<Items<T>>, Memory>
     ensures { IfOk result (λ xs. xs ≡ laws.with_next items next) }
 {

@@ -14,7 +14,7 @@ ghost use Rattle.mq_bind_expr.specs.Steps.{each_from};
 use crate::forms::is_condition;
 use crate::founds::push_held;
 use crate::place_tests::{index_of, place_found, placed, placed_at, test_in};
-use crate::walk::bound;
+use crate::walk::bound_tree;
 use mq_ast::{E, Place};
 use mq_bind_scopes::{
     MISUSE_OF_RULE_FORM, Owner, Placed, Position, Scope, bracketed, inner, is_left, misuse, number,
@@ -43,7 +43,7 @@ fn placed_elsewhere(
 ) -> Result<Placed, Fail<Refused>>
     ensures { Gives result (walks.placed_elsewhere scope.now at e.now) }
 {
-    placed_at(bound(alloc, scope, inner(at), e))
+    placed_at(bound_tree(alloc, scope, inner(at), e))
 }
 
 #[cycle(expression)]
@@ -57,7 +57,7 @@ fn placed_in_rule(
 ) -> Result<Placed, Fail<Refused>>
     ensures { Gives result (walks.placed_in_rule scope.now at owner n e.now) }
 {
-    let found = bound(alloc, scope, bracketed(at, owner, n, is_condition(e)), e);
+    let found = bound_tree(alloc, scope, bracketed(at, owner, n, is_condition(e)), e);
     place_found(alloc, place_kind(scope, owner, n), e, found)
 }
 

@@ -7,7 +7,7 @@ ghost use Rattle.mq_bind_expr.specs.ExpressionParts as parts;
 ghost use Rattle.mq_bind_expr.specs.ExpressionRolls as rolls;
 
 use crate::founds::{Held, push_held, push_term, some_part};
-use crate::walk::bound;
+use crate::walk::bound_tree;
 use mq_ast::{Arm, E, ProdTerm, SumTerm};
 use mq_bind_scopes::{Found, Position, Scope};
 use mq_values::{Boxed, Fail, Items, ProdOp, Refused, SumOp};
@@ -25,7 +25,7 @@ pub fn found_each(
 {
     let mut found = Items::new(alloc);
     'es: for e in es {
-        push_held(&mut found, bound(alloc, scope, at, e)?)?;
+        push_held(&mut found, bound_tree(alloc, scope, at, e)?)?;
     }
     Ok(found)
 }
@@ -42,7 +42,7 @@ pub fn found_terms(
 {
     let mut found = Items::new(alloc);
     'terms: for term in terms {
-        push_term(&mut found, term.op, bound(alloc, scope, at, &term.e)?)?;
+        push_term(&mut found, term.op, bound_tree(alloc, scope, at, &term.e)?)?;
     }
     Ok(found)
 }
@@ -59,7 +59,7 @@ pub fn found_factors(
 {
     let mut found = Items::new(alloc);
     'terms: for term in terms {
-        push_term(&mut found, term.op, bound(alloc, scope, at, &term.e)?)?;
+        push_term(&mut found, term.op, bound_tree(alloc, scope, at, &term.e)?)?;
     }
     Ok(found)
 }
@@ -74,8 +74,8 @@ fn found_arm(
 ) -> Result<(Held, Held), Fail<Refused>>
     ensures { Gives result (rolls.arm_found scope.now at arm.now) }
 {
-    let test = bound(alloc, scope, at, &arm.test)?;
-    let value = bound(alloc, scope, at, &arm.value)?;
+    let test = bound_tree(alloc, scope, at, &arm.test)?;
+    let value = bound_tree(alloc, scope, at, &arm.value)?;
     Ok((test, value))
 }
 
@@ -107,7 +107,7 @@ pub fn found_if_any(
     ensures { Gives result (cases.found_if_any scope.now at e.now) }
 {
     match e {
-        Some(e) => some_part(bound(alloc, scope, at, e.get())),
+        Some(e) => some_part(bound_tree(alloc, scope, at, e.get())),
         None => Ok(None),
     }
 }

@@ -2,12 +2,13 @@
 //! (docs/LANGUAGE.md, "The order of binding").
 
 ghost use Rattle.mq_values.specs.Answers.{Gives};
+ghost use Rattle.mq_bind_expr.specs.ExpressionParts as parts;
 ghost use Rattle.mq_bind_expr.specs.ExpressionWalk as spec;
 ghost use Rattle.mq_bind_expr.specs.Following.{Follows};
 ghost use Rattle.mq_bind_expr.specs.PartWalks as walks;
 
 use crate::cell_nodes::{agg_node, cell_node, count_all_node, range_node};
-use crate::founds::{Held, Operand, both, expr_of, held, is_condition_found};
+use crate::founds::{Held, Operand, both, expr_of, held, is_condition_found, push_held};
 use crate::function_nodes::{call_node, case_node};
 use crate::name_nodes::name_node;
 use crate::operator_nodes::{
@@ -25,12 +26,42 @@ use mq_bind_scopes::{
     misuse, owner_of,
 };
 use mq_ir::Expr;
-use mq_values::{Boxed, Fail, Refused};
+use mq_values::{Boxed, Fail, Items, Refused};
 use std::alloc::Global;
 
-/// What an expression is bound to where it stands.
-#[cycle(expression)]
+/// What an expression is bound to where it stands. A literal or a name alone, as most values of a change are, is bound without a
+/// step into the circle of calls that goes over a tree. The first offence in it is the refusal (docs/LANGUAGE.md, "The order of
+/// binding").
+#[tactic(auto, using(crate::specs::OperatorLaws::bound_lit, crate::specs::ExpressionLaws::bound_name))]
 pub fn bound(alloc: Global, scope: &Scope, at: Position, e: &E) -> Result<Held, Fail<Refused>>
+    ensures { Gives result (spec.bound scope.now e.now at) }
+{
+    match e {
+        E::Lit(v) => held(alloc, lit_node(v)),
+        E::Name(path) => held(alloc, name_node(alloc, scope, at, path)),
+        _ => bound_tree(alloc, scope, at, e),
+    }
+}
+
+/// The same of several expressions, from left to right.
+pub fn bound_each(
+    alloc: Global,
+    scope: &Scope,
+    at: Position,
+    es: &[E],
+) -> Result<Items<Found>, Fail<Refused>>
+    ensures { Gives result (parts.all_found scope.now at es.now) }
+{
+    let mut found = Items::new(alloc);
+    'es: for e in es {
+        push_held(&mut found, bound(alloc, scope, at, e)?)?;
+    }
+    Ok(found)
+}
+
+/// What a tree is bound to where it stands.
+#[cycle(expression)]
+pub fn bound_tree(alloc: Global, scope: &Scope, at: Position, e: &E) -> Result<Held, Fail<Refused>>
     ensures { Gives result (spec.bound scope.now e.now at) }
 {
     held(alloc, found_of(alloc, scope, at, e))
@@ -44,50 +75,51 @@ pub fn bound(alloc: Global, scope: &Scope, at: Position, e: &E) -> Result<Held, 
 fn found_of(alloc: Global, scope: &Scope, at: Position, e: &E) -> Result<Found, Fail<Refused>>
     ensures { Gives result (spec.bound scope.now e.now at) }
 {
+    let within = inner(at);
     match e {
-        E::Or(es) => or_node(alloc, found_each(alloc, scope, inner(at), es.as_slice())),
-        E::And(es) => and_node(alloc, found_each(alloc, scope, inner(at), es.as_slice())),
-        E::Not(a) => not_node(alloc, bound(alloc, scope, inner(at), a.get())),
+        E::Or(es) => or_node(alloc, found_each(alloc, scope, within, es.as_slice())),
+        E::And(es) => and_node(alloc, found_each(alloc, scope, within, es.as_slice())),
+        E::Not(a) => not_node(alloc, bound_tree(alloc, scope, within, a.get())),
         E::Cmp(a, op, b) => {
-            let a = bound(alloc, scope, inner(at), a.get());
-            let b = bound(alloc, scope, inner(at), b.get());
+            let a = bound_tree(alloc, scope, within, a.get());
+            let b = bound_tree(alloc, scope, within, b.get());
             let sides = both(a, b);
             cmp_node(alloc, *op, sides)
         }
         E::Between(a, negated, low, high) => {
-            let a = bound(alloc, scope, inner(at), a.get());
-            let low = bound(alloc, scope, inner(at), low.get());
-            let high = bound(alloc, scope, inner(at), high.get());
+            let a = bound_tree(alloc, scope, within, a.get());
+            let low = bound_tree(alloc, scope, within, low.get());
+            let high = bound_tree(alloc, scope, within, high.get());
             let range = both(low, high);
             let tested = both(a, range);
             between_node(alloc, *negated, tested)
         }
         E::InList(a, negated, es) => {
-            let a = bound(alloc, scope, inner(at), a.get());
-            let members = found_each(alloc, scope, inner(at), es.as_slice());
+            let a = bound_tree(alloc, scope, within, a.get());
+            let members = found_each(alloc, scope, within, es.as_slice());
             let listed = both(a, members);
             in_node(alloc, *negated, listed)
         }
         E::IsNull(a, negated) => {
-            null_node(alloc, *negated, bound(alloc, scope, inner(at), a.get()))
+            null_node(alloc, *negated, bound_tree(alloc, scope, within, a.get()))
         }
         E::IsPresent(a, negated) => {
-            present_node(at, *negated, bound(alloc, scope, inner(at), a.get()))
+            present_node(at, *negated, bound_tree(alloc, scope, within, a.get()))
         }
-        E::IsAny(a) => any_node(at, bound(alloc, scope, inner(at), a.get())),
+        E::IsAny(a) => any_node(at, bound_tree(alloc, scope, within, a.get())),
         E::Sum(first, terms) => {
-            let first = bound(alloc, scope, inner(at), first.get());
-            let terms = found_terms(alloc, scope, inner(at), terms.as_slice());
+            let first = bound_tree(alloc, scope, within, first.get());
+            let terms = found_terms(alloc, scope, within, terms.as_slice());
             let addends = both(first, terms);
             sum_node(alloc, addends)
         }
         E::Prod(first, terms) => {
-            let first = bound(alloc, scope, inner(at), first.get());
-            let terms = found_factors(alloc, scope, inner(at), terms.as_slice());
+            let first = bound_tree(alloc, scope, within, first.get());
+            let terms = found_factors(alloc, scope, within, terms.as_slice());
             let factors = both(first, terms);
             prod_node(alloc, factors)
         }
-        E::Neg(a) => neg_node(alloc, bound(alloc, scope, inner(at), a.get())),
+        E::Neg(a) => neg_node(alloc, bound_tree(alloc, scope, within, a.get())),
         E::Lit(v) => lit_node(v),
         E::Name(path) => name_node(alloc, scope, at, path),
         E::Cell(path, places) => cell_of(alloc, scope, at, path, places.as_slice()),
@@ -96,7 +128,7 @@ fn found_of(alloc: Global, scope: &Scope, at: Position, e: &E) -> Result<Found, 
                 alloc,
                 at,
                 *agg,
-                bound(alloc, scope, aggregated(at), a.get()),
+                bound_tree(alloc, scope, aggregated(at), a.get()),
             )
         }
         E::CountAll => count_all_node(at),
@@ -105,30 +137,26 @@ fn found_of(alloc: Global, scope: &Scope, at: Position, e: &E) -> Result<Found, 
             range_node(alloc, scope, at, *agg, name, tests)
         }
         E::Case(of, arms, or_else) => {
-            let subject = found_if_any(alloc, scope, inner(at), of);
-            let arms = found_arms(alloc, scope, inner(at), arms.as_slice());
-            let or_else = found_if_any(alloc, scope, inner(at), or_else);
+            let subject = found_if_any(alloc, scope, within, of);
+            let arms = found_arms(alloc, scope, within, arms.as_slice());
+            let or_else = found_if_any(alloc, scope, within, or_else);
             let results = both(arms, or_else);
             let parts = both(subject, results);
             case_node(alloc, parts)
         }
-        E::Cast(a, kind) => cast_node(alloc, *kind, bound(alloc, scope, inner(at), a.get())),
+        E::Cast(a, kind) => cast_node(alloc, *kind, bound_tree(alloc, scope, within, a.get())),
         E::Call(func, es) => {
             call_node(
                 alloc,
                 *func,
-                found_each(alloc, scope, inner(at), es.as_slice()),
+                found_each(alloc, scope, within, es.as_slice()),
             )
         }
         E::Cv(name) => cv_node(alloc, scope, at, name),
         E::Turn => turn_node(scope, at),
-        E::Previous(a) => previous_node(at, bound(alloc, scope, inner(at), a.get())),
+        E::Previous(a) => previous_node(at, bound_tree(alloc, scope, within, a.get())),
         E::PresentV(es) => {
-            presentv_node(
-                alloc,
-                at,
-                found_each(alloc, scope, inner(at), es.as_slice()),
-            )
+            presentv_node(alloc, at, found_each(alloc, scope, within, es.as_slice()))
         }
         E::PresentNnv(es) => presentnnv_of(alloc, scope, at, es.as_slice()),
     }
@@ -176,7 +204,7 @@ fn presentnnv_of(
         [cell, ..] => {
             let found = found_each(alloc, scope, inner(at), es)?;
             presence_asked(at, found.as_slice())?;
-            let again = bound(alloc, scope, inner(at), cell)?;
+            let again = bound_tree(alloc, scope, inner(at), cell)?;
             presentnnv_node(alloc, at, found, again)
         }
         [] => other_presence(at),

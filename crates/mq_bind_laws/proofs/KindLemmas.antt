@@ -19,8 +19,8 @@ use Rattle.mq_ir.specs.FitsExpression.{call_fits, kind_fits}
 use Rattle.mq_ir.specs.Results.{◌>>=◌}
 use Rattle.mq_bind_scopes.specs.declared.kinds.ExprKind.{ExprKind}
 use Rattle.mq_bind_scopes.specs.declared.kinds.ExprKind.TheVariants as kind
-use Rattle.mq_bind_scopes.specs.Kinds.{column_kind, common_from, is_condition_kind, is_null_kind, number_scale, of_column, operand_scale, wider}
-use Rattle.mq_bind_scopes.specs.OperatorKinds.{aggregate_kind, call_kind, cast_kind, chain_kind, is_castable, product_kind, product_scale, sum_kind}
+use Rattle.mq_bind_scopes.specs.Kinds.{column_kind, common_from, is_condition_kind, is_day_count, is_null_kind, number_scale, of_column, operand_scale, wider}
+use Rattle.mq_bind_scopes.specs.OperatorKinds.{added_kind, aggregate_kind, call_kind, cast_kind, chain_kind, is_castable, numbers_kind, product_kind, product_scale, shifted_kind, subtracted_kind, sum_kind}
 use Rattle.mq_bind_scopes.specs.Refusals.{kind_mismatch, limit, refused_where}
 use Rattle.mq_bind_laws.specs.Literals.{is_within}
 use Rattle.mq_bind_laws.proofs.FitStepLemmas.{Each, both, just_is, ok_is, passed, right_of, was_not, went}
@@ -38,17 +38,26 @@ pub wider_within : (k l m : ExprKind) → wider k l ≡ Ok m → Within k → Wi
 wider_within (kind.Number s) (kind.Number t) m h v w = kind_is (kind.Number (max s t)) m h (larger s t v w)
 wider_within (kind.Number s) kind.Null m h v w = kind_is (kind.Number s) m h v
 wider_within (kind.Number s) kind.Text m h v w = absurd cc
+wider_within (kind.Number s) kind.Date m h v w = absurd cc
 wider_within (kind.Number s) kind.Condition m h v w = absurd cc
 wider_within kind.Text kind.Text m h v w = kind_is kind.Text m h refl
 wider_within kind.Text kind.Null m h v w = kind_is kind.Text m h refl
 wider_within kind.Text (kind.Number t) m h v w = absurd cc
+wider_within kind.Text kind.Date m h v w = absurd cc
 wider_within kind.Text kind.Condition m h v w = absurd cc
+wider_within kind.Date kind.Date m h v w = kind_is kind.Date m h refl
+wider_within kind.Date kind.Null m h v w = kind_is kind.Date m h refl
+wider_within kind.Date (kind.Number t) m h v w = absurd cc
+wider_within kind.Date kind.Text m h v w = absurd cc
+wider_within kind.Date kind.Condition m h v w = absurd cc
 wider_within kind.Null (kind.Number t) m h v w = kind_is (kind.Number t) m h w
 wider_within kind.Null kind.Text m h v w = kind_is kind.Text m h refl
+wider_within kind.Null kind.Date m h v w = kind_is kind.Date m h refl
 wider_within kind.Null kind.Null m h v w = kind_is kind.Null m h refl
 wider_within kind.Null kind.Condition m h v w = absurd cc
 wider_within kind.Condition (kind.Number t) m h v w = absurd cc
 wider_within kind.Condition kind.Text m h v w = absurd cc
+wider_within kind.Condition kind.Date m h v w = absurd cc
 wider_within kind.Condition kind.Null m h v w = absurd cc
 wider_within kind.Condition kind.Condition m h v w = absurd cc
 
@@ -64,6 +73,7 @@ scale_is s t h w = subst (λ (n : ℕ). nat_le n MAX_SCALE ≡ true) (ok_is s t 
 pub scale_within : (k : ExprKind) (s : ℕ) → number_scale k ≡ Ok s → Within k → nat_le s MAX_SCALE ≡ true
 scale_within (kind.Number t) s h w = scale_is t s h w
 scale_within kind.Text s h w = absurd cc
+scale_within kind.Date s h w = absurd cc
 scale_within kind.Null s h w = absurd cc
 scale_within kind.Condition s h w = absurd cc
 
@@ -71,17 +81,31 @@ operand_within : (k : ExprKind) (s : ℕ) → operand_scale k ≡ Ok s → Withi
 operand_within (kind.Number t) s h w = scale_is t s h w
 operand_within kind.Null s h w = scale_is 0 s h refl
 operand_within kind.Text s h w = absurd cc
+operand_within kind.Date s h w = absurd cc
 operand_within kind.Condition s h w = absurd cc
 
-added_within : (k l m : ExprKind) → (operand_scale k >>= (λ s. operand_scale l >>= (λ t. Ok (kind.Number (max s t))))) ≡ Ok m → Within k → Within l → Within m
-added_within k l m h v w =
+numbers_within : (k l m : ExprKind) → numbers_kind k l ≡ Ok m → Within k → Within l → Within m
+numbers_within k l m h v w =
     let a = went (operand_scale k) (λ s. operand_scale l >>= (λ t. Ok (kind.Number (max s t)))) m h in
     let b = went (operand_scale l) (λ t. Ok (kind.Number (max a.value t))) m a.after in
     kind_is (kind.Number (max a.value b.value)) m b.after (larger a.value b.value (operand_within k a.value a.first v) (operand_within l b.value b.first w))
 
+shifted_within : (days m : ExprKind) → shifted_kind days ≡ Ok m → Within m
+shifted_within days m h = let p = passed (not (is_day_count days)) kind_mismatch (Ok kind.Date) m h in kind_is kind.Date m p.after refl
+
+added_within : (k l m : ExprKind) → added_kind k l ≡ Ok m → Within k → Within l → Within m
+added_within kind.Date l m h v w = shifted_within l m h
+added_within k kind.Date m h v w = shifted_within k m h
+added_within k l m h v w = numbers_within k l m h v w
+
+subtracted_within : (k l m : ExprKind) → subtracted_kind k l ≡ Ok m → Within k → Within l → Within m
+subtracted_within kind.Date kind.Date m h v w = kind_is (kind.Number 0) m h refl
+subtracted_within kind.Date l m h v w = shifted_within l m h
+subtracted_within k l m h v w = numbers_within k l m h v w
+
 pub sum_within : (op : SumOp) (k l m : ExprKind) → sum_kind op k l ≡ Ok m → Within k → Within l → Within m
 sum_within Add k l m h v w = added_within k l m h v w
-sum_within Sub k l m h v w = added_within k l m h v w
+sum_within Sub k l m h v w = subtracted_within k l m h v w
 sum_within Join k l m h v w =
     let p = passed (is_condition_kind k) kind_mismatch (refused_where (is_condition_kind l) kind_mismatch (Ok kind.Text)) m h in
     let q = passed (is_condition_kind l) kind_mismatch (Ok kind.Text) m p.after in
@@ -111,6 +135,7 @@ pub column_within : (k : Kind) → kind_fits k ≡ true → Within (of_column k)
 column_within column.Int h = refl
 column_within (column.Decimal s) h = right_of (nat_lt 0 s) (nat_le s MAX_SCALE) h
 column_within column.Text h = refl
+column_within column.Date h = refl
 
 pub cast_within : (to : Kind) (k m : ExprKind) → cast_kind to k ≡ Ok m → (kind_fits to ≡ true) × Within m
 cast_within to k m h =
@@ -145,6 +170,7 @@ call_within func.Abs (k ∷ []) m h w =
 call_within func.Floor (k ∷ []) m h w = let g = went (number_scale k) (λ s. Ok (kind.Number 0)) m h in (refl, kind_is (kind.Number 0) m g.after refl)
 call_within func.Length (kind.Text ∷ []) m h w = (refl, kind_is (kind.Number 0) m h refl)
 call_within func.Length (kind.Number s ∷ []) m h w = absurd cc
+call_within func.Length (kind.Date ∷ []) m h w = absurd cc
 call_within func.Length (kind.Null ∷ []) m h w = absurd cc
 call_within func.Length (kind.Condition ∷ []) m h w = absurd cc
 call_within (func.Round scale) (k ∷ []) m h w =
@@ -169,5 +195,6 @@ pub column_fits : (k : ExprKind) (to : Kind) → column_kind k ≡ Some to → W
 column_fits (kind.Number s) to h w =
     subst (λ (t : Kind). kind_fits t ≡ true) (just_is (if (s == 0) then column.Int else column.Decimal s) to h) (number_column s (s == 0) refl w)
 column_fits kind.Text to h w = subst (λ (t : Kind). kind_fits t ≡ true) (just_is column.Text to h) refl
+column_fits kind.Date to h w = subst (λ (t : Kind). kind_fits t ≡ true) (just_is column.Date to h) refl
 column_fits kind.Null to h w = absurd cc
 column_fits kind.Condition to h w = absurd cc

@@ -53,7 +53,7 @@ use Rattle.mq_bind_scopes.specs.Misuses.{other_place_count}
 use Rattle.mq_bind_scopes.specs.Positions.{place_kind, standing}
 use Rattle.mq_bind_scopes.specs.Refusals.{duplicate_name, kind_mismatch, misuse, refused_where}
 use Rattle.mq_bind_expr.specs.Steps.{each_behind, each_from}
-use Rattle.mq_binder.specs.ForWalk.{for_checked, has_width, list_bound, names_place, pairs_fit, rows_found, value_row, values_found}
+use Rattle.mq_binder.specs.ForWalk.{for_checked, has_width, list_bound, names_place, row_fits, rows_found, value_row, values_found}
 use Rattle.mq_binder.specs.FromWalk.{alias_of, base_of, base_over, grouped_by, grouping, item_seen, no_sources, on_bound, row_scope, sources_of, table_called, with_item}
 use Rattle.mq_binder.specs.LeftWalk.{expression_place, kind_called, left_bound, left_place, left_places, names_each, numbers_called, steps_place, tuples_found, with_lists}
 use Rattle.mq_bind_scopes.specs.Options.{ignores_nav}
@@ -174,7 +174,7 @@ module _ (name : Name) (before after : Catalog) (tables : SameButFor name before
 
   for_on : (dims : List (Option ExprKind)) (is_named : Bool) (found : ListFound) → Reads name (from_list found) → GivesReader name from_list (for_checked dims is_named found)
   for_on dims is_named found d =
-      gives_behind name from_list (not (list_all (pairs_fit dims) found.kinds)) kind_mismatch _
+      gives_behind name from_list (not (list_all (row_fits dims) found.kinds)) kind_mismatch _
       (gives_behind name from_list (not (is_named && list_all (has_width (length dims)) found.kinds)) (misuse MISUSE_OF_FOR) (Ok found) (gives_ok name from_list found d))
 
   checked_kept : (scope : Scope) (lists : List PlainPart) (l : ForList) (dims : List (Option ExprKind)) (is_named : Bool)

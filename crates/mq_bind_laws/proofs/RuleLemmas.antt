@@ -62,7 +62,7 @@ use Rattle.mq_bind_scopes.specs.Refusals.{kind_mismatch, misuse, refused_where}
 use Rattle.mq_bind_expr.specs.Steps.{each_with, each_with_from}
 use Rattle.mq_binder.specs.declared.found.LeftFound.{LeftFound}
 use Rattle.mq_binder.specs.declared.found.ListFound.{ListFound}
-use Rattle.mq_binder.specs.ForWalk.{for_checked, has_width, list_bound, names_place, pairs_fit, rows_found, steps_checked, value_row, values_found}
+use Rattle.mq_binder.specs.ForWalk.{for_checked, has_width, list_bound, names_place, row_fits, rows_found, steps_checked, value_row, values_found}
 use Rattle.mq_bind_scopes.specs.ForSteps.{steps_fit}
 use Rattle.mq_binder.specs.LeftWalk.{dimension_called, expression_place, kind_called, left_bound, left_item, left_place, left_places, names_each, numbers_called, steps_place, tuples_found, with_lists}
 use Rattle.mq_binder.specs.PlainWalk.{plain_bound}
@@ -277,7 +277,7 @@ module _ (catalog : Catalog) (within : columns_within catalog ≡ true) (scope :
       → (list_bound catalog scope lists list >>= for_checked dims is_named) ≡ Ok g → ForFits lists (length dims) g × (is_named ≡ true)
   for_fits lists list lit l dims is_named g h =
       let w = went (list_bound catalog scope lists list) (for_checked dims is_named) g h in
-      let p = passed (not (list_all (pairs_fit dims) w.value.kinds)) kind_mismatch (refused_where (not (is_named && list_all (has_width (length dims)) w.value.kinds)) (misuse MISUSE_OF_FOR) (Ok w.value)) g w.after in
+      let p = passed (not (list_all (row_fits dims) w.value.kinds)) kind_mismatch (refused_where (not (is_named && list_all (has_width (length dims)) w.value.kinds)) (misuse MISUSE_OF_FOR) (Ok w.value)) g w.after in
       let q = passed (not (is_named && list_all (has_width (length dims)) w.value.kinds)) (misuse MISUSE_OF_FOR) (Ok w.value) g p.after in
       let t = not_true (is_named && list_all (has_width (length dims)) w.value.kinds) q.holds_not in (
         subst (ForFits lists (length dims)) (ok_is w.value g q.after)
@@ -311,7 +311,7 @@ module _ (catalog : Catalog) (within : columns_within catalog ≡ true) (scope :
       let b = went (bound scope stop at) (λ b. bound scope step at >>= steps_checked scope n dim down a.value b) x a.after in
       let c = went (bound scope step at) (steps_checked scope n dim down a.value b.value) x b.after in
       let made = item.Steps a.value.e b.value.e c.value.e down in
-      let p = passed (not (steps_fit (place_kind scope owner.Main n) (a.value.kind ∷ b.value.kind ∷ c.value.kind ∷ []))) kind_mismatch (refused_where (not (names_place scope n dim)) (misuse MISUSE_OF_FOR) (Ok made)) x c.after in
+      let p = passed (not (steps_fit (place_kind scope owner.Main n) a.value.kind b.value.kind c.value.kind)) kind_mismatch (refused_where (not (names_place scope n dim)) (misuse MISUSE_OF_FOR) (Ok made)) x c.after in
       let q = passed (not (names_place scope n dim)) (misuse MISUSE_OF_FOR) (Ok made) x p.after in
       let front = left_of (literals_fit start && literals_fit stop) (literals_fit step) lit in
       let fa = left_value start (left_of (literals_fit start) (literals_fit stop) front) a.value a.first in

@@ -33,6 +33,7 @@ use Rattle.mq_bind_scopes.specs.Kinds.{value_kind}
 abbrev pub is_within : ExprKind → Bool
 is_within (kind.Number s) = nat_le s MAX_SCALE
 is_within kind.Text = true
+is_within kind.Date = true
 is_within kind.Null = true
 is_within kind.Condition = true
 

@@ -22,17 +22,20 @@ mismatch = Err kind_mismatch
 abbrev pub value_kind : Value → ExprKind
 value_kind (value.Num n) = kind.Number n.scale
 value_kind (value.Text t) = kind.Text
+value_kind (value.Date d) = kind.Date
 value_kind value.Null = kind.Null
 
 abbrev pub of_column : Kind → ExprKind
 of_column column.Int = kind.Number 0
 of_column (column.Decimal s) = kind.Number s
 of_column column.Text = kind.Text
+of_column column.Date = kind.Date
 
 -- the kind of a column that holds such values; NULL and a condition have none
 abbrev pub column_kind : ExprKind → Option Kind
 column_kind (kind.Number s) = Some (if s == 0 then column.Int else column.Decimal s)
 column_kind kind.Text = Some column.Text
+column_kind kind.Date = Some column.Date
 column_kind kind.Null = None
 column_kind kind.Condition = None
 
@@ -53,14 +56,23 @@ abbrev pub operand_scale : ExprKind → Result ℕ Refused
 operand_scale kind.Null = Ok 0
 operand_scale k = number_scale k
 
--- numbers with numbers, texts with texts, and NULL with both: the larger scale
+-- a number of days, which is whole; NULL stands for one too
+abbrev pub is_day_count : ExprKind → Bool
+is_day_count (kind.Number s) = s == 0
+is_day_count kind.Null = true
+is_day_count _ = false
+
+-- numbers with numbers, texts with texts, dates with dates, and NULL with each: the larger scale
 abbrev pub wider : ExprKind → ExprKind → Judged
 wider (kind.Number s) (kind.Number t) = Ok (kind.Number (max s t))
 wider (kind.Number s) kind.Null = Ok (kind.Number s)
 wider kind.Text kind.Text = Ok kind.Text
 wider kind.Text kind.Null = Ok kind.Text
+wider kind.Date kind.Date = Ok kind.Date
+wider kind.Date kind.Null = Ok kind.Date
 wider kind.Null (kind.Number t) = Ok (kind.Number t)
 wider kind.Null kind.Text = Ok kind.Text
+wider kind.Null kind.Date = Ok kind.Date
 wider kind.Null kind.Null = Ok kind.Null
 wider _ _ = mismatch
 
@@ -76,8 +88,10 @@ common = common_from kind.Null
 abbrev pub is_assignable : ExprKind → ExprKind → Bool
 is_assignable (kind.Number s) (kind.Number t) = true
 is_assignable kind.Text kind.Text = true
+is_assignable kind.Date kind.Date = true
 is_assignable (kind.Number s) kind.Null = true
 is_assignable kind.Text kind.Null = true
+is_assignable kind.Date kind.Null = true
 is_assignable _ _ = false
 
 -- a value that names one of a dimension of the first kind: no digit is lost

@@ -8,7 +8,7 @@ use Rattle.mq_values.specs.declared.operators.Func.TheVariants as func
 use Rattle.mq_values.specs.declared.operators.ProdOp.{ProdOp}
 use Rattle.mq_values.specs.declared.operators.ProdOp.TheVariants.{Mul, Div}
 use Rattle.mq_values.specs.declared.operators.SumOp.{SumOp}
-use Rattle.mq_values.specs.declared.operators.SumOp.TheVariants.{Join}
+use Rattle.mq_values.specs.declared.operators.SumOp.TheVariants.{Add, Sub, Join}
 use Rattle.mq_values.specs.declared.value.Kind.{Kind}
 use Rattle.mq_values.specs.declared.value.Kind.TheVariants as column
 use Rattle.mq_ir.specs.declared.limit_numbers.TheConstants.{LIMIT_OF_SCALE}
@@ -17,12 +17,37 @@ use Rattle.mq_ir.specs.Results.{◌>>=◌}
 use Rattle.mq_bind_scopes.specs.declared.kinds.ExprKind.{ExprKind}
 use Rattle.mq_bind_scopes.specs.declared.kinds.ExprKind.TheVariants as kind
 use Rattle.mq_bind_scopes.specs.Refusals.{refused_where, kind_mismatch, limit}
-use Rattle.mq_bind_scopes.specs.Kinds.{Judged, mismatch, of_column, is_condition_kind, is_null_kind, number_scale, operand_scale, common}
+use Rattle.mq_bind_scopes.specs.Kinds.{Judged, mismatch, of_column, is_assignable, is_condition_kind, is_day_count, is_null_kind, number_scale, operand_scale, common}
 
--- `+` and `-` take numbers, `||` numbers and texts; all take NULL
+-- numbers, or NULL: the larger scale
+abbrev pub numbers_kind : ExprKind → ExprKind → Judged
+numbers_kind k l = operand_scale k >>= (λ s. operand_scale l >>= (λ t. Ok (kind.Number (max s t))))
+
+-- a date that is moved by a number of days
+abbrev pub shifted_kind : ExprKind → Judged
+shifted_kind days = refused_where (not (is_day_count days)) kind_mismatch (Ok kind.Date)
+
+-- `+` takes numbers, and a date and a number of days in either order
+abbrev pub added_kind : ExprKind → ExprKind → Judged
+added_kind kind.Date days = shifted_kind days
+added_kind days kind.Date = shifted_kind days
+added_kind k l = numbers_kind k l
+
+-- `-` takes numbers, a date less a number of days, and a date less a date, which is a number of days
+abbrev pub subtracted_kind : ExprKind → ExprKind → Judged
+subtracted_kind kind.Date kind.Date = Ok (kind.Number 0)
+subtracted_kind kind.Date days = shifted_kind days
+subtracted_kind k l = numbers_kind k l
+
+-- `||` takes numbers, texts and dates
+abbrev pub joined_kind : ExprKind → ExprKind → Judged
+joined_kind k l = refused_where (is_condition_kind k) kind_mismatch (refused_where (is_condition_kind l) kind_mismatch (Ok kind.Text))
+
+-- all three take NULL
 abbrev pub sum_kind : SumOp → ExprKind → ExprKind → Judged
-sum_kind Join k l = refused_where (is_condition_kind k) kind_mismatch (refused_where (is_condition_kind l) kind_mismatch (Ok kind.Text))
-sum_kind _ k l = operand_scale k >>= (λ s. operand_scale l >>= (λ t. Ok (kind.Number (max s t))))
+sum_kind Add k l = added_kind k l
+sum_kind Sub k l = subtracted_kind k l
+sum_kind Join k l = joined_kind k l
 
 abbrev pub product_scale : ProdOp → ℕ → ℕ → ℕ
 product_scale Mul s t = min (s + t) MAX_SCALE
@@ -41,7 +66,7 @@ abbrev pub rounded_kind : ℕ → ExprKind → Judged
 rounded_kind scale k =
     number_scale k >>= (λ s. refused_where (not (nat_le scale MAX_SCALE)) (limit LIMIT_OF_SCALE) (Ok (kind.Number scale)))
 
--- the functions; NULL by itself is no number and no text
+-- the functions; NULL by itself is no number and no text, and no function but NVL takes a date
 abbrev pub length_kind : ExprKind → Judged
 length_kind kind.Text = Ok (kind.Number 0)
 length_kind _ = mismatch
@@ -62,12 +87,10 @@ call_kind f (k ∷ []) = unary_kind f k
 call_kind f (k ∷ l ∷ []) = binary_kind f k l
 call_kind _ _ = mismatch
 
--- CAST takes numbers and NULL to every kind, and texts to TEXT
+-- CAST takes every value to TEXT, and to another kind what a column of that kind takes
 abbrev pub is_castable : ExprKind → Kind → Bool
-is_castable (kind.Number s) to = true
-is_castable kind.Null to = true
-is_castable kind.Text column.Text = true
-is_castable _ _ = false
+is_castable k column.Text = not (is_condition_kind k)
+is_castable k to = is_assignable (of_column to) k
 
 abbrev pub cast_kind : Kind → ExprKind → Judged
 cast_kind to k =

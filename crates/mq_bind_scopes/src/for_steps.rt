@@ -1,25 +1,34 @@
 //! The kinds of the parts of FOR .. FROM (docs/LANGUAGE.md, "The order of binding").
 
-ghost use Rattle.std.specs.Prelude.{◌≡◌, ◌∷◌, []};
-ghost use Rattle.std.specs.List.{list_all};
+ghost use Rattle.std.specs.Prelude.{◌≡◌};
 ghost use Rattle.mq_bind_scopes.specs.ForSteps as spec;
-ghost use Rattle.mq_bind_scopes.specs.Kinds as kinds_as;
 
-use crate::kinds::{ExprKind, is_index};
+use crate::kinds::{ExprKind, is_condition_kind, is_day_count, is_index};
 
-fn all_index(to: ExprKind, start: ExprKind, stop: ExprKind, step: ExprKind) -> bool
-    ensures { result ≡ list_all (kinds_as.is_index to) (start ∷ stop ∷ step ∷ []) }
+fn are_values(start: ExprKind, stop: ExprKind, step: ExprKind) -> bool
+    ensures { result ≡ spec.are_values start stop step }
 {
-    is_index(to, start) && is_index(to, stop) && is_index(to, step)
+    !is_condition_kind(start) && !is_condition_kind(stop) && !is_condition_kind(step)
 }
 
-/// FOR .. FROM wants a dimension of numbers.
+fn bounds_fit(dim: ExprKind, start: ExprKind, stop: ExprKind) -> bool
+    ensures { result ≡ spec.bounds_fit dim start stop }
+{
+    is_index(dim, start) && is_index(dim, stop)
+}
+
+/// Whether the start, stop and step of a FOR .. FROM go with its dimension: FOR .. FROM wants one of numbers, or one of dates, over
+/// which the step is a number of days. Where there is no dimension, they have only to be values.
 pub fn steps_fit(dim: Option<ExprKind>, start: ExprKind, stop: ExprKind, step: ExprKind) -> bool
-    ensures { result ≡ spec.steps_fit dim (start ∷ stop ∷ step ∷ []) }
+    ensures { result ≡ spec.steps_fit dim start stop step }
 {
     match dim {
-        None => true,
-        Some(ExprKind::Number(s)) => all_index(ExprKind::Number(s), start, stop, step),
+        None => are_values(start, stop, step),
+        Some(ExprKind::Number(s)) => {
+            let dim = ExprKind::Number(s);
+            bounds_fit(dim, start, stop) && is_index(dim, step)
+        }
+        Some(ExprKind::Date) => bounds_fit(ExprKind::Date, start, stop) && is_day_count(step),
         Some(_) => false,
     }
 }

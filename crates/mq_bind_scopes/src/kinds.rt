@@ -16,7 +16,8 @@ pub enum ExprKind {
     /// A number with this many digits behind its point; an INT has none.
     Number(u8),
     Text,
-    /// The literal NULL, which goes with numbers and with texts.
+    Date,
+    /// The literal NULL, which goes with numbers, with texts and with dates.
     Null,
     /// A condition, which is no value.
     Condition,
@@ -29,6 +30,7 @@ pub fn value_kind(v: &Value) -> ExprKind
     match v {
         Value::Num(n) => ExprKind::Number(n.scale()),
         Value::Text(_) => ExprKind::Text,
+        Value::Date(_) => ExprKind::Date,
         Value::Null => ExprKind::Null,
     }
 }
@@ -41,6 +43,7 @@ pub fn of_column(kind: Kind) -> ExprKind
         Kind::Int => ExprKind::Number(0),
         Kind::Decimal(scale) => ExprKind::Number(scale),
         Kind::Text => ExprKind::Text,
+        Kind::Date => ExprKind::Date,
     }
 }
 
@@ -55,6 +58,7 @@ pub fn column_kind(kind: ExprKind) -> Option<Kind>
             Kind::Decimal(scale)
         }),
         ExprKind::Text => Some(Kind::Text),
+        ExprKind::Date => Some(Kind::Date),
         ExprKind::Null => None,
         ExprKind::Condition => None,
     }
@@ -93,7 +97,19 @@ fn operand_scale(kind: ExprKind) -> Result<u8, Fail<Refused>>
     }
 }
 
-/// The kind that both go into: numbers with numbers, texts with texts, and NULL with both.
+/// Whether it is that of a number of days, which is whole; NULL stands for one too.
+pub fn is_day_count(kind: ExprKind) -> bool
+    ensures { result ≡ spec.is_day_count kind }
+{
+    match kind {
+        ExprKind::Number(scale) => scale == 0,
+        ExprKind::Null => true,
+        _ => false,
+    }
+}
+
+/// The kind that both go into: numbers with numbers, texts with texts, dates with dates, and NULL with each. `KindMismatch` where
+/// there is none (docs/LANGUAGE.md, "Kinds").
 pub fn wider(a: ExprKind, b: ExprKind) -> Result<ExprKind, Fail<Refused>>
     ensures { Gives result (spec.wider a b) }
 {
@@ -102,29 +118,69 @@ pub fn wider(a: ExprKind, b: ExprKind) -> Result<ExprKind, Fail<Refused>>
         (ExprKind::Number(s), ExprKind::Null) => Ok(ExprKind::Number(s)),
         (ExprKind::Text, ExprKind::Text) => Ok(ExprKind::Text),
         (ExprKind::Text, ExprKind::Null) => Ok(ExprKind::Text),
+        (ExprKind::Date, ExprKind::Date) => Ok(ExprKind::Date),
+        (ExprKind::Date, ExprKind::Null) => Ok(ExprKind::Date),
         (ExprKind::Null, ExprKind::Number(t)) => Ok(ExprKind::Number(t)),
         (ExprKind::Null, ExprKind::Text) => Ok(ExprKind::Text),
+        (ExprKind::Null, ExprKind::Date) => Ok(ExprKind::Date),
         (ExprKind::Null, ExprKind::Null) => Ok(ExprKind::Null),
         _ => Err(mismatch()),
     }
 }
 
-/// `+` and `-` take numbers, `||` numbers and texts; all take NULL.
+// Numbers, or NULL: the larger scale.
+fn numbers_kind(a: ExprKind, b: ExprKind) -> Result<ExprKind, Fail<Refused>>
+    ensures { Gives result (made.numbers_kind a b) }
+{
+    let s = operand_scale(a)?;
+    let t = operand_scale(b)?;
+    Ok(ExprKind::Number(s.max(t)))
+}
+
+// A date that is moved by a number of days.
+fn shifted_kind(days: ExprKind) -> Result<ExprKind, Fail<Refused>>
+    ensures { Gives result (made.shifted_kind days) }
+{
+    if !is_day_count(days) {
+        return Err(mismatch());
+    }
+    Ok(ExprKind::Date)
+}
+
+fn added_kind(a: ExprKind, b: ExprKind) -> Result<ExprKind, Fail<Refused>>
+    ensures { Gives result (made.added_kind a b) }
+{
+    match (a, b) {
+        (ExprKind::Date, days) => shifted_kind(days),
+        (days, ExprKind::Date) => shifted_kind(days),
+        _ => numbers_kind(a, b),
+    }
+}
+
+fn subtracted_kind(a: ExprKind, b: ExprKind) -> Result<ExprKind, Fail<Refused>>
+    ensures { Gives result (made.subtracted_kind a b) }
+{
+    match (a, b) {
+        (ExprKind::Date, ExprKind::Date) => Ok(ExprKind::Number(0)),
+        (ExprKind::Date, days) => shifted_kind(days),
+        _ => numbers_kind(a, b),
+    }
+}
+
+/// `+` and `-` take numbers, and a date with a number of days; `-` takes a date less a date too, and `||` every value. NULL goes
+/// with each. `KindMismatch` for other operands (docs/LANGUAGE.md, "Kinds").
 pub fn sum_kind(op: SumOp, a: ExprKind, b: ExprKind) -> Result<ExprKind, Fail<Refused>>
     ensures { Gives result (made.sum_kind op a b) }
 {
     match op {
+        SumOp::Add => added_kind(a, b),
+        SumOp::Sub => subtracted_kind(a, b),
         SumOp::Join => joined_kind(a, b),
-        SumOp::Add | SumOp::Sub => {
-            let s = operand_scale(a)?;
-            let t = operand_scale(b)?;
-            Ok(ExprKind::Number(s.max(t)))
-        }
     }
 }
 
 fn joined_kind(a: ExprKind, b: ExprKind) -> Result<ExprKind, Fail<Refused>>
-    ensures { Gives result (made.sum_kind SumOp.Join a b) }
+    ensures { Gives result (made.joined_kind a b) }
 {
     if is_condition_kind(a) {
         return Err(mismatch());
@@ -164,15 +220,13 @@ pub fn rounded_kind(scale: u8, kind: ExprKind) -> Result<ExprKind, Fail<Refused>
     Ok(ExprKind::Number(scale))
 }
 
-// CAST takes numbers and NULL to every kind, and texts to TEXT.
+// CAST takes every value to TEXT, and to another kind what a column of that kind takes.
 fn is_castable(kind: ExprKind, to: Kind) -> bool
     ensures { result ≡ made.is_castable kind to }
 {
-    match (kind, to) {
-        (ExprKind::Number(_), _) => true,
-        (ExprKind::Null, _) => true,
-        (ExprKind::Text, Kind::Text) => true,
-        _ => false,
+    match to {
+        Kind::Text => !is_condition_kind(kind),
+        _ => is_assignable(of_column(to), kind),
     }
 }
 
@@ -182,11 +236,12 @@ pub fn kind_fits(kind: Kind) -> bool
 {
     match kind {
         Kind::Decimal(scale) => 0 < scale && scale <= MAX_SCALE,
-        Kind::Int | Kind::Text => true,
+        Kind::Int | Kind::Text | Kind::Date => true,
     }
 }
 
-/// The kind of CAST, where it can be cast.
+/// The kind that CAST gives. `KindMismatch` where it does not take this one: it takes every value to TEXT, and to another kind what a
+/// column of that kind takes. Then the limit of scales, where the scale is none that DECIMAL may have (docs/LANGUAGE.md, "Kinds").
 pub fn cast_kind(to: Kind, kind: ExprKind) -> Result<ExprKind, Fail<Refused>>
     ensures { Gives result (made.cast_kind to kind) }
 {
@@ -199,7 +254,8 @@ pub fn cast_kind(to: Kind, kind: ExprKind) -> Result<ExprKind, Fail<Refused>>
     Ok(of_column(to))
 }
 
-/// The kind of an aggregate of such values.
+/// The kind of an aggregate of such values. `KindMismatch` where it does not take them: SUM and AVG take numbers, MIN and MAX every
+/// value but the literal NULL, COUNT every value (docs/LANGUAGE.md, "Kinds").
 pub fn aggregate_kind(agg: Agg, kind: ExprKind) -> Result<ExprKind, Fail<Refused>>
     ensures { Gives result (made.aggregate_kind agg kind) }
 {
@@ -232,15 +288,18 @@ fn extreme_kind(kind: ExprKind) -> Result<ExprKind, Fail<Refused>>
     Ok(kind)
 }
 
-/// Whether a column or measure of the first kind takes values of the second.
+/// Whether a column or measure of the first kind takes values of the second: numbers take numbers, texts texts and dates dates, and
+/// each takes NULL (docs/LANGUAGE.md, "Kinds").
 pub fn is_assignable(to: ExprKind, kind: ExprKind) -> bool
     ensures { result ≡ spec.is_assignable to kind }
 {
     match (to, kind) {
         (ExprKind::Number(_), ExprKind::Number(_)) => true,
         (ExprKind::Text, ExprKind::Text) => true,
+        (ExprKind::Date, ExprKind::Date) => true,
         (ExprKind::Number(_), ExprKind::Null) => true,
         (ExprKind::Text, ExprKind::Null) => true,
+        (ExprKind::Date, ExprKind::Null) => true,
         _ => false,
     }
 }

@@ -1,6 +1,6 @@
 -- The FORs of a left side: what they go through, and whether it goes with the dimensions that they stand for.
 use Rattle.std.specs.Prelude.{ℕ, List, [], ◌∷◌, ◌++◌, length, map, zip, Bool, false, not, ◌&&◌, ◌==◌, Option, Result, Ok}
-use Rattle.std.specs.List.{list_all}
+use Rattle.std.specs.List.{list_all, list_any}
 use Rattle.std.specs.Option.{option_map_or}
 use Rattle.mq_lexer.specs.Words.{folded}
 use Rattle.mq_values.specs.declared.faults.Refused.{Refused}
@@ -26,6 +26,7 @@ use Rattle.mq_bind_scopes.specs.declared.scopes.Printed.{Printed}
 use Rattle.mq_bind_scopes.specs.declared.scopes.Scope.{Scope}
 use Rattle.mq_bind_expr.specs.ExpressionWalk.{bound}
 use Rattle.mq_bind_scopes.specs.ForSteps.{steps_fit}
+use Rattle.mq_bind_scopes.specs.Kinds.{is_condition_kind}
 use Rattle.mq_bind_scopes.specs.Names.{Name}
 use Rattle.mq_bind_expr.specs.OperatorNodes.{exprs_of, kinds_of}
 use Rattle.mq_bind_expr.specs.PlaceTests.{fits_dimension}
@@ -55,13 +56,17 @@ list_bound catalog scope lists (for_list.Rows p) = plain_bound catalog p >>= (λ
 abbrev pub pairs_fit : List (Option ExprKind) → List ExprKind → Bool
 pairs_fit dims kinds = list_all (λ (p : Option ExprKind × ExprKind). fits_dimension p.0 p.1) (zip dims kinds)
 
+-- a row of values: none is a condition, whether or not there is a dimension that it is for
+abbrev pub row_fits : List (Option ExprKind) → List ExprKind → Bool
+row_fits dims kinds = not (list_any is_condition_kind kinds) && pairs_fit dims kinds
+
 abbrev pub has_width : ℕ → List ExprKind → Bool
 has_width n kinds = length kinds == n
 
 -- A FOR: the kinds of its values, then whether it names what it stands for, and the width of its values.
 abbrev pub for_checked : List (Option ExprKind) → Bool → ListFound → Result ListFound Refused
 for_checked dims is_named found =
-    refused_where (not (list_all (pairs_fit dims) found.kinds)) kind_mismatch (
+    refused_where (not (list_all (row_fits dims) found.kinds)) kind_mismatch (
     refused_where (not (is_named && list_all (has_width (length dims)) found.kinds)) (misuse MISUSE_OF_FOR) (Ok found))
 
 -- a place of one FOR names the dimension of its place
@@ -70,6 +75,6 @@ names_place scope n name = option_map_or (λ (d : Named). is_name (folded name) 
 
 abbrev pub steps_checked : Scope → ℕ → Name → Bool → Found → Found → Found → Result LeftItem Refused
 steps_checked scope n dim down start stop step =
-    refused_where (not (steps_fit (place_kind scope owner.Main n) (start.kind ∷ stop.kind ∷ step.kind ∷ []))) kind_mismatch (
+    refused_where (not (steps_fit (place_kind scope owner.Main n) start.kind stop.kind step.kind)) kind_mismatch (
     refused_where (not (names_place scope n dim)) (misuse MISUSE_OF_FOR) (
     Ok (item.Steps start.e stop.e step.e down)))

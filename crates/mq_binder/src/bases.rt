@@ -9,21 +9,11 @@ ghost use Rattle.mq_bind_expr.specs.Steps.{each_from};
 use crate::found::Base;
 use crate::sources::{groupings, row_scope, sources_of};
 use mq_ast::{FromItem, Plain};
-use mq_bind_expr::bound_filter;
+use mq_bind_expr::{bound_filter, unboxed};
 use mq_bind_scopes::{Part, Scope, number, standing, standing_on};
 use mq_ir::{Catalog, Expr, FromPart};
 use mq_values::{Boxed, Fail, Items, Memory, Refused, Words};
 use std::alloc::Global;
-
-/// The same expression, where there is one.
-pub fn unboxed(e: Option<Boxed<Expr>>) -> Option<Expr>
-    ensures { result ≡ e }
-{
-    match e {
-        Some(e) => Some(e.into_inner()),
-        None => None,
-    }
-}
 
 // Each ON condition sees the FROM items up to its own.
 fn on_bound(

@@ -2,21 +2,22 @@
 //! (docs/LANGUAGE.md, "The order of binding").
 
 ghost use Rattle.std.specs.Prelude.{◌≡◌, ◌∷◌, ◌++◌, [], map, IfOk};
-ghost use Rattle.std.specs.List.{list_all};
+ghost use Rattle.std.specs.List.{list_all, list_any};
 ghost use Rattle.mq_values.specs.Answers.{Gives};
 ghost use Rattle.mq_ir.specs.Results.{each};
 ghost use Rattle.mq_ir.specs.declared.query.LeftItem.TheVariants as item;
 ghost use Rattle.mq_bind_scopes.specs.declared.scopes.Printed.{Printed as PrintedOf};
 ghost use Rattle.mq_binder.specs.ForWalk as spec;
 ghost use Rattle.mq_bind_expr.specs.OperatorNodes as nodes;
+ghost use Rattle.mq_bind_scopes.specs.Kinds as kinds_as;
 
 use crate::found::{ListFound, PlainFound};
 use crate::plain::held_plain;
 use mq_ast::{E, ForList};
 use mq_bind_expr::{Held, bound, fits_dimension};
 use mq_bind_scopes::{
-    ExprKind, MISUSE_OF_FOR, Owner, Part, Printed, Scope, dimension_at, mismatch, misuse, number,
-    place_kind, standing, steps_fit,
+    ExprKind, MISUSE_OF_FOR, Owner, Part, Printed, Scope, dimension_at, is_condition_kind,
+    mismatch, misuse, number, place_kind, standing, steps_fit,
 };
 use mq_ir::{Catalog, Expr, LeftItem, ListSource, PlainPart};
 use mq_lexer::folded;
@@ -178,6 +179,19 @@ fn pairs_fit(dims: &[Option<ExprKind>], kinds: &[ExprKind]) -> bool
         .all(|(dim, kind)| fits_dimension(*dim, *kind))
 }
 
+fn any_condition(kinds: &[ExprKind]) -> bool
+    ensures { result ≡ list_any kinds_as.is_condition_kind kinds.now }
+{
+    kinds.iter().any(|kind| is_condition_kind(*kind))
+}
+
+// A row of values: none is a condition, whether or not there is a dimension that it is for.
+fn row_fits(dims: &[Option<ExprKind>], kinds: &[ExprKind]) -> bool
+    ensures { result ≡ spec.row_fits dims.now kinds.now }
+{
+    !any_condition(kinds) && pairs_fit(dims, kinds)
+}
+
 fn has_width(n: usize, kinds: &[ExprKind]) -> bool
     ensures { result ≡ spec.has_width n kinds.now }
 {
@@ -185,9 +199,9 @@ fn has_width(n: usize, kinds: &[ExprKind]) -> bool
 }
 
 fn all_fit(dims: &[Option<ExprKind>], rows: &[Items<ExprKind>]) -> bool
-    ensures { result ≡ list_all (spec.pairs_fit dims.now) rows.now }
+    ensures { result ≡ list_all (spec.row_fits dims.now) rows.now }
 {
-    rows.iter().all(|row| pairs_fit(dims, row.as_slice()))
+    rows.iter().all(|row| row_fits(dims, row.as_slice()))
 }
 
 fn all_wide(n: usize, rows: &[Items<ExprKind>]) -> bool

@@ -9,7 +9,7 @@ ghost use Rattle.mq_binder.specs.ListWalk as spec;
 use crate::found::ListItem;
 use crate::tables::has_name;
 use mq_ast::Sel;
-use mq_bind_expr::{Held, bound, name_of};
+use mq_bind_expr::{Held, bound, held, name_of};
 use mq_bind_scopes::{
     Found, MISUSE_OF_ITEM_WITHOUT_NAME, Named, Position, Scope, column_kind, duplicate_name, limit,
     mismatch, misuse, number,
@@ -90,8 +90,7 @@ fn held_item(
 ) -> Result<Boxed<ListItem>, Fail<Refused>>
     ensures { Gives result (spec.list_item scope.now at taken.now sel.now) }
 {
-    let item = list_item(alloc, scope, at, taken, sel)?;
-    Ok(Boxed::new(alloc, item)?)
+    held(alloc, list_item(alloc, scope, at, taken, sel))
 }
 
 /// The same names once more.
@@ -130,7 +129,8 @@ pub fn list_exprs(alloc: Global, items: Items<ListItem>) -> Result<Items<Expr>, 
     Ok(es)
 }
 
-fn same_column(column: &Named) -> Result<Named, Memory>
+/// The same column once more.
+pub fn same_column(column: &Named) -> Result<Named, Memory>
     ensures { IfOk result (λ copy. copy ≡ column.now) }
 {
     Ok(Named {

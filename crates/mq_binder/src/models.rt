@@ -12,13 +12,14 @@ ghost use Rattle.mq_binder.specs.PlainWalk as plain;
 use crate::found::{ListItem, Lists, ModelFound, ReferenceFound};
 use crate::lists::{
     items_listed, limited, list_columns, list_exprs, list_kinds, list_names, push_names,
+    same_column,
 };
 use crate::plain::any_aggregate;
 use crate::references::references_bound;
 use crate::rules::rules_bound;
 use crate::sources::group_of;
 use mq_ast::{ModelTree, Sel};
-use mq_bind_expr::bound_filter;
+use mq_bind_expr::{bound_filter, unboxed};
 use mq_bind_scopes::{
     MISUSE_OF_OPTIONS, ModelNames, Named, Part, ReferenceNames, Scope, head_bound, ignores_nav,
     misuse, number, options_clash, standing,
@@ -128,21 +129,12 @@ fn all_items(lists: Lists) -> Result<Items<ListItem>, Memory>
     Ok(items)
 }
 
-fn same_named(c: &Named) -> Result<Named, Memory>
-    ensures { IfOk result (λ copy. copy ≡ c.now) }
-{
-    Ok(Named {
-        name: c.name.copy()?,
-        kind: c.kind,
-    })
-}
-
 fn same_columns(alloc: Global, columns: &[Named]) -> Result<Items<Named>, Memory>
     ensures { IfOk result (λ copies. copies ≡ columns.now) }
 {
     let mut copies = Items::new(alloc);
     'columns: for c in columns {
-        copies.push(same_named(c)?)?;
+        copies.push(same_column(c)?)?;
     }
     Ok(copies)
 }
@@ -297,15 +289,6 @@ fn model_part(
     }
 }
 
-fn until_of(until: Option<Boxed<Expr>>) -> Option<Expr>
-    ensures { result ≡ until }
-{
-    match until {
-        Some(e) => Some(e.into_inner()),
-        None => None,
-    }
-}
-
 // UNTIL stands behind ITERATE.
 fn iterate_of(turns: Option<u32>, until: Option<Boxed<Expr>>) -> Option<Iterate>
     ensures { result ≡ spec.iterate_of turns until }
@@ -313,7 +296,7 @@ fn iterate_of(turns: Option<u32>, until: Option<Boxed<Expr>>) -> Option<Iterate>
     match turns {
         Some(turns) => Some(Iterate {
             turns,
-            until: until_of(until),
+            until: unboxed(until),
         }),
         None => None,
     }

@@ -14,7 +14,7 @@ use crate::bases::base_of;
 use crate::found::PlainFound;
 use crate::sources::{group_of, grouped_by};
 use mq_ast::{Plain, Sel};
-use mq_bind_expr::{Held, bound_value, column_leaf, has_aggregate, name_of};
+use mq_bind_expr::{Held, bound_value, column_leaf, has_aggregate, held, name_of};
 use mq_bind_scopes::{
     ExprKind, MISUSE_OF_UNGROUPED_COLUMN, Part, Printed, RowColumn, Scope, is_ungrouped, limit,
     misuse, standing,
@@ -204,6 +204,5 @@ pub fn held_plain(
 ) -> Result<Boxed<PlainFound>, Fail<Refused>>
     ensures { Gives result (spec.plain_bound catalog.now p.now) }
 {
-    let found = plain_bound(alloc, catalog, p)?;
-    Ok(Boxed::new(alloc, found)?)
+    held(alloc, plain_bound(alloc, catalog, p))
 }

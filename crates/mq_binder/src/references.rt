@@ -14,6 +14,7 @@ use crate::plain::held_plain;
 use crate::sources::row_scope;
 use crate::tables::has_name;
 use mq_ast::RefTree;
+use mq_bind_expr::held;
 use mq_bind_scopes::{
     MISUSE_OF_OPTIONS, Part, Printed, ReferenceNames, RowColumn, Scope, duplicate_name,
     ignores_nav, misuse, number, options_clash, standing,
@@ -225,8 +226,7 @@ fn held_reference(
 ) -> Result<Boxed<ReferenceFound>, Fail<Refused>>
     ensures { Gives result (spec.reference_bound catalog.now around earlier.now r.now) }
 {
-    let reference = reference_bound(alloc, catalog, around, earlier, r)?;
-    Ok(Boxed::new(alloc, reference)?)
+    held(alloc, reference_bound(alloc, catalog, around, earlier, r))
 }
 
 fn references_found(

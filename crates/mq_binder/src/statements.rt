@@ -13,11 +13,11 @@ use crate::changes::{change_scope, rows_bound, sets_bound};
 use crate::queries::query_bound;
 use crate::tables::{is_table, is_taken, table_bound};
 use mq_ast::{ColDef, E, Query, Stmt};
-use mq_bind_expr::bound_filter;
+use mq_bind_expr::{bound_filter, unboxed};
 use mq_bind_scopes::{Part, Scope, duplicate_name, limit, standing, unknown_name};
 use mq_ir::{Bound, Catalog, Change, Expr, LIMIT_OF_VIEWS, Schema};
 use mq_lexer::folded;
-use mq_values::{Boxed, Fail, Items, MAX_VIEWS, Refused, Words};
+use mq_values::{Fail, Items, MAX_VIEWS, Refused, Words};
 use std::alloc::Global;
 
 // The name of a table that is there.
@@ -150,15 +150,6 @@ fn insert_bound(
     }
 }
 
-fn off_heap(filter: Option<Boxed<Expr>>) -> Option<Expr>
-    ensures { result ≡ filter }
-{
-    match filter {
-        Some(e) => Some(e.into_inner()),
-        None => None,
-    }
-}
-
 fn update_where(
     alloc: Global,
     name: Words,
@@ -172,7 +163,7 @@ fn update_where(
     Ok(Bound::Change(Change::Update {
         table: name,
         sets,
-        filter: off_heap(condition),
+        filter: unboxed(condition),
     }))
 }
 
@@ -231,7 +222,7 @@ fn delete_of(
     let condition = bound_filter(alloc, &scope, standing(Part::Row), filter)?;
     Ok(Bound::Change(Change::Delete {
         table: name,
-        filter: off_heap(condition),
+        filter: unboxed(condition),
     }))
 }
 

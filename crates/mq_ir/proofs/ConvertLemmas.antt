@@ -7,6 +7,7 @@ use Rattle.std.specs.Prelude.{nat_le}
 use lib.IntN.{one}
 use Rattle.mq_values.specs.Answers.{result_map}
 use Rattle.mq_values.specs.Arithmetic.{in_range, rescaled, rounded}
+use Rattle.mq_values.specs.Calendar.{text_of_day}
 use Rattle.mq_values.specs.Convert.{cast_of, number_at}
 use Rattle.mq_values.specs.Number.{Number, is_mantissa, mant_at, text_of_number}
 use Rattle.mq_values.specs.declared.faults.ValueFault.TheVariants.{Overflow}
@@ -55,7 +56,13 @@ pub converts_once : (v : Value) (k : Kind) → ConvertsOnce v k
 converts_once (value.Num n) kind.Int w h = at_scale n 0 w (λ v. cast_of v kind.Int ≡ Ok v) h (λ m e. e) refl
 converts_once (value.Num n) (kind.Decimal s) w h = at_scale n s w (λ v. cast_of v (kind.Decimal s) ≡ Ok v) h (λ m e. e) refl
 converts_once (value.Num n) kind.Text w h = let e : value.Text (text_of_number n) ≡ w = cc in subst (λ v. cast_of v kind.Text ≡ Ok v) e refl
+converts_once (value.Num n) kind.Date w h = let e : value.Null ≡ w = cc in subst (λ v. cast_of v kind.Date ≡ Ok v) e refl
 converts_once (value.Text t) kind.Int w h = let e : value.Null ≡ w = cc in subst (λ v. cast_of v kind.Int ≡ Ok v) e refl
 converts_once (value.Text t) (kind.Decimal s) w h = let e : value.Null ≡ w = cc in subst (λ v. cast_of v (kind.Decimal s) ≡ Ok v) e refl
 converts_once (value.Text t) kind.Text w h = let e : value.Text t ≡ w = cc in subst (λ v. cast_of v kind.Text ≡ Ok v) e refl
+converts_once (value.Text t) kind.Date w h = let e : value.Null ≡ w = cc in subst (λ v. cast_of v kind.Date ≡ Ok v) e refl
+converts_once (value.Date d) kind.Int w h = let e : value.Null ≡ w = cc in subst (λ v. cast_of v kind.Int ≡ Ok v) e refl
+converts_once (value.Date d) (kind.Decimal s) w h = let e : value.Null ≡ w = cc in subst (λ v. cast_of v (kind.Decimal s) ≡ Ok v) e refl
+converts_once (value.Date d) kind.Text w h = let e : value.Text (text_of_day d) ≡ w = cc in subst (λ v. cast_of v kind.Text ≡ Ok v) e refl
+converts_once (value.Date d) kind.Date w h = let e : value.Date d ≡ w = cc in subst (λ v. cast_of v kind.Date ≡ Ok v) e refl
 converts_once value.Null k w h = let e : value.Null ≡ w = cc in subst (λ v. cast_of v k ≡ Ok v) e refl

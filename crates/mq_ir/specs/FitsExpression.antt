@@ -27,6 +27,7 @@ abbrev pub kind_fits : Kind → Bool
 kind_fits kind.Int = true
 kind_fits (kind.Decimal s) = nat_lt 0 s && nat_le s MAX_SCALE
 kind_fits kind.Text = true
+kind_fits kind.Date = true
 
 abbrev pub call_fits : Func → ℕ → Bool
 call_fits Abs n = n == 1

@@ -11,7 +11,10 @@ use Rattle.mq_ir.specs.declared.statement.Change.TheVariants.{Insert, Append, Up
 use Rattle.mq_ir.specs.declared.statement.Column.{Column}
 use Rattle.mq_ir.specs.declared.statement.Schema.{Schema}
 use Rattle.mq_ir.specs.declared.expression.Expr.{Expr}
+use Rattle.mq_values.specs.declared.value.Kind.{Kind}
+use Rattle.mq_values.specs.declared.value.Kind.TheVariants as kind
 use Rattle.mq_values.specs.declared.value.Value.{Value}
+use Rattle.mq_values.specs.declared.value.Value.TheVariants as value
 use Rattle.mq_ir.specs.declared.catalog.Catalog.{Catalog}
 use Rattle.mq_ir.specs.Changes.{table_of}
 use Rattle.mq_ir.specs.Names.{is_table, is_taken, is_view, schema_of}
@@ -25,9 +28,14 @@ schema_fits schema =
     nat_le (length schema.cols) MAX_COLUMNS && list_all (λ col. kind_fits col.kind) schema.cols
     && list_all (λ c. nat_lt c (length schema.cols)) schema.key
 
+-- a value that a column of the kind may hold; of a day the type itself makes sure that it is in the range
+abbrev pub may_hold : Kind → Value → Bool
+may_hold kind.Date (value.Date day) = true
+may_hold k v = is_of k v
+
 -- each value is null or of the column's kind, and it is not null where the column is NOT NULL
 abbrev pub value_fits : Column × Value → Bool
-value_fits (col, v) = is_of col.kind v && (is_value v || not col.not_null)
+value_fits (col, v) = may_hold col.kind v && (is_value v || not col.not_null)
 
 -- one value for each column
 abbrev pub is_row_of : Schema → Tuple → Bool

@@ -35,6 +35,7 @@ fault_name kind.SelfOrder = codes "SELF_ORDER"
 fault_name kind.TooManyCells = codes "TOO_MANY_CELLS"
 fault_name kind.TooManyUnfolded = codes "TOO_MANY_UNFOLDED"
 fault_name kind.TooManyRows = codes "TOO_MANY_ROWS"
+fault_name kind.DateRange = codes "DATE_RANGE"
 
 -- a key as it stands in a fault or a refusal
 abbrev pub key_text : Tuple → List ℕ

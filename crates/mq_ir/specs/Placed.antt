@@ -17,6 +17,7 @@ abbrev pub kind_of : ValueFault → FaultKind
 kind_of fault.Overflow = kind.Overflow
 kind_of fault.DivideByZero = kind.DivideByZero
 kind_of fault.TextTooLong = kind.TextTooLong
+kind_of fault.DateRange = kind.DateRange
 
 abbrev pub placed_fault : ℕ → Tuple → FaultKind → Placed
 placed_fault rule cell kind = record { kind = kind; rule = rule; cell = cell }

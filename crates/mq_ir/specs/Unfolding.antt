@@ -27,7 +27,7 @@ use Rattle.mq_ir.specs.declared.query.SingleLeft.{SingleLeft}
 use Rattle.mq_ir.specs.declared.query.SinglePlace.{SinglePlace}
 use Rattle.mq_ir.specs.declared.query.SinglePlace.TheVariants as place
 use Rattle.mq_ir.specs.Combinations.{combinations}
-use Rattle.mq_ir.specs.Expression.{Outcome, whole}
+use Rattle.mq_ir.specs.Expression.{Outcome, ev, whole}
 use Rattle.mq_values.specs.declared.limits.TheConstants.{MAX_SINGLE_LEFT_SIDES}
 use Rattle.mq_ir.specs.Partitions.{Tuple, Cells}
 use Rattle.mq_ir.specs.Placed.{kind_of}
@@ -73,12 +73,23 @@ progression start stop _ = []
 abbrev pub regression : ℤ → ℤ → ℤ → List ℤ
 regression start stop step = map (λ d. start -ℤ (d -ℤ start)) (progression start (start +ℤ (start -ℤ stop)) step)
 
--- FOR .. FROM .. TO .. over whole numbers of the dimension's kind; nothing where a bound or the step is null
+abbrev pub in_steps : Bool → ℤ → ℤ → ℤ → List ℤ
+in_steps down = if down then regression else progression
+
+-- FOR .. FROM .. TO .. over whole numbers of the dimension's kind, or over dates by their ordinals; nothing where a bound or the step
+-- is null, or where the step over dates is of another scale than 0
 abbrev pub steps_of : Bool → Value → Value → Value → List SinglePlace
 steps_of down (value.Num start) (value.Num stop) (value.Num step) =
-    map (λ m. place.At (value.Num (record { mant = m; scale = start.scale })))
-    ((if down then regression else progression) start.mant stop.mant step.mant)
+    map (λ m. place.At (value.Num (record { mant = m; scale = start.scale }))) (in_steps down start.mant stop.mant step.mant)
+steps_of down (value.Date start) (value.Date stop) (value.Num step) =
+    if step.scale == 0 then map (λ m. place.At (value.Date (unsigned_abs m))) (in_steps down (pos start) (pos stop) step.mant) else []
 steps_of down _ _ _ = []
+
+-- The step of FOR .. FROM over a dimension of this kind. It is brought to that kind, as the bounds are; but over dates it counts days, and
+-- stays as it is.
+abbrev pub step_outcome : (Leaf → Outcome) → Kind → Expr → Outcome
+step_outcome leaves kind.Date e = ev leaves e
+step_outcome leaves kind e = converted leaves kind e
 
 -- what stands in a place of a single left side, one after another
 abbrev pub item_places : Model → ℕ → ℕ × LeftItem → Result (List SinglePlace) ValueFault
@@ -87,7 +98,7 @@ item_places model turn (dim, Sym test) = test_of (left_leaves turn) (kind_at mod
 item_places model turn (dim, Listed source) = source_rows model turn (kind_at model dim ∷ []) source >>= (λ rows. Ok (map (λ row. slice_index_or row 0 (place.At value.Null)) rows))
 item_places model turn (dim, Steps start stop step down) =
     let at : Expr → Outcome = converted (left_leaves turn) (kind_at model dim) in
-    at start >>= (λ a. at stop >>= (λ b. at step >>= (λ c. Ok (steps_of down a b c))))
+    at start >>= (λ a. at stop >>= (λ b. step_outcome (left_leaves turn) (kind_at model dim) step >>= (λ c. Ok (steps_of down a b c))))
 
 -- a row of FOR (d1, d2, ..) in the order of the dimensions
 abbrev pub in_order : ℕ → List ℕ → List SinglePlace → List SinglePlace

@@ -59,4 +59,5 @@ flag false = whole 0
 abbrev pub is_flagged : Value → Bool
 is_flagged (value.Num n) = not (int_eq n.mant (pos 0))
 is_flagged (value.Text t) = false
+is_flagged (value.Date d) = false
 is_flagged value.Null = false

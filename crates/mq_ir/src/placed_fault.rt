@@ -58,5 +58,6 @@ pub fn kind_of(fault: ValueFault) -> FaultKind
         ValueFault::Overflow => FaultKind::Overflow,
         ValueFault::DivideByZero => FaultKind::DivideByZero,
         ValueFault::TextTooLong => FaultKind::TextTooLong,
+        ValueFault::DateRange => FaultKind::DateRange,
     }
 }

@@ -138,12 +138,19 @@ one_decider_more conditions old new d e all one = subst (λ (ds : List Decider).
 turned : (a b : Value) → comparison Eq a b ≡ comparison Eq b a
 turned (value.Num a) (value.Num b) = ap Some (same_keys_equiv.symm (value.Num a) (value.Num b))
 turned (value.Num a) (value.Text b) = refl
+turned (value.Num a) (value.Date b) = refl
 turned (value.Num a) value.Null = refl
 turned (value.Text a) (value.Num b) = refl
 turned (value.Text a) (value.Text b) = ap Some (same_keys_equiv.symm (value.Text a) (value.Text b))
+turned (value.Text a) (value.Date b) = refl
 turned (value.Text a) value.Null = refl
+turned (value.Date a) (value.Num b) = refl
+turned (value.Date a) (value.Text b) = refl
+turned (value.Date a) (value.Date b) = ap Some (same_keys_equiv.symm (value.Date a) (value.Date b))
+turned (value.Date a) value.Null = refl
 turned value.Null (value.Num b) = refl
 turned value.Null (value.Text b) = refl
+turned value.Null (value.Date b) = refl
 turned value.Null value.Null = refl
 
 equality_found : (rows : List Tuple) (a b : ColRef) → holds (row_leaves rows) (equality a b) ≡ Ok (columns_equal rows a.item a.column b.item b.column)

@@ -20,7 +20,7 @@ use Rattle.mq_ir.specs.Results.{◌>>=◌, each_in_turn, marked}
 use Rattle.mq_ir.specs.Worth.{as_truth}
 use Rattle.mq_join.specs.Deciding.{Agree, IsDecider, IsServing, SeesBelow, Serves, TellsNo, columns_equal, value_at}
 use Rattle.mq_join.specs.Indexed.{IsFirst, IsIndexed, key_at, matches, may_pass}
-use Rattle.mq_join.specs.JoinKeys.{cmp_joined, is_number, is_same_key, is_text}
+use Rattle.mq_join.specs.JoinKeys.{cmp_joined, is_date, is_number, is_same_key, is_text}
 use Rattle.mq_join.specs.Passing.{AllServe, Idle, IndexesServe, IsIdleBy, IsIndexOf, IsReady, ServesItem, Starts}
 use Rattle.mq_join.specs.Rows.{Joined}
 use Rattle.mq_join.specs.Walk.{joined_step, rows_behind, with_joined}
@@ -70,17 +70,25 @@ safe_or true t h unlike = refl
 safe_or false t h unlike = absurd (let e : false ≡ true = unlike h in cc)
 
 -- values that are not one key compare as different, or it is safe that the comparison is unknown
-told_apart : (x : Index) (v w : Value) → may_pass x v ≡ true → is_same_key v w ≡ false → (IsTrue x.numbers → is_number w ≡ true) → (IsTrue x.texts → is_text w ≡ true)
+told_apart : (x : Index) (v w : Value) → may_pass x v ≡ true → is_same_key v w ≡ false
+    → (IsTrue x.numbers → is_number w ≡ true) → (IsTrue x.texts → is_text w ≡ true) → (IsTrue x.dates → is_date w ≡ true)
     → (comparison Eq v w ≡ Some false) ⊎ (IsTrue x.lookup.safe × (comparison Eq v w ≡ None))
-told_apart x (value.Num a) (value.Num b) pass unlike numbers texts = inl (ap Some unlike)
-told_apart x (value.Num a) (value.Text b) pass unlike numbers texts = inr (safe_or x.lookup.safe x.numbers pass numbers, refl)
-told_apart x (value.Num a) value.Null pass unlike numbers texts = inr (safe_or x.lookup.safe x.numbers pass numbers, refl)
-told_apart x (value.Text a) (value.Num b) pass unlike numbers texts = inr (safe_or x.lookup.safe x.texts pass texts, refl)
-told_apart x (value.Text a) (value.Text b) pass unlike numbers texts = inl (ap Some unlike)
-told_apart x (value.Text a) value.Null pass unlike numbers texts = inr (safe_or x.lookup.safe x.texts pass texts, refl)
-told_apart x value.Null (value.Num b) pass unlike numbers texts = inr (safe_or x.lookup.safe false pass (λ f. f), refl)
-told_apart x value.Null (value.Text b) pass unlike numbers texts = inr (safe_or x.lookup.safe false pass (λ f. f), refl)
-told_apart x value.Null value.Null pass unlike numbers texts = inr (safe_or x.lookup.safe false pass (λ f. f), refl)
+told_apart x (value.Num a) (value.Num b) pass unlike numbers texts dates = inl (ap Some unlike)
+told_apart x (value.Num a) (value.Text b) pass unlike numbers texts dates = inr (safe_or x.lookup.safe x.numbers pass numbers, refl)
+told_apart x (value.Num a) (value.Date b) pass unlike numbers texts dates = inr (safe_or x.lookup.safe x.numbers pass numbers, refl)
+told_apart x (value.Num a) value.Null pass unlike numbers texts dates = inr (safe_or x.lookup.safe x.numbers pass numbers, refl)
+told_apart x (value.Text a) (value.Num b) pass unlike numbers texts dates = inr (safe_or x.lookup.safe x.texts pass texts, refl)
+told_apart x (value.Text a) (value.Text b) pass unlike numbers texts dates = inl (ap Some unlike)
+told_apart x (value.Text a) (value.Date b) pass unlike numbers texts dates = inr (safe_or x.lookup.safe x.texts pass texts, refl)
+told_apart x (value.Text a) value.Null pass unlike numbers texts dates = inr (safe_or x.lookup.safe x.texts pass texts, refl)
+told_apart x (value.Date a) (value.Num b) pass unlike numbers texts dates = inr (safe_or x.lookup.safe x.dates pass dates, refl)
+told_apart x (value.Date a) (value.Text b) pass unlike numbers texts dates = inr (safe_or x.lookup.safe x.dates pass dates, refl)
+told_apart x (value.Date a) (value.Date b) pass unlike numbers texts dates = inl (ap Some unlike)
+told_apart x (value.Date a) value.Null pass unlike numbers texts dates = inr (safe_or x.lookup.safe x.dates pass dates, refl)
+told_apart x value.Null (value.Num b) pass unlike numbers texts dates = inr (safe_or x.lookup.safe false pass (λ f. f), refl)
+told_apart x value.Null (value.Text b) pass unlike numbers texts dates = inr (safe_or x.lookup.safe false pass (λ f. f), refl)
+told_apart x value.Null (value.Date b) pass unlike numbers texts dates = inr (safe_or x.lookup.safe false pass (λ f. f), refl)
+told_apart x value.Null value.Null pass unlike numbers texts dates = inr (safe_or x.lookup.safe false pass (λ f. f), refl)
 
 module _ (conditions : List Expr) (items : List (List Tuple)) (front : Places) (x : Index) (v : Value) where
   abbrev rows : List Tuple
@@ -109,7 +117,7 @@ module _ (conditions : List Expr) (items : List (List Tuple)) (front : Places) (
         ⊎_elim
         (λ apart. h.serving.no (all_rows k rest) (same ∙ apart))
         (λ u. h.serving.unknown u.0 (all_rows k rest) (same ∙ u.1))
-        (told_apart x v (key_at rows x.lookup.own k) pass unlike (λ s. h.indexed.numbers s k within) (λ s. h.indexed.texts s k within));
+        (told_apart x v (key_at rows x.lookup.own k) pass unlike (λ s. h.indexed.numbers s k within) (λ s. h.indexed.texts s k within) (λ s. h.indexed.dates s k within));
   }
 
 pub starts : (items : List (List Tuple)) (indexes : List (Option Index)) (front : Places) (x : Index) (v : Value) (first : Option ℕ) → slice_get indexes (length front) ≡ Some (Some x)

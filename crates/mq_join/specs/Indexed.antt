@@ -4,7 +4,7 @@ use Rattle.std.specs.BTreeMap.{BTreeMap, get}
 use Rattle.mq_values.specs.declared.value.Value.{Value}
 use Rattle.mq_values.specs.declared.value.Value.TheVariants as value
 use Rattle.mq_ir.specs.Keys.{Tuple}
-use Rattle.mq_join.specs.JoinKeys.{cmp_joined, is_number, is_same_key, is_text}
+use Rattle.mq_join.specs.JoinKeys.{cmp_joined, is_date, is_number, is_same_key, is_text}
 use Rattle.mq_join.specs.declared.indexes.Index.{Index}
 
 -- the value of a column in the row of this place
@@ -36,7 +36,7 @@ pub record IsChained (rows : List Tuple) (column i : ℕ) (firsts : BTreeMap Val
 
 -- whether each value of the column is of the sort of this one
 abbrev pub is_known : Index → Value → Bool
-is_known x v = if is_number v then x.numbers else (if is_text v then x.texts else false)
+is_known x v = if is_number v then x.numbers else (if is_text v then x.texts else (if is_date v then x.dates else false))
 
 -- whether the walk is idle at each row that has not this value: where the equality decides also if it is unknown, or where it never is
 abbrev pub may_pass : Index → Value → Bool
@@ -45,4 +45,5 @@ may_pass x v = x.lookup.safe || is_known x v
 pub record IsIndexed (rows : List Tuple) (x : Index) : Type 0 where
   pub numbers : IsTrue x.numbers → AllKeys is_number rows x.lookup.own
   pub texts : IsTrue x.texts → AllKeys is_text rows x.lookup.own
+  pub dates : IsTrue x.dates → AllKeys is_date rows x.lookup.own
   pub chained : IsChained rows x.lookup.own 0 x.heads x.next.items

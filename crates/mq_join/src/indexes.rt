@@ -2,7 +2,7 @@
 ghost use Rattle.std.specs.Prelude.{◌≡◌, IsTrue, IfOk, length, slice_index_or};
 ghost use Rattle.std.specs.BTreeMap.{get};
 ghost use Rattle.mq_join.specs.Indexed.{AllKeys, IsIndexed, may_pass};
-ghost use Rattle.mq_join.specs.JoinKeys.{cmp_joined, is_number, is_text};
+ghost use Rattle.mq_join.specs.JoinKeys.{cmp_joined, is_date, is_number, is_text};
 
 use crate::from_items::ItemRows;
 use crate::join_keys::JoinKey;
@@ -11,13 +11,14 @@ use mq_values::Memory;
 use std::alloc::Global;
 use std::collections::BTreeMap;
 
-/// For each value of a column its first row, and for each row the next one with its value. `numbers` and `texts` say
-/// whether all values are of that sort, so that an equality with another one is never unknown.
+/// For each value of a column its first row, and for each row the next one with its value. `numbers`, `texts` and
+/// `dates` say whether all values are of that sort, so that an equality with another one is never unknown.
 #[derive(Drop)]
 pub struct Index<'a> {
     pub lookup: Lookup,
     pub numbers: bool,
     pub texts: bool,
+    pub dates: bool,
     pub heads: BTreeMap<JoinKey<'a>, usize>,
     pub next: Vec<Option<usize>>,
 }
@@ -53,6 +54,9 @@ impl<'a> Index<'a> {
         if key.is_text() {
             return self.texts;
         }
+        if key.is_date() {
+            return self.dates;
+        }
         false
     }
 }
@@ -75,6 +79,7 @@ pub fn index_of<'a>(alloc: Global, lookup: Lookup, rows: &ItemRows<'a>) -> Resul
         lookup,
         numbers: all_numbers(rows, column),
         texts: all_texts(rows, column),
+        dates: all_dates(rows, column),
         heads,
         next,
     })
@@ -105,6 +110,18 @@ fn all_texts(rows: &ItemRows<'_>, column: usize) -> bool
 {
     'rows: for place in 0..rows.len() {
         if !JoinKey::new(rows.row(place), column).is_text() {
+            return false;
+        }
+    }
+    true
+}
+
+#[tactic(auto, using(crate::proofs::IndexLemmas::index_steps))]
+fn all_dates(rows: &ItemRows<'_>, column: usize) -> bool
+    ensures { IsTrue result → AllKeys is_date rows.now column }
+{
+    'rows: for place in 0..rows.len() {
+        if !JoinKey::new(rows.row(place), column).is_date() {
             return false;
         }
     }

@@ -3,7 +3,7 @@ ghost use Rattle.std.specs.Prelude.{◌≡◌, slice_index_or};
 ghost use Rattle.std.specs.Ordering.{as_partial_cmp};
 ghost use Rattle.std.specs.Cmp.{partial_equiv_from_equiv, partial_order_from_agreeing_total};
 ghost use Rattle.mq_values.specs.declared.value.Value.TheVariants.{Null};
-ghost use Rattle.mq_join.specs.JoinKeys.{cmp_joined, is_number as spec_is_number, is_same_key, is_text as spec_is_text, joined_total, same_keys_equiv};
+ghost use Rattle.mq_join.specs.JoinKeys.{cmp_joined, is_date as spec_is_date, is_number as spec_is_number, is_same_key, is_text as spec_is_text, joined_total, same_keys_equiv};
 
 use mq_values::Value;
 use std::cmp::Ordering;
@@ -53,6 +53,15 @@ impl<'a> JoinKey<'a> {
             _ => false,
         }
     }
+
+    pub fn is_date(&self) -> bool
+        ensures { result ≡ spec_is_date self.now }
+    {
+        match self.value {
+            Some(Value::Date(_)) => true,
+            _ => false,
+        }
+    }
 }
 
 impl<'a> PartialEq for JoinKey<'a> {
@@ -99,8 +108,13 @@ impl<'a> Ord for JoinKey<'a> {
             (Some(Value::Text(_)), Some(Value::Num(_))) => Ordering::Greater,
             (Some(Value::Text(a)), Some(Value::Text(b))) => a.cmp(b),
             (Some(Value::Text(_)), _) => Ordering::Less,
+            (Some(Value::Date(_)), Some(Value::Num(_))) => Ordering::Greater,
+            (Some(Value::Date(_)), Some(Value::Text(_))) => Ordering::Greater,
+            (Some(Value::Date(a)), Some(Value::Date(b))) => a.cmp(b),
+            (Some(Value::Date(_)), _) => Ordering::Less,
             (_, Some(Value::Num(_))) => Ordering::Greater,
             (_, Some(Value::Text(_))) => Ordering::Greater,
+            (_, Some(Value::Date(_))) => Ordering::Greater,
             (_, _) => Ordering::Equal,
         }
     }

@@ -17,8 +17,8 @@ use Rattle.mq_ast.specs.declared.levels.TheConstants as level
 use Rattle.mq_ast.specs.Calls.{call_of}
 use Rattle.mq_ast.specs.Continuing.{loose, Stops, Not}
 use Rattle.mq_ast.specs.GrammarLists.{NameE, name}
-use Rattle.mq_ast.specs.GrammarNames.{KindE}
-use Rattle.mq_ast.specs.GrammarExpression.{TestTail, tail_none, tail_null, tail_not_null, tail_present, tail_not_present, tail_any, prim_call, prim_cv, prim_cv_name}
+use Rattle.mq_ast.specs.GrammarNames.{KindE, DayE}
+use Rattle.mq_ast.specs.GrammarExpression.{TestTail, tail_none, tail_null, tail_not_null, tail_present, tail_not_present, tail_any, prim_date, prim_call, prim_cv, prim_cv_name}
 use Rattle.mq_ast.specs.Laws.{cut, none_some}
 use Rattle.mq_ast.specs.Laws.{kind_same}
 use Rattle.mq_parse_words.specs.declared.forms.Form.{Form}
@@ -36,6 +36,7 @@ use Rattle.mq_parse_words.specs.TokenLemmas.{next}
 -- what stands at the front of a form
 abbrev pub FormFront : Form → List Tok → Type 0
 FormFront form.Null ts = ts ≡ Word word.Null ∷ rest_of ts
+FormFront form.Date ts = ts ≡ Word word.Date ∷ rest_of ts
 FormFront form.Brackets ts = ts ≡ opener ∷ rest_of ts
 FormFront (form.Aggregate g) ts = ts ≡ Aggregate g ∷ rest_of ts
 FormFront form.Case ts = ts ≡ Word word.Case ∷ rest_of ts
@@ -52,6 +53,7 @@ FormFront form.Other ts = Unit {0}
 its_word : (o : Option (Func × ℕ)) (k : Keyword) (ts : List Tok) → FormFront (form_of_word o k) (Word k ∷ ts)
 its_word (Some _) k ts = refl
 its_word None word.Null ts = refl
+its_word None word.Date ts = refl
 its_word None word.Case ts = refl
 its_word None word.Cast ts = refl
 its_word None word.Previous ts = refl
@@ -130,6 +132,7 @@ leaf_left form.Other l a b c d e = absurd l
 leaf_left form.Number l a b c d e = tt
 leaf_left form.Text l a b c d e = tt
 leaf_left form.Null l a b c d e = tt
+leaf_left form.Date l a b c d e = tt
 leaf_left form.Cv l a b c d e = tt
 leaf_left form.Turn l a b c d e = tt
 
@@ -169,6 +172,11 @@ scale_no_int h k to (to_scale i) s = h _ _ (int i) tt
 
 pub scale_no_close : {n : Number} {ts : List Tok} → Not (terminal.Sign sign.Close) ts → No ToScale Anywhere (comma ∷ Num n ∷ ts)
 scale_no_close h k to (to_scale i) s = h refl
+
+-- a date behind its word
+pub date_no_day : {ts : List Tok} → No DayE Anywhere ts → No (Behind (Word word.Date)) Anywhere ts
+date_no_day h a to (prim_date d) s = h _ _ d tt
+date_no_day h a to (prim_call c d l) s = absurd (none_some c)
 
 -- a CV behind its word
 pub cv_no_open : {ts : List Tok} → Not (terminal.Sign sign.Open) ts → No (Behind (Word word.Cv)) Anywhere ts

@@ -26,9 +26,9 @@ use Rattle.mq_ast.specs.declared.levels.TheConstants as level
 use Rattle.mq_ast.specs.Continuing.{loose, Stops, Not, Ends}
 use Rattle.mq_ast.specs.Calls.{call_of}
 use Rattle.mq_ast.specs.GrammarNames.{PathE, KindE, scale_of}
-use Rattle.mq_ast.specs.GrammarExpression.{Expr, Tuple, Brackets, CaseE, Whens, ElseE, tuple, exprs, exprs_end, exprs_more, case_none, case_some, else_none, else_some, PrimE, prim_num, prim_text, prim_null, prim_path, prim_cell, prim_round, prim_agg, prim_count, prim_range, prim_case, prim_cast, prim_call, prim_to, prim_cv, prim_cv_name, prim_turn, prim_previous, prim_presentv, prim_presentnnv}
+use Rattle.mq_ast.specs.GrammarExpression.{Expr, Tuple, Brackets, CaseE, Whens, ElseE, tuple, exprs, exprs_end, exprs_more, case_none, case_some, else_none, else_some, PrimE, prim_num, prim_text, prim_null, prim_date, prim_path, prim_cell, prim_round, prim_agg, prim_count, prim_range, prim_case, prim_cast, prim_call, prim_to, prim_cv, prim_cv_name, prim_turn, prim_previous, prim_presentv, prim_presentnnv}
 use Rattle.mq_ast.specs.Laws.{Same, begin, cut, none_some, one_call}
-use Rattle.mq_ast.specs.Laws.{brackets_front, brackets_stop, whens_front, else_stop, expr_no_star, name_ends, no_square, path_same, kind_same, stops_when, expr_same, tuple_same, brackets_same, case_same, whens_same, else_same, closed_same}
+use Rattle.mq_ast.specs.Laws.{brackets_front, brackets_stop, whens_front, else_stop, expr_no_star, name_ends, no_square, path_same, kind_same, day_same, stops_when, expr_same, tuple_same, brackets_same, case_same, whens_same, else_same, closed_same}
 use Rattle.mq_parse_words.specs.declared.forms.Form.{Form}
 use Rattle.mq_parse_words.specs.declared.forms.Form.TheVariants as form
 use Rattle.mq_parse_words.specs.Reading.{No, Anywhere, IsRead}
@@ -40,6 +40,7 @@ pub prim_form : {a : E} {ts to : List Tok} → PrimE a ts to → form.Other ≡ 
 prim_form prim_num e = cc
 prim_form prim_text e = cc
 prim_form prim_null e = cc
+prim_form (prim_date d) e = cc
 prim_form (prim_path d) e = cc
 prim_form (prim_cell d b) e = cc
 prim_form (prim_round d) e = cc
@@ -81,6 +82,7 @@ prim_no_round h a to (prim_round d) s = h _ _ (round d) tt
 prim_called : {k : Keyword} {f : Func} {n : ℕ} {a : E} {ts to : List Tok} → call_of k ≡ Some (f, n) → PrimE a (Word k ∷ ts) to → (xs : List E) × Tuple xs ts to × (a ≡ e.Call f xs)
 prim_called c (prim_call {xs = xs} c' d l) = let i = one_call c c' in (xs, d, cc)
 prim_called c prim_null = absurd (none_some c)
+prim_called c (prim_date _) = absurd (none_some c)
 prim_called c (prim_case _ _ _) = absurd (none_some c)
 prim_called c (prim_cast _ _) = absurd (none_some c)
 prim_called c (prim_to _ _) = absurd (none_some c)
@@ -104,6 +106,7 @@ closed_prim_same i d (prim_call c' d' l') =
 closed_prim_same i prim_num prim_num = (refl, refl)
 closed_prim_same i prim_text prim_text = (refl, refl)
 closed_prim_same i prim_null prim_null = (refl, refl)
+closed_prim_same i (prim_date d) (prim_date d') = let p = day_same d d' in (cc, p.1)
 closed_prim_same i (prim_path d) d' = absurd i
 closed_prim_same i (prim_cell d b) d' = absurd i
 closed_prim_same i (prim_agg d) d' = absurd i
@@ -276,6 +279,7 @@ call_args k i (prim_call {f = f} {n = n} {xs = xs} c d l) =
     let P : Option (Func × ℕ) → Type 0 = λ o. called_by o k xs ≡ Some (e.Call f xs) in
     (xs, d, subst P (sym c) (some_of_true (length_is l)))
 call_args _ i prim_null = absurd cc
+call_args _ i (prim_date _) = absurd cc
 call_args _ i (prim_case _ _ _) = absurd cc
 call_args _ i (prim_cast _ _) = absurd cc
 call_args _ i (prim_to _ _) = absurd cc

@@ -15,8 +15,8 @@ use mq_ast::{E, Keyword, Symbol, Terminal, levels};
 use mq_lexer::Token;
 use mq_parse_words::{
     AggHead, Form, IsTest, Tail, Tree, behind_sign, behind_word, column, form_of, judged, name_at,
-    number, number_at, pass_sign, pass_word, read_int, read_kind, read_name, settled, sign_at,
-    stops, tail_of, terminal, text_at,
+    number, number_at, pass_sign, pass_word, read_day, read_int, read_kind, read_name, settled,
+    sign_at, stops, tail_of, terminal, text_at,
 };
 use mq_values::{Agg, Boxed, Fail, Kind, Memory, Num, ProdOp, Refused, SumOp, Value};
 use std::alloc::Global;
@@ -190,6 +190,7 @@ fn read_small(
             None => Err(Fail::Cause(Refused::Syntax)),
         },
         Form::Null => Ok((E::Lit(Value::Null), at + 1)),
+        Form::Date => read_date(alloc, t, at + 1),
         Form::Turn => Ok((E::Turn, at + 1)),
         Form::Cv => read_cv(alloc, t, at + 1),
         _ => Err(Fail::Cause(Refused::Syntax)),
@@ -224,6 +225,14 @@ pub(crate) fn read_lone(
     } else {
         Ok(None)
     }
+}
+
+// A date, behind DATE.
+fn read_date(alloc: Global, t: &[Token<'_>], at: usize) -> Result<(E, usize), Fail<Refused>>
+    ensures { IsRead (Behind (Word Keyword.Date)) Anywhere t.now at result }
+{
+    let (day, to) = read_day(alloc, t, at)?;
+    Ok((E::Lit(Value::Date(day)), to))
 }
 
 // CV, behind its word.

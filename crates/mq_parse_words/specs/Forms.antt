@@ -19,6 +19,7 @@ use Rattle.mq_parse_words.specs.declared.forms.Tail.TheVariants as tail
 abbrev pub form_of_word : Option (Func × ℕ) → Keyword → Form
 form_of_word (Some _) k = form.Call k
 form_of_word None word.Null = form.Null
+form_of_word None word.Date = form.Date
 form_of_word None word.Case = form.Case
 form_of_word None word.Cast = form.Cast
 form_of_word None word.Previous = form.Call word.Previous
@@ -72,6 +73,7 @@ abbrev pub IsLeaf : Form → Type 0
 IsLeaf form.Number = Unit {0}
 IsLeaf form.Text = Unit {0}
 IsLeaf form.Null = Unit {0}
+IsLeaf form.Date = Unit {0}
 IsLeaf form.Cv = Unit {0}
 IsLeaf form.Turn = Unit {0}
 IsLeaf _ = ⊥

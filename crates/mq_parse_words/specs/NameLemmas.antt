@@ -11,7 +11,7 @@ use Rattle.mq_ast.specs.Tokens.{Tok, Word, Name, Num, terminal_at, opener, point
 use Rattle.mq_ast.specs.declared.levels.TheConstants as level
 use Rattle.mq_ast.specs.Continuing.{loose, Stops, Not}
 use Rattle.mq_ast.specs.GrammarLists.{NameE, name}
-use Rattle.mq_ast.specs.GrammarNames.{PathE, path_one, path_two, KindE, kind_int, kind_decimal, kind_text, IsInt}
+use Rattle.mq_ast.specs.GrammarNames.{PathE, path_one, path_two, KindE, kind_int, kind_decimal, kind_text, kind_date, IsInt}
 use Rattle.mq_parse_words.specs.Reading.{No, Anywhere}
 use Rattle.mq_parse_words.specs.Names.{IntE, int}
 
@@ -44,11 +44,12 @@ pub numbered : {n : Number} {ts to : List Tok} → IntE n ts to → (ts ≡ Num 
 numbered (int i) = (refl, i)
 
 -- a kind
-pub kind_no_word : {ts : List Tok} → Not (terminal.Word word.Int) ts → Not (terminal.Word word.Text) ts
+pub kind_no_word : {ts : List Tok} → Not (terminal.Word word.Int) ts → Not (terminal.Word word.Text) ts → Not (terminal.Word word.Date) ts
     → Not (terminal.Word word.Decimal) ts → No KindE Anywhere ts
-kind_no_word i x n a to kind_int s = i refl
-kind_no_word i x n a to (kind_decimal d) s = n refl
-kind_no_word i x n a to kind_text s = x refl
+kind_no_word i x d n a to kind_int s = i refl
+kind_no_word i x d n a to (kind_decimal _) s = n refl
+kind_no_word i x d n a to kind_text s = x refl
+kind_no_word i x d n a to kind_date s = d refl
 
 pub kind_no_open : {ts : List Tok} → Not (terminal.Sign sign.Open) ts → No KindE Anywhere (Word word.Decimal ∷ ts)
 kind_no_open n a to (kind_decimal d) s = n refl

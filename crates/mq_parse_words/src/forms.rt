@@ -13,6 +13,8 @@ pub enum Form {
     Number,
     Text,
     Null,
+    /// DATE, with a text behind it.
+    Date,
     Name,
     Brackets,
     Aggregate(Agg),
@@ -64,6 +66,7 @@ fn form_of_word(word: Keyword) -> Form
     }
     match word {
         Keyword::Null => Form::Null,
+        Keyword::Date => Form::Date,
         Keyword::Case => Form::Case,
         Keyword::Cast => Form::Cast,
         Keyword::Previous | Keyword::Presentv | Keyword::Presentnnv => Form::Call(word),

@@ -1,6 +1,6 @@
 //! What a token is for the grammar, and the trees that are put together of what was read.
-//! Tokens and a place go in. Out come names, paths, kinds, numbers and texts with the place behind them, or SYNTAX; and trees in the
-//! grammar's words. Each reader gives what the grammar of mq_ast's `specs/` says, in the words of `specs/Reading.antt`.
+//! Tokens and a place go in. Out come names, paths, kinds, numbers, texts and dates with the place behind them, or SYNTAX; and
+//! trees in the grammar's words. Each reader gives what the grammar of mq_ast's `specs/` says, in the words of `specs/Reading.antt`.
 #![tactic(auto)]
 
 mod calls;
@@ -12,7 +12,8 @@ mod trees;
 
 pub use forms::{AggHead, Form, IsTest, Tail, form_of, tail_of};
 pub use names::{
-    name_at, number_at, read_int, read_kind, read_name, read_path, read_text, scale_of, text_at,
+    name_at, number_at, read_day, read_int, read_kind, read_name, read_path, read_text, scale_of,
+    text_at,
 };
 pub use terminals::{
     behind_sign, behind_word, looseness, pass_sign, pass_word, settled, sign_at, stops, terminal,

@@ -1,11 +1,11 @@
-//! Names, paths, kinds, numbers and texts at a place of a list of tokens.
+//! Names, paths, kinds, numbers, texts and dates at a place of a list of tokens.
 
 ghost use Rattle.std.specs.Prelude.{◌≡◌, ◌≢◌, ◌<◌, ◌≤◌, ◌+◌, [], ◌∷◌, length, IfOk, MatchOption, Some, None};
 ghost use Rattle.mq_ast.specs.Tokens as tok;
 ghost use Rattle.mq_ast.specs.Spelling.{tok_of};
 ghost use Rattle.mq_ast.specs.declared.levels.TheConstants as level;
 ghost use Rattle.mq_ast.specs.Continuing.{Stops, Not};
-ghost use Rattle.mq_ast.specs.GrammarNames.{PathE, KindE, path_of, scale_of as spec_scale};
+ghost use Rattle.mq_ast.specs.GrammarNames.{DayE, PathE, KindE, path_of, scale_of as spec_scale};
 ghost use Rattle.mq_ast.specs.GrammarLists.{NameE};
 ghost use Rattle.mq_parse_words.specs.Reading.{from, Then, Anywhere, IsRead};
 ghost use Rattle.mq_parse_words.specs.Names.{IntE, TextE};
@@ -14,7 +14,7 @@ use crate::spelling::{content, number};
 use crate::terminals::{behind_sign, behind_word, pass_sign, pass_word, settled, token_at};
 use mq_ast::{Keyword, Path, Symbol, Terminal, levels};
 use mq_lexer::Token;
-use mq_values::{Fail, Kind, Memory, Num, Refused, Text, Words};
+use mq_values::{Day, Fail, Kind, Memory, Num, Refused, Text, Words};
 use std::alloc::Global;
 
 /// The name at a place, as it is spelled, where one stands there.
@@ -72,6 +72,20 @@ pub fn read_text(alloc: Global, t: &[Token<'_>], at: usize) -> Result<(Words, us
 {
     match text_at(alloc, t, at)? {
         Some(text) => Ok((Words::new(alloc, text.as_str())?, at + 1)),
+        None => Err(Fail::Cause(Refused::Syntax)),
+    }
+}
+
+/// A date: a text whose content is a day of the calendar, as it prints (docs/LANGUAGE.md, "Dates"). SYNTAX where another
+/// text stands at the place, or none.
+pub fn read_day(alloc: Global, t: &[Token<'_>], at: usize) -> Result<(Day, usize), Fail<Refused>>
+    ensures { IsRead DayE Anywhere t.now at result }
+{
+    match text_at(alloc, t, at)? {
+        Some(text) => match Day::from_text(text.as_str()) {
+            Some(day) => Ok((day, at + 1)),
+            None => Err(Fail::Cause(Refused::Syntax)),
+        },
         None => Err(Fail::Cause(Refused::Syntax)),
     }
 }
@@ -135,7 +149,7 @@ pub fn scale_of(number: Num) -> u8
     }
 }
 
-/// INT, DECIMAL with its scale, or TEXT (docs/LANGUAGE.md, "Values").
+/// INT, DECIMAL with its scale, TEXT or DATE (docs/LANGUAGE.md, "Values").
 pub fn read_kind(t: &[Token<'_>], at: usize) -> Result<(Kind, usize), Fail<Refused>>
     ensures { IsRead KindE Anywhere t.now at result }
 {
@@ -145,6 +159,9 @@ pub fn read_kind(t: &[Token<'_>], at: usize) -> Result<(Kind, usize), Fail<Refus
     if let Some(to) = behind_word(t, at, Keyword::Text) {
         return Ok((Kind::Text, to));
     }
+    if let Some(to) = behind_word(t, at, Keyword::Date) {
+        return Ok((Kind::Date, to));
+    }
     read_decimal(t, at)
 }
 
@@ -152,6 +169,7 @@ pub fn read_kind(t: &[Token<'_>], at: usize) -> Result<(Kind, usize), Fail<Refus
 fn read_decimal(t: &[Token<'_>], at: usize) -> Result<(Kind, usize), Fail<Refused>>
     requires int { Not (Terminal.Word Keyword.Int) (from t.now at) }
     requires text { Not (Terminal.Word Keyword.Text) (from t.now at) }
+    requires date { Not (Terminal.Word Keyword.Date) (from t.now at) }
     ensures { IsRead KindE Anywhere t.now at result }
 {
     let decimal = pass_word(t, at, Keyword::Decimal)?;

@@ -4,10 +4,11 @@ ghost use Rattle.std.specs.Option.{unwrap_or};
 ghost use Rattle.mq_ir.specs.Nav.{default_of as spec_default_of, with_nav};
 ghost use Rattle.mq_values.specs.declared.value.Value.TheVariants as value;
 
-use mq_values::{Kind, MAX_SCALE, Num, Text, Value};
+use mq_values::{DEFAULT_ORDINAL, Day, Kind, MAX_SCALE, Num, Text, Value};
 
 /// What a cell's measure of this kind reads as: its value, and null where the cell is not there. Under IGNORE NAV,
-/// where `ignore` holds, 0 at the kind's scale or the empty text stands for null (docs/MEANING.md, "Reads").
+/// where `ignore` holds, 0 at the kind's scale, the empty text or the day `DEFAULT_ORDINAL` stands for null
+/// (docs/MEANING.md, "Reads").
 pub fn nav(v: Option<Value>, kind: Kind, ignore: bool) -> Value
     ensures { result ≡ with_nav ignore kind (unwrap_or v value.Null) }
 {
@@ -27,5 +28,6 @@ fn default_of(kind: Kind) -> Value
         Kind::Decimal(scale) if scale <= MAX_SCALE => Value::Num(Num::new(0, scale)),
         Kind::Decimal(_) => Value::Null,
         Kind::Text => Value::Text(Text::empty()),
+        Kind::Date => Value::Date(Day::new(DEFAULT_ORDINAL)),
     }
 }

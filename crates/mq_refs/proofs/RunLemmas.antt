@@ -29,6 +29,7 @@ at_top n = record { mant = mant_at MAX_SCALE n; scale = MAX_SCALE }
 abbrev leveled : Value → Value
 leveled (value.Num n) = value.Num (at_top n)
 leveled (value.Text t) = value.Text t
+leveled (value.Date d) = value.Date d
 leveled value.Null = value.Null
 
 then_equal : (r : Ordering) → ordering_then r Equal ≡ r
@@ -40,12 +41,19 @@ same_leveled : (v w : Value) → cmp_value (leveled v) (leveled w) ≡ cmp_by_wo
 same_leveled (value.Num a) (value.Num b) =
     (λ i. ordering_then (int_cmp (one_factor (mant_at MAX_SCALE a) i) (one_factor (mant_at MAX_SCALE b) i)) Equal) ∙ then_equal (cmp_worth a b)
 same_leveled (value.Num a) (value.Text b) = refl
+same_leveled (value.Num a) (value.Date b) = refl
 same_leveled (value.Num a) value.Null = refl
 same_leveled (value.Text a) (value.Num b) = refl
 same_leveled (value.Text a) (value.Text b) = refl
+same_leveled (value.Text a) (value.Date b) = refl
 same_leveled (value.Text a) value.Null = refl
+same_leveled (value.Date a) (value.Num b) = refl
+same_leveled (value.Date a) (value.Text b) = refl
+same_leveled (value.Date a) (value.Date b) = refl
+same_leveled (value.Date a) value.Null = refl
 same_leveled value.Null (value.Num b) = refl
 same_leveled value.Null (value.Text b) = refl
+same_leveled value.Null (value.Date b) = refl
 same_leveled value.Null value.Null = refl
 
 pub worth_total : IsTotalOrder cmp_by_worth

@@ -107,6 +107,7 @@ pub fn is_of(v: &Value, kind: Kind) -> bool
         (Value::Num(n), Kind::Int) => is_at(*n, 0),
         (Value::Num(n), Kind::Decimal(scale)) => is_at(*n, scale),
         (Value::Text(_), Kind::Text) => true,
+        (Value::Date(_), Kind::Date) => true,
         _ => false,
     }
 }

@@ -19,5 +19,6 @@ pub fn fault_name(kind: FaultKind) -> &'static str
         FaultKind::TooManyCells => "TOO_MANY_CELLS",
         FaultKind::TooManyUnfolded => "TOO_MANY_UNFOLDED",
         FaultKind::TooManyRows => "TOO_MANY_ROWS",
+        FaultKind::DateRange => "DATE_RANGE",
     }
 }

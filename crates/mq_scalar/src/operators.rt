@@ -1,5 +1,5 @@
 //! What operators and functions make of values that stand there.
-ghost use Rattle.std.specs.Prelude.{◌≡◌};
+ghost use Rattle.std.specs.Prelude.{◌≡◌, neg_ℤ};
 ghost use Rattle.mq_values.specs.Answers.{Gives};
 ghost use Rattle.mq_values.specs.Arithmetic.{negation_of};
 ghost use Rattle.mq_ir.specs.Operators as spec;
@@ -7,8 +7,8 @@ ghost use Rattle.mq_ir.specs.Worth.{a_number};
 ghost use Rattle.mq_values.specs.Convert.{number_at};
 
 use mq_values::{
-    Fail, Func, Kind, Num, ProdOp, SumOp, Value, ValueFault, add, cast, concat, div, length, mul,
-    sub,
+    Day, Fail, Func, Kind, Num, ProdOp, SumOp, Value, ValueFault, add, cast, concat, days_between,
+    div, length, mul, shift, shift_back, sub,
 };
 use std::alloc::Global;
 
@@ -22,15 +22,50 @@ fn number(worked_out: Result<Num, ValueFault>) -> Result<Value, Fail<ValueFault>
     }
 }
 
-/// `a` with `b` added, taken away or joined as a text; null where the operator takes no such values.
+/// `a` with `b` added, taken away or joined as a text; null where the operator takes no such values. A date is moved by an
+/// INT, and a date less a date is a number of days (docs/LANGUAGE.md, "Dates").
 pub fn added(alloc: Global, op: SumOp, a: &Value, b: &Value) -> Result<Value, Fail<ValueFault>>
     ensures { Gives result (spec.added op a.now b.now) }
 {
     match (op, a, b) {
-        (SumOp::Join, a, b) => concat(alloc, a, b),
         (SumOp::Add, Value::Num(m), Value::Num(n)) => number(add(*m, *n)),
         (SumOp::Sub, Value::Num(m), Value::Num(n)) => number(sub(*m, *n)),
+        (SumOp::Join, a, b) => concat(alloc, a, b),
+        (SumOp::Add, Value::Date(d), Value::Num(n)) => later(*d, *n),
+        (SumOp::Add, Value::Num(n), Value::Date(d)) => later(*d, *n),
+        (SumOp::Sub, Value::Date(d), Value::Num(n)) => earlier(*d, *n),
+        (SumOp::Sub, Value::Date(d), Value::Date(e)) => Ok(Value::Num(days_between(*d, *e))),
         _ => Ok(Value::Null),
+    }
+}
+
+/// The day `n` days on; null where `n` is no INT.
+fn later(d: Day, n: Num) -> Result<Value, Fail<ValueFault>>
+    ensures { Gives result (spec.moved_day d n.scale n.mant) }
+{
+    if n.scale() != 0 {
+        return Ok(Value::Null);
+    }
+    day(shift(d, n))
+}
+
+/// The day `n` days back; null where `n` is no INT.
+fn earlier(d: Day, n: Num) -> Result<Value, Fail<ValueFault>>
+    ensures { Gives result (spec.moved_day d n.scale (neg_ℤ n.mant)) }
+{
+    if n.scale() != 0 {
+        return Ok(Value::Null);
+    }
+    day(shift_back(d, n))
+}
+
+/// A day that was worked out, as a value.
+fn day(worked_out: Result<Day, ValueFault>) -> Result<Value, Fail<ValueFault>>
+    ensures { Gives result (spec.a_day worked_out) }
+{
+    match worked_out {
+        Ok(d) => Ok(Value::Date(d)),
+        Err(fault) => Err(Fail::Cause(fault)),
     }
 }
 

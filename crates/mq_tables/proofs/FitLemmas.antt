@@ -9,8 +9,8 @@ use Rattle.std.proofs.lemmas.List.{length-set}
 use Rattle.mq_values.specs.Aggregate.{is_value}
 use Rattle.mq_values.specs.Answers.{result_map}
 use Rattle.mq_values.specs.Arithmetic.{rescaled, rounded}
+use Rattle.mq_values.specs.Calendar.{text_of_day}
 use Rattle.mq_values.specs.Convert.{cast_of, number_at}
-use Rattle.mq_values.specs.Laws.{is_of}
 use Rattle.mq_values.specs.Number.{Number, is_mantissa, mant_at, text_of_number}
 use Rattle.mq_values.specs.declared.faults.Refused.{Refused}
 use Rattle.mq_values.specs.declared.faults.Refused.TheVariants as refused
@@ -28,7 +28,7 @@ use Rattle.mq_ir.specs.Changes.{Visited, column_value, deleted_row, inserted_row
 use Rattle.mq_ir.specs.Expression.{Outcome, ev}
 use Rattle.mq_ir.specs.Fits.{row_scope}
 use Rattle.mq_ir.specs.FitsExpression.{expression_fits}
-use Rattle.mq_ir.specs.FitsStatement.{inserts_fit, is_row_of, value_fits}
+use Rattle.mq_ir.specs.FitsStatement.{inserts_fit, is_row_of, may_hold, value_fits}
 use Rattle.mq_ir.specs.Items.{row_leaves}
 use Rattle.mq_ir.specs.Keys.{Tuple}
 use Rattle.mq_ir.specs.Results.{◌>>=◌, each, marked}
@@ -65,16 +65,23 @@ at_scale n s w P h num null = by (nat_le s MAX_SCALE) h
 same_nat : (s : ℕ) → nat_eq s s ≡ true
 same_nat s = grind (arith, nat_tests)
 
-cast_fits : (u : Value) (k : Kind) (v : Value) → cast_of u k ≡ Ok v → is_of k v ≡ true
-cast_fits (value.Num n) kind.Int v h = at_scale n 0 v (λ v. is_of kind.Int v ≡ true) h (λ m e. both_true (is_mantissa m) (nat_eq 0 0) e (same_nat 0)) refl
-cast_fits (value.Num n) (kind.Decimal s) v h = at_scale n s v (λ v. is_of (kind.Decimal s) v ≡ true) h (λ m e. both_true (is_mantissa m) (nat_eq s s) e (same_nat s)) refl
-cast_fits (value.Num n) kind.Text v h = let e : value.Text (text_of_number n) ≡ v = cc in subst (λ v. is_of kind.Text v ≡ true) e refl
-cast_fits (value.Text t) kind.Int v h = let e : value.Null ≡ v = cc in subst (λ v. is_of kind.Int v ≡ true) e refl
-cast_fits (value.Text t) (kind.Decimal s) v h = let e : value.Null ≡ v = cc in subst (λ v. is_of (kind.Decimal s) v ≡ true) e refl
-cast_fits (value.Text t) kind.Text v h = let e : value.Text t ≡ v = cc in subst (λ v. is_of kind.Text v ≡ true) e refl
-cast_fits value.Null kind.Int v h = let e : value.Null ≡ v = cc in subst (λ v. is_of kind.Int v ≡ true) e refl
-cast_fits value.Null (kind.Decimal s) v h = let e : value.Null ≡ v = cc in subst (λ v. is_of (kind.Decimal s) v ≡ true) e refl
-cast_fits value.Null kind.Text v h = let e : value.Null ≡ v = cc in subst (λ v. is_of kind.Text v ≡ true) e refl
+cast_fits : (u : Value) (k : Kind) (v : Value) → cast_of u k ≡ Ok v → may_hold k v ≡ true
+cast_fits (value.Num n) kind.Int v h = at_scale n 0 v (λ v. may_hold kind.Int v ≡ true) h (λ m e. both_true (is_mantissa m) (nat_eq 0 0) e (same_nat 0)) refl
+cast_fits (value.Num n) (kind.Decimal s) v h = at_scale n s v (λ v. may_hold (kind.Decimal s) v ≡ true) h (λ m e. both_true (is_mantissa m) (nat_eq s s) e (same_nat s)) refl
+cast_fits (value.Num n) kind.Text v h = let e : value.Text (text_of_number n) ≡ v = cc in subst (λ v. may_hold kind.Text v ≡ true) e refl
+cast_fits (value.Num n) kind.Date v h = let e : value.Null ≡ v = cc in subst (λ v. may_hold kind.Date v ≡ true) e refl
+cast_fits (value.Text t) kind.Int v h = let e : value.Null ≡ v = cc in subst (λ v. may_hold kind.Int v ≡ true) e refl
+cast_fits (value.Text t) (kind.Decimal s) v h = let e : value.Null ≡ v = cc in subst (λ v. may_hold (kind.Decimal s) v ≡ true) e refl
+cast_fits (value.Text t) kind.Text v h = let e : value.Text t ≡ v = cc in subst (λ v. may_hold kind.Text v ≡ true) e refl
+cast_fits (value.Text t) kind.Date v h = let e : value.Null ≡ v = cc in subst (λ v. may_hold kind.Date v ≡ true) e refl
+cast_fits (value.Date day) kind.Int v h = let e : value.Null ≡ v = cc in subst (λ v. may_hold kind.Int v ≡ true) e refl
+cast_fits (value.Date day) (kind.Decimal s) v h = let e : value.Null ≡ v = cc in subst (λ v. may_hold (kind.Decimal s) v ≡ true) e refl
+cast_fits (value.Date day) kind.Text v h = let e : value.Text (text_of_day day) ≡ v = cc in subst (λ v. may_hold kind.Text v ≡ true) e refl
+cast_fits (value.Date day) kind.Date v h = let e : value.Date day ≡ v = cc in subst (λ v. may_hold kind.Date v ≡ true) e refl
+cast_fits value.Null kind.Int v h = let e : value.Null ≡ v = cc in subst (λ v. may_hold kind.Int v ≡ true) e refl
+cast_fits value.Null (kind.Decimal s) v h = let e : value.Null ≡ v = cc in subst (λ v. may_hold (kind.Decimal s) v ≡ true) e refl
+cast_fits value.Null kind.Text v h = let e : value.Null ≡ v = cc in subst (λ v. may_hold kind.Text v ≡ true) e refl
+cast_fits value.Null kind.Date v h = let e : value.Null ≡ v = cc in subst (λ v. may_hold kind.Date v ≡ true) e refl
 
 passed : (n b : Bool) (r : Refused) (v w : Value) → (if n && not b then Err r else Ok v) ≡ Ok w → (v ≡ w) × ((b || not n) ≡ true)
 passed true true r v w h = (cc, refl)
@@ -82,10 +89,10 @@ passed true false r v w h = absurd (cc)
 passed false true r v w h = (cc, refl)
 passed false false r v w h = (cc, refl)
 
-asked_fits : (col : Column) (v w : Value) → is_of col.kind v ≡ true → asked_for_null col v ≡ Ok w → value_fits (col, w) ≡ true
+asked_fits : (col : Column) (v w : Value) → may_hold col.kind v ≡ true → asked_for_null col v ≡ Ok w → value_fits (col, w) ≡ true
 asked_fits col v w k h =
     let p = passed col.not_null (is_value v) (refused.NotNull col.name) v w h in
-    subst (λ x. value_fits (col, x) ≡ true) p.0 (both_true (is_of col.kind v) (is_value v || not col.not_null) k p.1)
+    subst (λ x. value_fits (col, x) ≡ true) p.0 (both_true (may_hold col.kind v) (is_value v || not col.not_null) k p.1)
 
 pub column_fits : (leaves : Leaf → Outcome) (number : ℕ) (col : Column) (e : Expr) (w : Value) → column_found leaves number col e ≡ Ok w → value_fits (col, w) ≡ true
 column_fits leaves number col e w h = by (ev leaves e) h

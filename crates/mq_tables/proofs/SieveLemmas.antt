@@ -2,10 +2,10 @@
 use Rattle.std.proofs.Common.{◌≡◌, ◌≢◌, ℕ, zero, suc, ◌+◌, ◌<◌, List, [], ◌∷◌, map, drop, length, get_or, Bool, true, false, not, ◌&&◌, ◌||◌, Option, Some, None, Ok, refl, sym, ap, ◌∙◌, eqb, is_eq, Ordering, Less, Equal, Greater, arith}
 use Rattle.std.specs.Prelude.{IfSome, nat_eq, slice_get, slice_index_or}
 use Rattle.std.specs.Ordering.{nat_cmp, ordering_then}
-use Rattle.std.specs.Cmp.{nat_cmp_total, tied_itself}
+use Rattle.std.specs.Cmp.{nat_cmp_total, tied_itself, unsigned_Decides}
 use Rattle.mq_values.specs.Number.{Number, cmp_worth}
 use Rattle.mq_values.specs.Order.{cmp_text}
-use Rattle.mq_values.specs.OrderTells.{same_number, same_text}
+use Rattle.mq_values.specs.OrderTells.{same_day, same_number, same_text}
 use Rattle.mq_values.specs.Truth.{Truth, comparison}
 use Rattle.mq_values.specs.declared.operators.CmpOp.{CmpOp}
 use Rattle.mq_values.specs.declared.operators.CmpOp.TheVariants.{Eq}
@@ -27,6 +27,7 @@ use Rattle.mq_ir.specs.Keys.{Tuple}
 use Rattle.mq_ir.specs.Results.{◌>>=◌}
 use Rattle.mq_ir.specs.Worth.{Found, Outcome, a_truth, a_value, as_truth, as_value}
 use Rattle.mq_tables.specs.declared.marks.Mark.{Mark}
+use Rattle.mq_tables.specs.declared.marks.TheConstants.{DATES, NULLS, NUMBERS, TEXTS}
 use Rattle.mq_tables.specs.Marks.{differ, mark_of, number_mark, text_mark}
 use Rattle.mq_tables.specs.Sieves.{HasValue, NeverFaults, Refutes, StandsBeside}
 use Rattle.mq_tables.proofs.Walks.{next_item}
@@ -58,36 +59,48 @@ numbers_apart a b s n = untied (cmp_worth a b) (λ e. absurd (n (ap (λ (x : Num
 texts_apart : (a b : List ℕ) → a ≢ b → is_eq (cmp_text a b) ≡ false
 texts_apart a b n = untied (cmp_text a b) (λ e. absurd (n (same_text a b e)))
 
+days_apart : (a b : ℕ) → a ≢ b → is_eq (nat_cmp a b) ≡ false
+days_apart a b n = untied (nat_cmp a b) (λ e. absurd (n (same_day a b e)))
+
+-- of two groups no marks differ
+other_group : (m n : ℕ) (b : Bool) → m ≢ n → (nat_eq m n && b) ≡ true → ⊥
+other_group m n b unlike h = unlike ((unsigned_Decides m n).0 (both_true (nat_eq m n) b h).0)
+
+same_scale : (s t : ℕ) → nat_eq (NUMBERS + s) (NUMBERS + t) ≡ true → nat_eq s t ≡ true
+same_scale s t h = let e : NUMBERS + s ≡ NUMBERS + t = (unsigned_Decides (NUMBERS + s) (NUMBERS + t)).0 h in
+    (unsigned_Decides s t).1 (omega arith)
+
 -- values of which the marks differ are not equal
 pub apart : (v w : Value) → differ (mark_of v) (mark_of w) ≡ true → comparison Eq v w ≡ Some false
 apart (value.Num a) (value.Num b) h =
-    let p = both_true (nat_eq a.scale b.scale) (not (nat_eq (number_mark a.mant) (number_mark b.mant))) h in
-    ap Some (numbers_apart a b p.0 (not_alike number_mark a.mant b.mant p.1))
-apart (value.Num a) (value.Text b) h = absurd (cc)
-apart (value.Num a) value.Null h = absurd (cc)
-apart (value.Text a) (value.Num b) h = absurd (cc)
+    let p = both_true (nat_eq (NUMBERS + a.scale) (NUMBERS + b.scale)) (not (nat_eq (number_mark a.mant) (number_mark b.mant))) h in
+    ap Some (numbers_apart a b (same_scale a.scale b.scale p.0) (not_alike number_mark a.mant b.mant p.1))
+apart (value.Num a) (value.Text b) h = absurd (other_group (NUMBERS + a.scale) TEXTS _ (λ e. omega arith) h)
+apart (value.Num a) (value.Date b) h = absurd (other_group (NUMBERS + a.scale) DATES _ (λ e. omega arith) h)
+apart (value.Num a) value.Null h = absurd (other_group (NUMBERS + a.scale) NULLS _ (λ e. omega arith) h)
+apart (value.Text a) (value.Num b) h = absurd (other_group TEXTS (NUMBERS + b.scale) _ (λ e. omega arith) h)
 apart (value.Text a) (value.Text b) h = ap Some (texts_apart a b (not_alike text_mark a b h))
+apart (value.Text a) (value.Date b) h = absurd (cc)
 apart (value.Text a) value.Null h = absurd (cc)
-apart value.Null (value.Num b) h = absurd (cc)
+apart (value.Date a) (value.Num b) h = absurd (other_group DATES (NUMBERS + b.scale) _ (λ e. omega arith) h)
+apart (value.Date a) (value.Text b) h = absurd (cc)
+apart (value.Date a) (value.Date b) h = ap Some (days_apart a b (not_alike (λ day. day) a b h))
+apart (value.Date a) value.Null h = absurd (cc)
+apart value.Null (value.Num b) h = absurd (other_group NULLS (NUMBERS + b.scale) _ (λ e. omega arith) h)
 apart value.Null (value.Text b) h = absurd (cc)
+apart value.Null (value.Date b) h = absurd (cc)
 apart value.Null value.Null h = absurd (cc)
 
 swapped_eq : (m n : ℕ) → nat_eq m n ≡ nat_eq n m
 swapped_eq m n = grind arith
 
 turned : (v w : Value) → differ (mark_of v) (mark_of w) ≡ true → differ (mark_of w) (mark_of v) ≡ true
-turned (value.Num a) (value.Num b) h =
-    ap (λ t. t && not (nat_eq (number_mark b.mant) (number_mark a.mant))) (swapped_eq b.scale a.scale)
-    ∙ ap (λ t. nat_eq a.scale b.scale && not t) (swapped_eq (number_mark b.mant) (number_mark a.mant))
+turned v w h =
+    let m = mark_of v in
+    let n = mark_of w in
+    ap (λ t. t && not (nat_eq n.part m.part)) (swapped_eq n.group m.group)
+    ∙ ap (λ t. nat_eq m.group n.group && not t) (swapped_eq n.part m.part)
     ∙ h
-turned (value.Num a) (value.Text b) h = absurd (cc)
-turned (value.Num a) value.Null h = absurd (cc)
-turned (value.Text a) (value.Num b) h = absurd (cc)
-turned (value.Text a) (value.Text b) h = ap not (swapped_eq (text_mark b) (text_mark a)) ∙ h
-turned (value.Text a) value.Null h = absurd (cc)
-turned value.Null (value.Num b) h = absurd (cc)
-turned value.Null (value.Text b) h = absurd (cc)
-turned value.Null value.Null h = absurd (cc)
 
 -- ---- what is found in a row
 module _ (row : Tuple) where

@@ -7,12 +7,11 @@ use Rattle.mq_ir.specs.declared.statement.Schema.{Schema}
 use Rattle.mq_ir.specs.Changes.{row_key}
 use Rattle.mq_ir.specs.Keys.{Tuple}
 use Rattle.mq_tables.specs.declared.marks.Mark.{Mark}
-use Rattle.mq_tables.specs.declared.marks.Mark.TheVariants as mark
 use Rattle.mq_tables.specs.declared.marks.RowMark.{RowMark}
-use Rattle.mq_tables.specs.declared.marks.TheConstants.{NUMBER_MARKS, TEXT_FACTOR, TEXT_MARKS}
+use Rattle.mq_tables.specs.declared.marks.TheConstants.{DATES, NULLS, NUMBERS, NUMBER_MARKS, TEXTS, TEXT_FACTOR, TEXT_MARKS}
 use Rattle.mq_tables.specs.InPlace.{items_left}
 
--- of a number the end of its mantissa, and of a text a sum over its bytes
+-- of a number the end of its mantissa, of a text a sum over its bytes, and of a date its ordinal
 abbrev pub number_mark : ℤ → ℕ
 number_mark mant = unsigned_abs mant % NUMBER_MARKS
 
@@ -22,16 +21,16 @@ text_step so_far byte = (so_far * TEXT_FACTOR + byte) % TEXT_MARKS
 abbrev pub text_mark : List ℕ → ℕ
 text_mark bytes = fold text_step 0 bytes
 
+-- beside the group of the value: null, the texts, the dates, and the numbers of each scale are groups
 abbrev pub mark_of : Value → Mark
-mark_of (value.Num n) = mark.Number n.scale (number_mark n.mant)
-mark_of (value.Text text) = mark.Text (text_mark text)
-mark_of value.Null = mark.Null
+mark_of (value.Num n) = record { group = NUMBERS + n.scale; part = number_mark n.mant }
+mark_of (value.Text text) = record { group = TEXTS; part = text_mark text }
+mark_of (value.Date day) = record { group = DATES; part = day }
+mark_of value.Null = record { group = NULLS; part = 0 }
 
 -- marks that tell that their values differ
 abbrev pub differ : Mark → Mark → Bool
-differ (mark.Text a) (mark.Text b) = not (nat_eq a b)
-differ (mark.Number scale a) (mark.Number other b) = nat_eq scale other && not (nat_eq a b)
-differ _ _ = false
+differ a b = nat_eq a.group b.group && not (nat_eq a.part b.part)
 
 -- the marks of a row are told by its key
 abbrev pub marks_of_key : Tuple → RowMark

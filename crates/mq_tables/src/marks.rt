@@ -17,13 +17,21 @@ const TEXT_MARKS: u32 = 16_777_216;
 /// What the mark of a text's front is multiplied by before the next byte is added.
 const TEXT_FACTOR: u32 = 31;
 
-/// A mark of a value. Texts with different marks differ, and so do numbers of one scale.
+/// The groups of marks: those of null, of texts, of dates, and of the numbers of each scale from 0 on.
+const NULLS: u32 = 0;
+
+const TEXTS: u32 = 1;
+
+const DATES: u32 = 2;
+
+const NUMBERS: u32 = 3;
+
+/// A mark of a value. Values with different marks of one group differ.
+// Two whole numbers: a comparison of two marks is asked of every row.
 #[derive(Clone, Copy)]
-pub enum Mark {
-    Null,
-    Text(u32),
-    /// The scale, and a mark of the mantissa.
-    Number(u8, u32),
+pub struct Mark {
+    pub group: u32,
+    pub part: u32,
 }
 
 /// The marks of the first two columns of the key of a row; of a column that is not there, the mark of null.
@@ -38,9 +46,29 @@ pub fn mark_of(v: &Value) -> Mark
     ensures { result ≡ spec.mark_of v.now }
 {
     match v {
-        Value::Num(n) => Mark::Number(n.scale(), number_mark(n.mant())),
-        Value::Text(text) => Mark::Text(text_mark(text.as_str().as_bytes())),
-        Value::Null => Mark::Null,
+        Value::Num(n) => Mark {
+            group: NUMBERS + n.scale() as u32,
+            part: number_mark(n.mant()),
+        },
+        Value::Text(text) => Mark {
+            group: TEXTS,
+            part: text_mark(text.as_str().as_bytes()),
+        },
+        Value::Date(day) => Mark {
+            group: DATES,
+            part: day.ordinal(),
+        },
+        Value::Null => null_mark(),
+    }
+}
+
+// The mark of null.
+fn null_mark() -> Mark
+    ensures { result ≡ spec.mark_of Null }
+{
+    Mark {
+        group: NULLS,
+        part: 0,
     }
 }
 
@@ -66,11 +94,7 @@ fn text_mark(bytes: &[u8]) -> u32
 pub fn differ(a: Mark, b: Mark) -> bool
     ensures { result ≡ spec.differ a b }
 {
-    match (a, b) {
-        (Mark::Text(a), Mark::Text(b)) => a != b,
-        (Mark::Number(scale, a), Mark::Number(other, b)) => scale == other && a != b,
-        _ => false,
-    }
+    a.group == b.group && a.part != b.part
 }
 
 fn row_mark(schema: &Schema, row: &Row) -> RowMark
@@ -88,7 +112,7 @@ fn key_mark(schema: &Schema, place: usize, row: &Row) -> Mark
 {
     match schema.key.get(place) {
         Some(column) => column_mark(row, *column),
-        None => Mark::Null,
+        None => null_mark(),
     }
 }
 
@@ -97,7 +121,7 @@ fn column_mark(row: &Row, column: u32) -> Mark
 {
     match row.as_slice().get(column as usize) {
         Some(v) => mark_of(v),
-        None => Mark::Null,
+        None => null_mark(),
     }
 }
 

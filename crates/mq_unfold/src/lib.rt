@@ -4,6 +4,7 @@
 #![tactic(auto)]
 
 mod copies;
+mod courses;
 mod fixed;
 mod forms;
 mod fronts;

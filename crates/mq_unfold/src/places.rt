@@ -6,7 +6,7 @@ ghost use Rattle.mq_unfold.specs.Rows.{tested_place};
 
 use crate::turn::TurnAlone;
 use mq_ir::{Expr, Model, SinglePlace, Test};
-use mq_scalar::{converted, test_of};
+use mq_scalar::{converted, eval, test_of};
 use mq_values::{Fail, Kind, Value, ValueFault, cast};
 use std::alloc::Global;
 
@@ -25,6 +25,17 @@ pub fn value_of(alloc: Global, turn: u32, kind: Kind, e: &Expr) -> Result<Value,
     ensures { Gives result (spec.converted (spec.left_leaves turn) kind e.now) }
 {
     converted(alloc, e, kind, &mut TurnAlone { turn })
+}
+
+/// The step of a FOR over a dimension of this kind: it is brought to that kind, but over dates it counts days and stays as
+/// it is.
+pub fn step_of(alloc: Global, turn: u32, kind: Kind, e: &Expr) -> Result<Value, Fail<ValueFault>>
+    ensures { Gives result (spec.step_outcome (spec.left_leaves turn) kind e.now) }
+{
+    match kind {
+        Kind::Date => eval(alloc, e, &mut TurnAlone { turn }),
+        _ => value_of(alloc, turn, kind, e),
+    }
 }
 
 /// What `e` names in this turn.

@@ -8,7 +8,7 @@ ghost use Rattle.mq_ir.specs.Unfolding.{item_places, model_of};
 ghost use Rattle.mq_unfold.specs.Spreads as spec;
 
 use crate::forms::Spread;
-use crate::places::{kind_at, named, tested, value_of};
+use crate::places::{kind_at, named, step_of, tested, value_of};
 use crate::sources::places_of;
 use crate::steps::Steps;
 use mq_ir::{LeftItem, Model};
@@ -54,7 +54,7 @@ fn spread_of(
         } => {
             let start = value_of(alloc, turn, kind, start)?;
             let stop = value_of(alloc, turn, kind, stop)?;
-            let step = value_of(alloc, turn, kind, step)?;
+            let step = step_of(alloc, turn, kind, step)?;
             Ok(Spread::stepped(Steps {
                 start,
                 stop,

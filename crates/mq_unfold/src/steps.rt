@@ -1,12 +1,12 @@
-//! The steps of FOR .. FROM .. TO, counted before they are made.
-ghost use Rattle.std.specs.Prelude.{◌≡◌, ◌+◌, min, length, Some, IfOk, IsTrue};
-ghost use Rattle.mq_values.specs.Number.{is_mantissa};
+//! A FOR .. FROM .. TO with its start, stop and step evaluated.
+ghost use Rattle.std.specs.Prelude.{◌≡◌, ◌+◌, min, length, IfOk, IfSome};
 ghost use Rattle.mq_values.specs.declared.limits.TheConstants.{MAX_SINGLE_LEFT_SIDES};
 ghost use Rattle.mq_ir.specs.Unfolding.{steps_of};
 ghost use Rattle.mq_unfold.specs.Steps as spec;
 
+use crate::courses::{Course, Line};
 use mq_ir::SinglePlace;
-use mq_values::{Items, MAX_SINGLE_LEFT_SIDES, Memory, Num, Value};
+use mq_values::{Day, Items, Memory, Num, Value};
 use std::alloc::Global;
 
 /// A FOR with steps, its start, stop and step evaluated.
@@ -23,8 +23,8 @@ impl Steps {
     pub fn count(&self) -> usize
         ensures { result ≡ min (length (steps_of self.now.down self.now.start self.now.stop self.now.step)) (MAX_SINGLE_LEFT_SIDES + 1) }
     {
-        match self.last() {
-            Some(last) => last.min(MAX_SINGLE_LEFT_SIDES as u128) as usize + 1,
+        match self.course() {
+            Some(course) => course.count(self.down),
             None => 0,
         }
     }
@@ -33,74 +33,53 @@ impl Steps {
     pub fn places(&self, alloc: Global) -> Result<Items<SinglePlace>, Memory>
         ensures { IfOk result (λ places. places ≡ steps_of self.now.down self.now.start self.now.stop self.now.step) }
     {
-        match (&self.start, &self.stop, &self.step, self.last()) {
-            (Value::Num(start), Value::Num(stop), Value::Num(step), Some(last)) => {
-                walked(alloc, *start, *stop, *step, self.down, last)
-            }
-            _ => Ok(Items::new(alloc)),
+        match self.course() {
+            Some(course) => course.places(alloc, self.down),
+            None => Ok(Items::new(alloc)),
         }
     }
 
-    // The number of its last value, counted from 0, where it gives one.
-    fn last(&self) -> Option<u128>
-        ensures { result ≡ spec.last_of self.now.down self.now.start self.now.stop self.now.step }
+    // The whole numbers that it goes over: mantissas between numbers, ordinals between dates. Nothing else is
+    // stepped over.
+    fn course(&self) -> Option<Course>
+        ensures course { result ≡ spec.course_of self.now.start self.now.stop self.now.step }
+        ensures ends { IfSome result spec.HasEnds }
     {
         match (&self.start, &self.stop, &self.step) {
-            (Value::Num(start), Value::Num(stop), Value::Num(step)) => {
-                if self.down {
-                    last_step(*stop, *start, *step)
-                } else {
-                    last_step(*start, *stop, *step)
-                }
+            (Value::Num(start), Value::Num(stop), Value::Num(step)) => Some(Course {
+                start: *start,
+                stop: *stop,
+                step: *step,
+                line: Line::Numbers,
+            }),
+            (Value::Date(start), Value::Date(stop), Value::Num(step)) => {
+                over_days(*start, *stop, *step)
             }
             _ => None,
         }
     }
 }
 
-// The number of the last step from `low` on that is not above `high`.
-fn last_step(low: Num, high: Num, step: Num) -> Option<u128>
-    ensures { result ≡ spec.last_step low.mant high.mant step.mant }
+// The ordinals from `start` to `stop` in steps of so many days, where these are whole.
+fn over_days(start: Day, stop: Day, step: Num) -> Option<Course>
+    ensures course { result ≡ spec.over_days start stop step }
+    ensures ends { IfSome result spec.HasEnds }
 {
-    let (low, high, step) = (low.mant(), high.mant(), step.mant());
-    if step <= 0 || high < low {
+    if step.scale() != 0 {
         return None;
     }
-    Some(high.abs_diff(low) / step.unsigned_abs())
+    Some(Course {
+        start: ordinal_of(start),
+        stop: ordinal_of(stop),
+        step,
+        line: Line::Days,
+    })
 }
 
-// The first value and those `last` steps further.
-fn walked(
-    alloc: Global,
-    start: Num,
-    stop: Num,
-    step: Num,
-    down: bool,
-    last: u128,
-) -> Result<Items<SinglePlace>, Memory>
-    requires { spec.last_of down (Value.Num start) (Value.Num stop) (Value.Num step) ≡ Some last }
-    ensures { IfOk result (λ places. places ≡ spec.stepped down start step.mant last) }
+// The ordinal of a date as a number.
+fn ordinal_of(day: Day) -> Num
+    ensures number { result ≡ spec.ordinal_number day }
+    ensures range { spec.IsOn Line.Days result.mant }
 {
-    // What is between the two is in range as they are.
-    let (_first, _bound) = (start.mant(), stop.mant());
-    let mut places = Items::new(alloc);
-    let mut n = start;
-    places.push(SinglePlace::At(Value::Num(n)))?;
-    for _taken in 0..last {
-        n = next(n, step, down);
-        places.push(SinglePlace::At(Value::Num(n)))?;
-    }
-    Ok(places)
-}
-
-// The number one step further.
-fn next(n: Num, step: Num, down: bool) -> Num
-    requires { IsTrue (is_mantissa (spec.moved down n.mant step.mant)) }
-    ensures { result ≡ record { mant = spec.moved down n.mant step.mant; scale = n.scale } }
-{
-    if down {
-        Num::new(n.mant() - step.mant(), n.scale())
-    } else {
-        Num::new(n.mant() + step.mant(), n.scale())
-    }
+    Num::new(day.ordinal() as i128, 0)
 }

@@ -1,8 +1,11 @@
+pub mod DayTextLemmas
+pub mod EpochLemmas
 pub mod NumberApartLemmas
 pub mod NumberTextLemmas
 pub mod PrintLemmas
 pub mod RangeLemmas
 pub mod RoundingLemmas
+pub mod SpellingLemmas
 pub mod StepLemmas
 pub mod TallyLemmas
 pub mod TenLemmas

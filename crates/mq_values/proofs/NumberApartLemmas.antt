@@ -4,33 +4,11 @@ use Rattle.std.proofs.lemmas.Fmt.{decimal_is_IsNumeral_wide, decimal_by_steps_wi
 use Rattle.std.proofs.Math.Nat.{div-add-mod', div-le_self, mod-lt, pow-suc}
 use Rattle.std.specs.Fmt.{decimal}
 use Rattle.std.specs.Str.Parse.{digits_value}
+use Rattle.mq_values.specs.DigitLaws.{fixed_apart, same_ends}
 use Rattle.mq_values.specs.Number.{fixed_digits, fraction_text, sign_text, text_of_number}
 use Rattle.mq_values.specs.NumberOrder.{ten_pos}
 use Rattle.mq_values.specs.NumberLaws.{PrintsApart}
 use Rattle.mq_values.proofs.NumberTextLemmas.{length-fixed, mantissa_small}
-
--- two texts that end in parts of one length are equal part by part
-parts : (xs zs ys ws : List ℕ) → length ys ≡ length ws → xs ++ ys ≡ zs ++ ws → (xs ≡ zs) × (ys ≡ ws)
-parts [] [] ys ws l h = (refl, h)
-parts [] (z ∷ zs) ys ws l h = absurd (omega (arith, ap length h, length-append zs ws))
-parts (x ∷ xs) [] ys ws l h = absurd (omega (arith, ap length h, length-append xs ys))
-parts (x ∷ xs) (z ∷ zs) ys ws l h =
-    let first : x ≡ z = cc in
-    let rest : xs ++ ys ≡ zs ++ ws = cc in
-    let p = parts xs zs ys ws l rest in
-    ((λ i. first i ∷ p.0 i), p.1)
-
-front_below : (k m : ℕ) → m < 10 ^ suc k → m / 10 < 10 ^ k
-front_below k m h = omega (arith, pow-suc 10 k)
-
--- digits with zeros in front say the number
-fixed_apart : (k m n : ℕ) → m < 10 ^ k → n < 10 ^ k → fixed_digits k m ≡ fixed_digits k n → m ≡ n
-fixed_apart zero m n hm hn h = omega arith
-fixed_apart (suc k) m n hm hn h =
-    let p = parts (fixed_digits k (m / 10)) (fixed_digits k (n / 10)) ((48 + m % 10) ∷ []) ((48 + n % 10) ∷ []) refl h in
-    let last : 48 + m % 10 ≡ 48 + n % 10 = cc in
-    let front : m / 10 ≡ n / 10 = fixed_apart k (m / 10) (n / 10) (front_below k m hm) (front_below k n hn) p.0 in
-    omega arith
 
 decimal_apart : (m n : ℕ) → m < 10 ^ 64 → n < 10 ^ 64 → decimal m ≡ decimal n → m ≡ n
 decimal_apart m n hm hn h = sym (decimal_is_IsNumeral_wide m hm).1 ∙ ap (digits_value 10) h ∙ (decimal_is_IsNumeral_wide n hn).1
@@ -74,7 +52,7 @@ same_mant m n s hm hn h =
     let u = 10 ^ s in
     let r = unsigned_abs m % u in
     let t = unsigned_abs n % u in
-    let p = parts (front m u) (front n u) (fraction_text s r) (fraction_text s t) (fraction_length s r t) h in
+    let p = same_ends (front m u) (front n u) (fraction_text s r) (fraction_text s t) (fraction_length s r t) h in
     let rest : r ≡ t = fraction_apart s r t (mod-lt (unsigned_abs m) (ten_pos s)) (mod-lt (unsigned_abs n) (ten_pos s)) p.1 in
     front_apart m n u hm hn rest p.0
 

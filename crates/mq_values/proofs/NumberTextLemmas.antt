@@ -19,7 +19,7 @@ is_mark b = nat_le 45 b && nat_le b 57
 abbrev pub AllMarks : List ℕ → Type 0
 AllMarks bs = list_all is_mark bs ≡ true
 
-both : (xs ys : List ℕ) → AllMarks xs → AllMarks ys → AllMarks (xs ++ ys)
+pub both : (xs ys : List ℕ) → AllMarks xs → AllMarks ys → AllMarks (xs ++ ys)
 both xs ys p q = list_all-append is_mark xs ys ∙ ap (λ b. b && list_all is_mark ys) p ∙ q
 
 digit : (d : ℕ) → d < 10 → AllMarks ((48 + d) ∷ [])
@@ -68,7 +68,7 @@ length-number-le n s h =
     let d : length (decimal (size / unit)) ≤ 64 = length-decimal-le_wide 64 (size / unit) (omega arith) whole whole in
     simp length-append (omega (arith, length-sign-le n.mant, length-fraction-le n.scale (size % unit), d))
 
-marks_plain : (bs : List ℕ) → AllMarks bs → list_all is_plain bs ≡ true
+pub marks_plain : (bs : List ℕ) → AllMarks bs → list_all is_plain bs ≡ true
 marks_plain [] p = refl
 marks_plain (b ∷ bs) p = grind (arith, nat_tests, marks_plain bs)
 

@@ -12,6 +12,9 @@ use Rattle.mq_values.specs.declared.value.Kind.TheVariants as kind
 use Rattle.mq_values.specs.declared.value.Value.{Value}
 use Rattle.mq_values.specs.declared.value.Value.TheVariants as value
 use Rattle.mq_values.proofs.NumberApartLemmas.{apart}
+use Rattle.mq_values.specs.Calendar.{text_of_day}
+use Rattle.mq_values.specs.CalendarLaws.{days_print_apart}
+use Rattle.mq_values.proofs.DayTextLemmas.{length-day}
 use Rattle.mq_values.proofs.NumberTextLemmas.{AllMarks, marks-number, mantissa_small}
 
 -- a text's bytes with the quotes doubled, and the closing quote
@@ -75,20 +78,37 @@ no_null n s p e =
     let h : AllMarks (printed value.Null) = subst AllMarks e m in
     cc
 
+-- a date's text is longer
+no_day_is_null : (d : ℕ) → text_of_day d ≡ printed value.Null → ⊥
+no_day_is_null d e = omega (arith, ap length e, length-day d)
+
 pub values_apart : (k : Kind) (a b : Value) → IsTrue (is_of k a) → IsTrue (is_of k b) → printed a ≡ printed b → a ≡ b
 values_apart kind.Int (value.Num a) (value.Num b) p q e = ap value.Num (numbers_apart a b 0 p q e)
 values_apart (kind.Decimal s) (value.Num a) (value.Num b) p q e = ap value.Num (numbers_apart a b s p q e)
 values_apart kind.Text (value.Num a) b p q e = cc
+values_apart kind.Date (value.Num a) b p q e = cc
 values_apart kind.Int (value.Text a) b p q e = cc
 values_apart (kind.Decimal s) (value.Text a) b p q e = cc
 values_apart kind.Text (value.Text a) (value.Text b) p q e = ap value.Text (texts_apart a b e)
+values_apart kind.Date (value.Text a) b p q e = cc
+values_apart kind.Int (value.Date a) b p q e = cc
+values_apart (kind.Decimal s) (value.Date a) b p q e = cc
+values_apart kind.Text (value.Date a) b p q e = cc
+values_apart kind.Date (value.Date a) (value.Date b) p q e = ap value.Date (days_print_apart a b p q e)
 values_apart kind.Int a (value.Text b) p q e = cc
 values_apart (kind.Decimal s) a (value.Text b) p q e = cc
 values_apart kind.Text a (value.Num b) p q e = cc
+values_apart kind.Date a (value.Num b) p q e = cc
+values_apart kind.Date a (value.Text b) p q e = cc
+values_apart kind.Int a (value.Date b) p q e = cc
+values_apart (kind.Decimal s) a (value.Date b) p q e = cc
+values_apart kind.Text a (value.Date b) p q e = cc
 values_apart kind.Int (value.Num a) value.Null p q e = absurd (no_null a 0 p e)
 values_apart (kind.Decimal s) (value.Num a) value.Null p q e = absurd (no_null a s p e)
 values_apart kind.Text (value.Text a) value.Null p q e = cc
+values_apart kind.Date (value.Date a) value.Null p q e = absurd (no_day_is_null a e)
 values_apart kind.Int value.Null (value.Num b) p q e = absurd (no_null b 0 q (sym e))
 values_apart (kind.Decimal s) value.Null (value.Num b) p q e = absurd (no_null b s q (sym e))
 values_apart kind.Text value.Null (value.Text b) p q e = cc
+values_apart kind.Date value.Null (value.Date b) p q e = absurd (no_day_is_null b (sym e))
 values_apart k value.Null value.Null p q e = refl

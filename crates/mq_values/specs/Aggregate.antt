@@ -15,6 +15,7 @@ use Rattle.mq_values.specs.declared.value.Value.TheVariants as value
 abbrev pub is_value : Value → Bool
 is_value (value.Num n) = true
 is_value (value.Text t) = true
+is_value (value.Date d) = true
 is_value value.Null = false
 
 -- those that are not null
@@ -24,6 +25,7 @@ present = filter is_value
 abbrev pub number_in : Value → Option Number
 number_in (value.Num n) = Some n
 number_in (value.Text t) = None
+number_in (value.Date d) = None
 number_in value.Null = None
 
 abbrev pub numbers : List Value → List Number

@@ -2,7 +2,11 @@ pub mod Aggregate
 pub mod Answers
 pub mod Arithmetic
 pub mod Bytes
+pub mod Calendar
+pub mod CalendarLaws
+pub mod CalendarLemmas
 pub mod Convert
+pub mod DigitLaws
 pub mod DimTestLaws
 pub mod DimTests
 pub mod KeySetLaws

@@ -10,9 +10,12 @@ pub record Number : Type 0 where
   pub mant : ℤ
   pub scale : ℕ
 
--- a mantissa is kept in 128 bits
+-- mantissas are kept in 128 bits: they lie below this number, and from its opposite on
+abbrev pub MANTISSA_END : ℕ
+MANTISSA_END = 2 ^ 127
+
 abbrev pub is_mantissa : ℤ → Bool
-is_mantissa z = int_le (neg_ℤ (pos (2 ^ 127))) z && int_lt z (pos (2 ^ 127))
+is_mantissa z = int_le (neg_ℤ (pos MANTISSA_END)) z && int_lt z (pos MANTISSA_END)
 
 -- a whole number, where it is in that range
 abbrev pub fitting : ℤ → Option ℤ

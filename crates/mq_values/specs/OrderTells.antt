@@ -1,7 +1,7 @@
 -- What the order of values tells: which are the same, and how they compare.
 use Rattle.std.proofs.Common.{◌≡◌, ◌≢◌, ℕ, eqb, is_eq, IfSome, List, [], ◌∷◌, Ordering, Less, Equal, Greater, refl, ap, ◌∙◌}
 use Rattle.std.specs.Ordering.{nat_cmp, ordering_then, int_eq}
-use Rattle.std.specs.Cmp.{tied_itself, first_so, second_so, signed_Decides, unsigned_Decides}
+use Rattle.std.specs.Cmp.{tied_itself, unsigned_ties, first_so, second_so, signed_Decides, unsigned_Decides}
 use Rattle.std.specs.Cmp.Lexicographic.{texts_ties, bytes_decides}
 use Rattle.mq_values.specs.Number.{Number, cmp_number, cmp_worth}
 use Rattle.mq_values.specs.NumberOrder.{equal_together}
@@ -27,15 +27,25 @@ same_number a b h =
 pub same_text : (a b : List ℕ) → cmp_text a b ≡ Equal → a ≡ b
 same_text a b h = (bytes_decides a b).0 (texts_ties a b ∙ ap is_eq h)
 
+pub same_day : (a b : ℕ) → nat_cmp a b ≡ Equal → a ≡ b
+same_day a b h = (unsigned_Decides a b).0 (unsigned_ties a b ∙ ap is_eq h)
+
 pub same_value : (a b : Value) → cmp_value a b ≡ Equal → a ≡ b
 same_value (value.Num a) (value.Num b) h = ap value.Num (same_number a b h)
 same_value (value.Num a) (value.Text b) h = cc
+same_value (value.Num a) (value.Date b) h = cc
 same_value (value.Num a) value.Null h = cc
 same_value (value.Text a) (value.Num b) h = cc
 same_value (value.Text a) (value.Text b) h = ap value.Text (same_text a b h)
+same_value (value.Text a) (value.Date b) h = cc
 same_value (value.Text a) value.Null h = cc
+same_value (value.Date a) (value.Num b) h = cc
+same_value (value.Date a) (value.Text b) h = cc
+same_value (value.Date a) (value.Date b) h = ap value.Date (same_day a b h)
+same_value (value.Date a) value.Null h = cc
 same_value value.Null (value.Num b) h = cc
 same_value value.Null (value.Text b) h = cc
+same_value value.Null (value.Date b) h = cc
 same_value value.Null value.Null h = refl
 
 both_equal : (r s : Ordering) → ordering_then r s ≡ Equal → (r ≡ Equal) × (s ≡ Equal)
@@ -62,17 +72,29 @@ first_decides Greater s n = refl
 pub ordered_as_compared : (a b : Value) → IfSome (compared a b) (λ r. r ≢ Equal → cmp_value a b ≡ r)
 ordered_as_compared (value.Num a) (value.Num b) = λ n. first_decides (cmp_worth a b) (nat_cmp a.scale b.scale) n
 ordered_as_compared (value.Num a) (value.Text b) = tt
+ordered_as_compared (value.Num a) (value.Date b) = tt
 ordered_as_compared (value.Num a) value.Null = tt
 ordered_as_compared (value.Text a) (value.Num b) = tt
 ordered_as_compared (value.Text a) (value.Text b) = λ n. refl
+ordered_as_compared (value.Text a) (value.Date b) = tt
 ordered_as_compared (value.Text a) value.Null = tt
+ordered_as_compared (value.Date a) (value.Num b) = tt
+ordered_as_compared (value.Date a) (value.Text b) = tt
+ordered_as_compared (value.Date a) (value.Date b) = λ n. refl
+ordered_as_compared (value.Date a) value.Null = tt
 ordered_as_compared value.Null b = tt
 
 pub equal_as_compared : (a b : Value) → cmp_value a b ≡ Equal → IfSome (compared a b) (λ r. r ≡ Equal)
 equal_as_compared (value.Num a) (value.Num b) h = (both_equal (cmp_worth a b) (nat_cmp a.scale b.scale) h).0
 equal_as_compared (value.Num a) (value.Text b) h = tt
+equal_as_compared (value.Num a) (value.Date b) h = tt
 equal_as_compared (value.Num a) value.Null h = tt
 equal_as_compared (value.Text a) (value.Num b) h = tt
 equal_as_compared (value.Text a) (value.Text b) h = h
+equal_as_compared (value.Text a) (value.Date b) h = tt
 equal_as_compared (value.Text a) value.Null h = tt
+equal_as_compared (value.Date a) (value.Num b) h = tt
+equal_as_compared (value.Date a) (value.Text b) h = tt
+equal_as_compared (value.Date a) (value.Date b) h = h
+equal_as_compared (value.Date a) value.Null h = tt
 equal_as_compared value.Null b h = tt

@@ -2,6 +2,7 @@
 use Rattle.std.specs.Prelude.{ℕ, ◌==◌, if◌then◌else◌, List, [], ◌∷◌, ◌++◌, codes}
 use Rattle.std.specs.List.{flat_map}
 use Rattle.mq_values.specs.Bytes.{QUOTE}
+use Rattle.mq_values.specs.Calendar.{text_of_day}
 use Rattle.mq_values.specs.Number.{text_of_number}
 use Rattle.mq_values.specs.declared.value.Value.{Value}
 use Rattle.mq_values.specs.declared.value.Value.TheVariants as value
@@ -16,4 +17,5 @@ quoted bytes = QUOTE ∷ (flat_map doubled bytes ++ QUOTE ∷ [])
 abbrev pub printed : Value → List ℕ
 printed (value.Num n) = text_of_number n
 printed (value.Text t) = quoted t
+printed (value.Date d) = text_of_day d
 printed value.Null = codes "NULL"

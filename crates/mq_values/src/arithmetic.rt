@@ -1,6 +1,7 @@
 //! Sums, products, quotients and conversions of numbers, exact but for one rounding.
 ghost use Rattle.std.specs.Prelude.{◌≡◌, ◌≢◌, ◌≤◌, ◌<◌, ◌^◌, pos};
 ghost use Rattle.mq_values.specs.Arithmetic.{difference_of, floor_of, half_up, in_range, magnitude_of, negation_of, product_of, quotient_of, rescaled, rounded, sum_of};
+ghost use Rattle.mq_values.specs.Number.{MANTISSA_END};
 
 use crate::faults::ValueFault;
 use crate::limits::{MAX_SCALE, MIN_QUOTIENT_SCALE};
@@ -137,7 +138,7 @@ fn quotient(dividend: i128, divisor: i128, scale: u8) -> Result<Num, ValueFault>
 
 /// The quotient to the nearest whole number, halves up.
 fn rounded_size(dividend: u128, divisor: u128) -> u128
-    requires dividend { dividend ≤ 2 ^ 127 }
+    requires dividend { dividend ≤ MANTISSA_END }
     requires divisor { 0 < divisor }
     ensures { result ≡ half_up dividend divisor }
 {

@@ -1,10 +1,12 @@
 ghost use Rattle.std.specs.Prelude.{◌≡◌, ◌++◌, IsTrue, Ok, IfOk, OnOk, string_bytes};
 ghost use Rattle.mq_values.specs.Answers.{Gives};
+ghost use Rattle.mq_values.specs.Calendar.{text_of_day};
 ghost use Rattle.mq_values.specs.Convert.{cast_of, number_at, joined, length_of, operand_text};
 ghost use Rattle.mq_values.specs.Number.{text_of_number};
 ghost use Rattle.mq_values.specs.declared.value.Value.TheVariants as value_of;
 ghost use Rattle.mq_values.specs.Text.{is_text};
 
+use crate::day::Day;
 use crate::faults::ValueFault;
 use crate::limits::MAX_SCALE;
 use crate::memory::{Fail, Memory};
@@ -14,7 +16,8 @@ use crate::value::{Kind, Value};
 use std::alloc::Global;
 
 /// The value converted to a kind: a number to the kind's scale, rounded to the nearest with halves away from
-/// zero; to TEXT as its printed text. A text is no number, and null stays null. `Overflow` comes exactly
+/// zero; to TEXT as its printed text, as a date is too. A text is no number and no date, a number no date and a
+/// date no number; null stays null. `Overflow` comes exactly
 /// where the number leaves the range. No kind has a scale above `MAX_SCALE`, and a cast to one is null
 /// (docs/LANGUAGE.md, "Conversions").
 pub fn cast(alloc: Global, value: &Value, kind: Kind) -> Result<Value, Fail<ValueFault>>
@@ -25,6 +28,8 @@ pub fn cast(alloc: Global, value: &Value, kind: Kind) -> Result<Value, Fail<Valu
         (Value::Num(n), Kind::Decimal(scale)) => number_at(*n, scale),
         (Value::Num(n), Kind::Text) => text_of(alloc, *n),
         (Value::Text(t), Kind::Text) => Ok(Value::Text(t.copy()?)),
+        (Value::Date(d), Kind::Text) => day_as_text(alloc, *d),
+        (Value::Date(d), Kind::Date) => Ok(Value::Date(*d)),
         _ => Ok(Value::Null),
     }
 }
@@ -52,7 +57,18 @@ fn text_of(alloc: Global, n: Num) -> Result<Value, Fail<ValueFault>>
     }
 }
 
-/// The two values as one text, `a || b`: a number stands as its printed text and null as the empty text,
+/// A date as the text that it prints.
+fn day_as_text(alloc: Global, day: Day) -> Result<Value, Fail<ValueFault>>
+    ensures { Gives result (Ok (value_of.Text (text_of_day day))) }
+{
+    let text = day_text(alloc, day)?;
+    match Text::new(alloc, text.as_str())? {
+        Some(text) => Ok(Value::Text(text)),
+        None => unreachable!(),
+    }
+}
+
+/// The two values as one text, `a || b`: a number or a date stands as its printed text and null as the empty text,
 /// and null || null is null. `TextTooLong` comes exactly where the text would pass `MAX_TEXT_BYTES` bytes
 /// (docs/LANGUAGE.md, "Texts").
 pub fn concat(alloc: Global, a: &Value, b: &Value) -> Result<Value, Fail<ValueFault>>
@@ -87,6 +103,7 @@ fn push_operand(alloc: Global, value: &Value, text: &mut String) -> Result<(), M
     match value {
         Value::Num(n) => Ok(text.push_str(number_text(alloc, *n)?.as_str())?),
         Value::Text(t) => Ok(text.push_str(t.as_str())?),
+        Value::Date(d) => Ok(text.push_str(day_text(alloc, *d)?.as_str())?),
         Value::Null => Ok(()),
     }
 }
@@ -99,6 +116,19 @@ fn number_text(alloc: Global, n: Num) -> Result<String, Memory>
     let (_mant, _scale) = (n.mant(), n.scale());
     let mut bytes = Vec::new(alloc);
     n.print(&mut bytes)?;
+    match String::from_utf8(bytes) {
+        Ok(text) => Ok(text),
+        Err(_) => unreachable!(),
+    }
+}
+
+/// The printed text of a date, which is a text.
+fn day_text(alloc: Global, day: Day) -> Result<String, Memory>
+    ensures value { IfOk result (λ t. string_bytes t ≡ text_of_day day) }
+    ensures text { IsTrue (is_text (text_of_day day)) }
+{
+    let mut bytes = Vec::new(alloc);
+    day.print(&mut bytes)?;
     match String::from_utf8(bytes) {
         Ok(text) => Ok(text),
         Err(_) => unreachable!(),

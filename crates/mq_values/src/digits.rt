@@ -1,6 +1,6 @@
 //! The printed text of a number.
 ghost use Rattle.std.specs.Prelude.{◌≡◌, ◌+◌, ◌-◌, ◌^◌, ◌<◌, ◌≤◌, ◌++◌, ◌/◌, ◌%◌, [], ◌∷◌, length, take, drop, decimal, OnOk, OnErr, unsigned_abs};
-ghost use Rattle.mq_values.specs.Number.{fixed_digits, fraction_text, sign_text, text_of_number};
+ghost use Rattle.mq_values.specs.Number.{MANTISSA_END, fixed_digits, fraction_text, sign_text, text_of_number};
 
 use crate::limits::MAX_SCALE;
 use crate::memory::Memory;
@@ -76,7 +76,7 @@ fn write_fixed(part: u64, count: u8, buffer: &mut [u8; ROOM]) -> usize
 
 /// Writes the digits of `whole` so that they end at `end`, and returns where they begin.
 fn write_whole(whole: u128, buffer: &mut [u8; ROOM], end: usize) -> usize
-    requires whole { whole ≤ 2 ^ 127 }
+    requires whole { whole ≤ MANTISSA_END }
     requires room { DIGITS < end × end ≤ ROOM }
     ensures room { 0 < result }
     ensures within { result ≤ end }

@@ -11,6 +11,8 @@ pub enum ValueFault {
     DivideByZero,
     #[error("a text is longer than 256 bytes")]
     TextTooLong,
+    #[error("a date is out of range")]
+    DateRange,
 }
 
 /// Why a query has no rows (docs/LANGUAGE.md, "Faults").
@@ -26,6 +28,7 @@ pub enum FaultKind {
     TooManyCells,
     TooManyUnfolded,
     TooManyRows,
+    DateRange,
 }
 
 /// A fault and where it came: the rule's number from 1, or 0 outside of the rules, the partition's key and the cell's.

@@ -45,6 +45,18 @@ pub const MIN_QUOTIENT_SCALE: u8 = 6;
 /// The greatest mantissa: a number's digits without the point make no more. The least mantissa lies one further from 0.
 pub const MAX_MANTISSA: u128 = 170_141_183_460_469_231_731_687_303_715_884_105_727;
 
+/// The last year of the calendar. The first is the year 1.
+pub const MAX_YEAR: u32 = 9_999;
+
+/// How many months a year has.
+pub const MONTHS: u32 = 12;
+
+/// The ordinal of the last day of the calendar, 9999-12-31. That of the first, 0001-01-01, is 1.
+pub const MAX_ORDINAL: u32 = 3_652_059;
+
+/// The ordinal of 2000-01-01, which a null date reads as under IGNORE NAV.
+pub const DEFAULT_ORDINAL: u32 = 730_120;
+
 /// How many references a model may have.
 pub const MAX_REFERENCES: usize = 2;
 

@@ -5,7 +5,7 @@ use crate::memory::Memory;
 use crate::value::Value;
 
 /// Appends the printed text of `value` to `out`: a number with as many digits behind the point as its
-/// scale, a text between quotation marks with each inner one doubled, null as `NULL`
+/// scale, a text between quotation marks with each inner one doubled, a date as `2000-01-31`, null as `NULL`
 /// (docs/LANGUAGE.md, "Printed values"). After `Memory` `out` is as before.
 pub fn print(value: &Value, out: &mut Vec<u8>) -> Result<(), Memory>
     ensures ok { OnOk result (out.new.items ≡ out.old.items ++ printed value.now) }
@@ -14,6 +14,7 @@ pub fn print(value: &Value, out: &mut Vec<u8>) -> Result<(), Memory>
     match value {
         Value::Num(n) => n.print(out),
         Value::Text(t) => print_text(t.as_str(), out),
+        Value::Date(d) => d.print(out),
         Value::Null => Ok(out.extend_from_slice(b"NULL")?),
     }
 }

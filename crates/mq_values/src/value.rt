@@ -4,6 +4,7 @@ ghost use Rattle.std.specs.Cmp.{partial_order_from_agreeing_total};
 ghost use Rattle.mq_values.specs.Order.{cmp_value};
 ghost use Rattle.mq_values.specs.OrderLaws.{value_total, values_tie};
 
+use crate::day::Day;
 use crate::memory::Memory;
 use crate::number::Num;
 use crate::text::Text;
@@ -16,14 +17,16 @@ pub enum Kind {
     Int,
     Decimal(u8),
     Text,
+    Date,
 }
 
 /// A value of any kind, or null. The order of the variants is that of the total order of values:
-/// numbers, then texts, then null.
+/// numbers, then texts, then dates, then null.
 #[derive(Debug, Drop, PartialEq, Eq, Hash)]
 pub enum Value {
     Num(Num),
     Text(Text),
+    Date(Day),
     Null,
 }
 
@@ -41,6 +44,7 @@ impl Value {
         match self {
             Value::Num(n) => Ok(Value::Num(*n)),
             Value::Text(t) => Ok(Value::Text(t.copy()?)),
+            Value::Date(d) => Ok(Value::Date(*d)),
             Value::Null => Ok(Value::Null),
         }
     }
@@ -86,7 +90,10 @@ impl Ord for Value {
             (Value::Num(_), _) => Ordering::Less,
             (Value::Text(_), Value::Num(_)) => Ordering::Greater,
             (Value::Text(a), Value::Text(b)) => a.cmp(b),
-            (Value::Text(_), Value::Null) => Ordering::Less,
+            (Value::Text(_), _) => Ordering::Less,
+            (Value::Date(_), Value::Null) => Ordering::Less,
+            (Value::Date(a), Value::Date(b)) => a.cmp(b),
+            (Value::Date(_), _) => Ordering::Greater,
             (Value::Null, Value::Null) => Ordering::Equal,
             (Value::Null, _) => Ordering::Greater,
         }

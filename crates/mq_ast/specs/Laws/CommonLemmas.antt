@@ -43,6 +43,7 @@ NOTHING = 4
 abbrev pub first_word : Option (Func × ℕ) → Keyword → ℕ
 first_word (Some _) _ = PRIMARY
 first_word None word.Null = PRIMARY
+first_word None word.Date = PRIMARY
 first_word None word.Case = PRIMARY
 first_word None word.Cast = PRIMARY
 first_word None word.Round = PRIMARY

@@ -1,7 +1,9 @@
 -- Two expressions that read the same tokens are equal.
-use Rattle.std.proofs.Common.{◌≡◌, ℕ, ◌<◌, ◌≤◌, List, ◌∷◌, refl, sym, ap, subst, arith}
+use Rattle.std.proofs.Common.{◌≡◌, ℕ, ◌<◌, ◌≤◌, List, ◌∷◌, refl, sym, ap, ◌∙◌, subst, arith}
 use Rattle.std.specs.Prelude.{Option, Some}
+use Rattle.mq_values.specs.CalendarLaws.{days_print_apart}
 use Rattle.mq_values.specs.declared.value.Kind.{Kind}
+use Rattle.mq_values.specs.declared.value.Value.TheVariants as value
 use Rattle.mq_values.specs.declared.operators.Func.{Func}
 use Rattle.mq_ast.specs.declared.expressions.Path.{Path}
 use Rattle.mq_ast.specs.declared.expressions.Place.{Place}
@@ -18,8 +20,8 @@ use Rattle.mq_ast.specs.Tokens.{Tok, Word, Name, terminal_at, closer, minus, sta
 use Rattle.mq_ast.specs.declared.levels.TheConstants as level
 use Rattle.mq_ast.specs.Continuing.{loose, Stops, Ends}
 use Rattle.mq_ast.specs.Chains.{arm}
-use Rattle.mq_ast.specs.GrammarNames.{PathE, path_one, path_two, KindE, kind_int, kind_decimal, kind_text}
-use Rattle.mq_ast.specs.GrammarExpression.{Expr, MoreOr, AndE, MoreAnd, NotE, TestE, TestTail, Tuple, Exprs, MoreExprs, SumE, MoreSum, ProdE, MoreProd, SignE, PrimE, Brackets, MorePlaces, PlaceE, CaseE, Whens, ElseE, expr, or_end, or_more, and, and_end, and_more, not_plain, not_not, test, tail_none, tail_cmp, tail_between, tail_not_between, tail_in, tail_not_in, tail_null, tail_not_null, tail_present, tail_not_present, tail_any, tuple, exprs, exprs_end, exprs_more, sum, sum_end, sum_more, prod, prod_end, prod_more, sign_plain, sign_minus, prim_num, prim_text, prim_null, prim_path, prim_cell, prim_round, prim_agg, prim_count, prim_range, prim_case, prim_cast, prim_to, prim_call, prim_cv, prim_cv_name, prim_turn, prim_previous, prim_presentv, prim_presentnnv, brackets, places_end, places_more, place_any, place_expr, case_none, case_some, whens_end, whens_more, else_none, else_some}
+use Rattle.mq_ast.specs.GrammarNames.{PathE, path_one, path_two, KindE, kind_int, kind_decimal, kind_text, kind_date, DayE, dtxt}
+use Rattle.mq_ast.specs.GrammarExpression.{Expr, MoreOr, AndE, MoreAnd, NotE, TestE, TestTail, Tuple, Exprs, MoreExprs, SumE, MoreSum, ProdE, MoreProd, SignE, PrimE, Brackets, MorePlaces, PlaceE, CaseE, Whens, ElseE, expr, or_end, or_more, and, and_end, and_more, not_plain, not_not, test, tail_none, tail_cmp, tail_between, tail_not_between, tail_in, tail_not_in, tail_null, tail_not_null, tail_present, tail_not_present, tail_any, tuple, exprs, exprs_end, exprs_more, sum, sum_end, sum_more, prod, prod_end, prod_more, sign_plain, sign_minus, prim_num, prim_text, prim_null, prim_date, prim_path, prim_cell, prim_round, prim_agg, prim_count, prim_range, prim_case, prim_cast, prim_to, prim_call, prim_cv, prim_cv_name, prim_turn, prim_previous, prim_presentv, prim_presentnnv, brackets, places_end, places_more, place_any, place_expr, case_none, case_some, whens_end, whens_more, else_none, else_some}
 use Rattle.mq_ast.specs.Laws.CommonLemmas.{Same, same_flip, begin, cut, none_some, PRIMARY, SIGNED, WHOLE, first, first_word, Begins}
 
 -- no token that goes on at a level below stands before the rest of a chain, a test or a list
@@ -179,7 +181,7 @@ name_ends (expr d ds) = let h = and_name_ends d in let s = stops_closed h in let
 pub no_square : (to : List Tok) → Stops level.PRIMARY to → terminal_at to ≡ terminal.Sign sign.OpenSquare → ⊥
 no_square to s e = let P : Terminal → Type 0 = λ t. level.PRIMARY < loose t in let h : level.PRIMARY < loose (terminal.Sign sign.OpenSquare) = subst P e s in absurd (omega arith)
 
--- paths and kinds
+-- paths, kinds and dates
 
 pub path_same : {p p' : Path} {from to to' : List Tok} → PathE p from to → PathE p' from to' → Stops level.PATH to → Stops level.PATH to' → Same p p' to to'
 path_same path_one path_one s s' = (refl, refl)
@@ -191,6 +193,10 @@ pub kind_same : {k k' : Kind} {from to to' : List Tok} → KindE k from to → K
 kind_same kind_int kind_int = (refl, refl)
 kind_same (kind_decimal i) (kind_decimal i') = (refl, refl)
 kind_same kind_text kind_text = (refl, refl)
+kind_same kind_date kind_date = (refl, refl)
+
+pub day_same : {d d' : ℕ} {from to to' : List Tok} → DayE d from to → DayE d' from to' → Same d d' to to'
+day_same (dtxt {day = d} p) (dtxt {day = d'} p') = (days_print_apart d d' p.0 p'.0 (p.1 ∙ sym p'.1), refl)
 
 pub stops_when : (to : List Tok) → terminal_at to ≡ terminal.Word word.When → Stops level.EXPRESSION to
 stops_when to e = let P : Terminal → Type 0 = λ t. level.EXPRESSION < loose t in let h : level.EXPRESSION < loose (terminal.Word word.When) = omega arith in subst P (sym e) h
@@ -324,6 +330,7 @@ mutual
   prim_same prim_num prim_num s s' = (refl, refl)
   prim_same prim_text prim_text s s' = (refl, refl)
   prim_same prim_null prim_null s s' = (refl, refl)
+  prim_same (prim_date d) (prim_date d') s s' = let p = day_same d d' in (ap (λ day. e.Lit (value.Date day)) p.0, p.1)
   prim_same (prim_path d) (prim_path d') s s' = let p = path_same d d' (omega arith) (omega arith) in (ap e.Name p.0, p.1)
   prim_same (prim_path d) (prim_cell d' b') s s' =
       let p = path_same d d' (omega arith) (brackets_stop b') in
@@ -357,6 +364,7 @@ mutual
       let q = one_call c c' in
       (cc, p.1)
   prim_same (prim_call c d l) prim_null s s' = absurd (none_some c)
+  prim_same (prim_call c d l) (prim_date _) s s' = absurd (none_some c)
   prim_same (prim_call c d l) (prim_case _ _ _) s s' = absurd (none_some c)
   prim_same (prim_call c d l) (prim_cast _ _) s s' = absurd (none_some c)
   prim_same (prim_call c d l) (prim_to _ _) s s' = absurd (none_some c)
@@ -367,6 +375,7 @@ mutual
   prim_same (prim_call c d l) (prim_presentv _ _ _) s s' = absurd (none_some c)
   prim_same (prim_call c d l) (prim_presentnnv _ _ _) s s' = absurd (none_some c)
   prim_same prim_null (prim_call c' d' l') s s' = absurd (none_some c')
+  prim_same (prim_date _) (prim_call c' d' l') s s' = absurd (none_some c')
   prim_same (prim_case _ _ _) (prim_call c' d' l') s s' = absurd (none_some c')
   prim_same (prim_cast _ _) (prim_call c' d' l') s s' = absurd (none_some c')
   prim_same (prim_to _ _) (prim_call c' d' l') s s' = absurd (none_some c')

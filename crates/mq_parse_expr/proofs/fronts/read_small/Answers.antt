@@ -28,3 +28,8 @@ pub returns-in-Cv : goal.returns-in-Cv
 returns-in-Cv c =
     let f = form_front form.Cv (from c.args.t.now c.args.at) (sym c.in-Cv.is ∙ c.requires.begins) in
     fronted PrimE Anywhere (λ us. Word word.Cv ∷ us) c.args.t.now c.args.at (c.args.at + 1) c.read_cv.result (omega arith) (at_front (Word word.Cv) c.args.t.now c.args.at f) c.read_cv.ensures
+
+pub returns-in-Date : goal.returns-in-Date
+returns-in-Date c =
+    let f = form_front form.Date (from c.args.t.now c.args.at) (sym c.in-Date.is ∙ c.requires.begins) in
+    fronted PrimE Anywhere (λ us. Word word.Date ∷ us) c.args.t.now c.args.at (c.args.at + 1) c.read_date.result (omega arith) (at_front (Word word.Date) c.args.t.now c.args.at f) c.read_date.ensures

@@ -10,7 +10,7 @@ use Rattle.mq_parse_words.proofs.names.read_decimal.Goals as goal
 
 pub returns-in_err-decimal : goal.returns-in_err-decimal
 returns-in_err-decimal c =
-    quit KindE c.args.t.now c.args.at c.from_residual.result c.in_err-decimal.field-0.0 c.from_residual.ensures.1 c.in_err-decimal.ensures (λ h. kind_no_word c.requires.int c.requires.text h)
+    quit KindE c.args.t.now c.args.at c.from_residual.result c.in_err-decimal.field-0.0 c.from_residual.ensures.1 c.in_err-decimal.ensures (λ h. kind_no_word c.requires.int c.requires.text c.requires.date h)
 
 pub returns-in_err-open : goal.returns-in_err-open
 returns-in_err-open c =
