@@ -1,9 +1,9 @@
-//! Runs a script of SQL statements. The script's bytes go in from standard input.
+//! Runs a script of SQL statements. The script's bytes go in from standard input, files from the current folder.
 //! Out come the lines of each statement on standard output, and the status of the run.
 //! What a script prints is defined by mq_tool, specs/Script.
 #![tactic(auto)]
 
-use mq_io::{MapShelf, OpenGate, ReaderSource, WriterSink};
+use mq_io::{FolderShelf, OpenGate, ReaderSource, WriterSink};
 use mq_tool::{BAD_WORDS, NO_MEMORY, run};
 use std::io::ErrorKind;
 use std::process::ExitCode;
@@ -19,7 +19,7 @@ fn main(rt: HostRuntime) -> ExitCode {
         return ExitCode::from(NO_MEMORY);
     };
     let mut script = ReaderSource::new(rt.reader());
-    let mut files = MapShelf::new(Vec::new(alloc), Vec::new(alloc));
+    let mut files = FolderShelf::new(&rt, ".");
     let mut out = WriterSink::new(io::writer(&rt));
     let gate = OpenGate;
     let status = run(alloc, &words, &mut script, &mut files, &mut out, &gate);

@@ -1,5 +1,5 @@
 //! The calls of a session.
-ghost use Rattle.std.specs.Prelude.{◌≡◌, ◌≤◌, ◌∷◌, [], None, false, Ok, IfOk, OnOk, OnErr};
+ghost use Rattle.std.specs.Prelude.{◌≡◌, ◌≤◌, ◌∷◌, [], None, false, Ok, IfOk, OnOk, OnErr, IsErrOf};
 ghost use Rattle.mq_values.specs.Answers.{Gives, result_map};
 ghost use Rattle.mq_ir.specs.declared.statement.Bound.TheVariants as bound;
 ghost use Rattle.mq_ir.specs.Answer.{answer_of};
@@ -125,6 +125,7 @@ impl Engine {
     pub fn drop_table(&mut self, name: &str) -> Result<(), Fail<Refused>>
         ensures exact { Gives (result_map (λ _. (self.new, Done ∷ [])) result) (spec.drop_table self.old name.now) }
         ensures err { OnErr result (self.new ≡ self.old) }
+        ensures memory { spec.first_reader self.old.views name.now ≡ None → ¬ IsErrOf result Fail.Memory }
     {
         if let Some(view) = first_reader(self.catalog.views.as_slice(), name) {
             return Err(Fail::Cause(Refused::InUse(view.name.copy()?)));

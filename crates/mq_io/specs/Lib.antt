@@ -1,6 +1,7 @@
 pub mod Calls
 pub mod Causes
 pub mod FileList
+pub mod FileNames
 pub mod Files
 pub mod InMemory
 pub mod Progress

@@ -13,7 +13,7 @@ mod transfers;
 
 pub use faults::{Failed, IoFault, ReadFault};
 pub use gates::{Gate, OpenGate};
-pub use shelves::{Fetched, MapShelf, Shelf};
+pub use shelves::{Fetched, FolderShelf, MapShelf, Shelf};
 pub use sinks::{Sink, VecSink, WriterSink};
 pub use sources::{BytesSource, ReaderSource, Source};
 pub use transfers::{READ_SIZE, read_all, write_all};

@@ -1,14 +1,19 @@
 // What files are fetched from, by name.
-ghost use Rattle.std.specs.Prelude.{◌≡◌, ◌↔◌, ◌≤◌, ℕ, List, Option, Some, IfOk, IfSome, IsErrOf, IsTrue};
+ghost use Rattle.std.specs.Prelude.{◌≡◌, ◌↔◌, ◌≤◌, ℕ, List, Option, None, Some, Ok, IfOk, IfSome, IsErrOf, IsTrue};
 ghost use Rattle.std.specs.Option.{option_map};
 ghost use Rattle.mq_io.specs.Causes.{Rose};
 ghost use Rattle.mq_io.specs.Calls.{no_calls, is_due, after_call};
 ghost use Rattle.mq_io.specs.FileList.{file_list, file_of};
-ghost use Rattle.mq_io.specs.Files.{IsAnswer};
+ghost use Rattle.mq_io.specs.FileNames.{IsFileName};
+ghost use Rattle.mq_io.specs.Files.{IsAnswer, IsWithin, count_after};
 
 use crate::calls::CallCount;
 use crate::faults::IoFault;
+use std::io::{ErrorKind, Read};
 use std::marker::Model;
+use std::path::Path;
+use std::rt::Files;
+use std::{fs, io};
 
 /// What a shelf answers (docs/MEANING.md, "The outside").
 #[derive(Debug, Drop, PartialEq)]
@@ -109,4 +114,97 @@ fn find_file<'a>(files: &'a [(String, Vec<u8>)], name: &str) -> Option<&'a Vec<u
         }
     }
     None
+}
+
+/// A shelf of the files that stand in a folder of the host. It tells no content. A name that is empty,
+/// holds a slash or begins with a dot is absent, as is one where the host finds nothing; every other
+/// error of the host is counted as a fault, but for want of memory, which is `Memory`.
+#[derive(Drop)]
+pub struct FolderShelf<'a, R> {
+    rt: &'a R,
+    folder: &'a str,
+    faults: u64,
+}
+
+// Contracts see the count of its faults.
+impl<'a, R> Model for FolderShelf<'a, R> {
+    ghost Value = { ℕ };
+
+    ghost view = { λ s. s.faults };
+}
+
+impl<'a, R> FolderShelf<'a, R> {
+    /// A shelf over the folder at that path, with no fault yet. The current folder is `.`.
+    pub fn new(rt: &'a R, folder: &'a str) -> Self
+        ensures { result ≡ 0 }
+    {
+        FolderShelf {
+            rt,
+            folder,
+            faults: 0,
+        }
+    }
+}
+
+impl<'a, R: Files + AllocGlobal> Shelf for FolderShelf<'a, R> {
+    ghost files = { λ _. None };
+
+    ghost faults = { λ s. s };
+
+    fn fetch(&mut self, name: &str, limit: u32) -> Result<Fetched, IoFault>
+        ensures later { self.old ≤ self.new }
+        ensures failed { IsErrOf result IoFault.Failed → Rose self.old self.new }
+
+        // Which names are asked for, how much comes, and what is counted.
+        ensures absent { ¬ IsFileName name.now → result ≡ Ok Fetched.Absent }
+        ensures within { IfOk result (IsWithin limit) }
+        ensures counted { self.new ≡ count_after self.old result }
+    {
+        if !is_file_name(name) {
+            return Ok(Fetched::Absent);
+        }
+        match read_file(self.rt, self.folder, name, limit) {
+            Ok(fetched) => Ok(fetched),
+            Err(error) if error.kind() == ErrorKind::OutOfMemory => Err(IoFault::Memory),
+            Err(_) => {
+                self.faults = self.faults.saturating_add(1);
+                Err(IoFault::Failed)
+            }
+        }
+    }
+}
+
+// Whether a folder is asked for a file of that name.
+fn is_file_name(name: &str) -> bool
+    ensures { IsTrue result ↔ IsFileName name.now }
+{
+    let bytes = name.as_bytes();
+    match bytes.first() {
+        None | Some(b'.') => false,
+        Some(_) => !bytes.contains(&b'/'),
+    }
+}
+
+// The file of that name in the folder. One byte more than the limit is read of it at most.
+fn read_file<R: Files + AllocGlobal>(
+    rt: &R,
+    folder: &str,
+    name: &str,
+    limit: u32,
+) -> io::Result<Fetched>
+    ensures { IfOk result (IsWithin limit) }
+{
+    let path = Path::new(folder).join(rt.alloc(), name)?;
+    let file = match fs::open(rt, path) {
+        Ok(file) => file,
+        Err(error) if error.kind() == ErrorKind::NotFound => return Ok(Fetched::Absent),
+        Err(error) => return Err(error),
+    };
+    let mut bytes = Vec::new(rt.alloc());
+    file.take(u64::from(limit) + 1).read_to_end(&mut bytes)?;
+    if bytes.len() > limit as usize {
+        Ok(Fetched::TooLong)
+    } else {
+        Ok(Fetched::Bytes(bytes))
+    }
 }

@@ -3,9 +3,14 @@ ghost use Rattle.std.specs.Prelude.{◌<◌};
 
 use super::*;
 use std::alloc::{AllocError, Global};
-use std::io;
+use std::fs::Permissions;
 use std::io::{ErrorKind, Read};
+use std::os::unix::fs::PermissionsExt;
 use std::test::Fail;
+use std::{fs, io};
+
+// The most bytes that a script asks of a file.
+const LARGE: u32 = 16_777_216;
 
 fn source(alloc: Global, text: &str, failing: &[u64], piece: u32) -> Result<BytesSource, AllocError>
     requires { 0 < piece }
@@ -110,6 +115,110 @@ fn a_shelf_answers_by_name_and_limit(rt: HostRuntime) -> Result<(), Fail> {
     assert_eq!(rt; fetch_some(&mut shelf, "a.csv", 3), Err(IoFault::Failed));
     let none = Fetched::Bytes(Vec::new(alloc));
     assert_eq!(rt; fetch_some(&mut shelf, "empty", 0), Ok(none));
+    Ok(())
+}
+
+// An empty folder of that name, whatever an earlier run left in it.
+fn make_folder(rt: &HostRuntime, folder: &str) -> io::Result<()> {
+    if fs::exists(rt, folder)? {
+        fs::remove_dir_all(rt, folder)?;
+    }
+    fs::create_dir(rt, folder)
+}
+
+#[test]
+fn a_folder_answers_by_name(rt: HostRuntime) -> Result<(), Fail> {
+    for folder in ["named", "named/inner"] {
+        make_folder(&rt, folder)?;
+    }
+    for path in ["named/.hidden", "named/inner/file"] {
+        fs::write(&rt, path, "1,2")?;
+    }
+    // Hosts take no name as long as this.
+    let long = "n".repeat(rt.alloc(), 300)?;
+    let cases = [
+        ("missing", Ok(Fetched::Absent)),
+        ("", Ok(Fetched::Absent)),
+        (".hidden", Ok(Fetched::Absent)),
+        ("..", Ok(Fetched::Absent)),
+        ("inner/file", Ok(Fetched::Absent)),
+        ("inner/", Ok(Fetched::Absent)),
+        ("inner", Err(IoFault::Failed)),
+        ("a\0b", Err(IoFault::Failed)),
+        (long.as_str(), Err(IoFault::Failed)),
+    ];
+    let mut shelf = FolderShelf::new(&rt, "named");
+    for (name, answer) in cases {
+        assert_eq!(rt; fetch_some(&mut shelf, name, 9), answer, "name {name}");
+    }
+    let bytes = Fetched::Bytes(b"1,2".to_vec(rt.alloc())?);
+    assert_eq!(rt;
+        FolderShelf::new(&rt, "named/inner").fetch("file", 9),
+        Ok(bytes)
+    );
+    fs::remove_dir_all(&rt, "named")?;
+    Ok(())
+}
+
+#[test]
+fn a_folder_answers_by_limit(rt: HostRuntime) -> Result<(), Fail> {
+    make_folder(&rt, "limited")?;
+    fs::write(&rt, "limited/small", "1,2\n")?;
+    fs::write(&rt, "limited/empty", "")?;
+    let cases = [
+        ("small", 9, Some("1,2\n")),
+        ("small", 4, Some("1,2\n")),
+        ("small", 3, None),
+        ("small", 0, None),
+        ("empty", 0, Some("")),
+        ("small", u32::MAX, Some("1,2\n")),
+    ];
+    let mut shelf = FolderShelf::new(&rt, "limited");
+    for (name, limit, text) in cases {
+        let answer = match text {
+            Some(text) => Fetched::Bytes(text.as_bytes().to_vec(rt.alloc())?),
+            None => Fetched::TooLong,
+        };
+        assert_eq!(rt;
+            fetch_some(&mut shelf, name, limit),
+            Ok(answer),
+            "limit {limit}"
+        );
+    }
+    fs::remove_dir_all(&rt, "limited")?;
+    Ok(())
+}
+
+#[test]
+fn a_large_file_is_fetched_whole(rt: HostRuntime) -> Result<(), Fail> {
+    make_folder(&rt, "large")?;
+    let mut text = "0123456789abcdef".repeat(rt.alloc(), LARGE as usize / 16)?;
+    fs::write(&rt, "large/whole", text.as_str())?;
+    text.push('.')?;
+    fs::write(&rt, "large/longer", text.as_str())?;
+    text.pop();
+    let bytes = Fetched::Bytes(text.into_bytes());
+    let mut shelf = FolderShelf::new(&rt, "large");
+    assert!(rt; shelf.fetch("whole", LARGE) == Ok(bytes));
+    assert_eq!(rt; shelf.fetch("longer", LARGE), Ok(Fetched::TooLong));
+    fs::remove_dir_all(&rt, "large")?;
+    Ok(())
+}
+
+// The current folder. Some users may read every file: then there is no fault to see.
+#[test]
+fn a_file_that_may_not_be_read_is_a_fault(rt: HostRuntime) -> Result<(), Fail> {
+    fs::write(&rt, "locked", "1,2")?;
+    fs::set_permissions(&rt, "locked", Permissions::from_mode(0))?;
+    let may_read = fs::read(&rt, "locked").is_ok();
+    let fetched = FolderShelf::new(&rt, ".").fetch("locked", 2);
+    fs::remove_file(&rt, "locked")?;
+    let answer = if may_read {
+        Ok(Fetched::TooLong)
+    } else {
+        Err(IoFault::Failed)
+    };
+    assert_eq!(rt; fetched, answer);
     Ok(())
 }
 

@@ -1,5 +1,5 @@
 -- What a statement is bound to may run, and the laws, each as its contract has it.
-use Rattle.std.proofs.Common.{◌≡◌, ℕ, List, length, Bool, true, false, Option, Result, Ok, refl, sym, ◌∙◌, subst}
+use Rattle.std.proofs.Common.{◌≡◌, ℕ, List, length, Bool, false, Option, Result, Ok, subst}
 use Rattle.std.specs.Prelude.{nat_le, nat_lt, not}
 use Rattle.mq_lexer.specs.Words.{folded}
 use Rattle.mq_values.specs.declared.faults.Refused.{Refused}
@@ -30,9 +30,8 @@ use Rattle.mq_binder.specs.FromWalk.{table_called}
 use Rattle.mq_binder.specs.QueryWalk.{query_bound}
 use Rattle.mq_binder.specs.StatementWalk.{delete_bound, insert_bound, statement_bound, update_bound, update_over, view_bound}
 use Rattle.mq_binder.specs.TableWalk.{columns_named, columns_of, schema_with, table_bound}
-use Rattle.mq_ready_laws.specs.BuiltForms.{built}
 use Rattle.mq_ir.specs.Ready.{QueryIsReady}
-use Rattle.mq_ready_laws.specs.ReadyLaws.{BoundQueryIsReady, BoundViewIsReady, CreatedTableIsNew, CreatedViewIsNew, LoadIsNotBuilt}
+use Rattle.mq_ready_laws.specs.ReadyLaws.{BoundQueryIsReady, BoundViewIsReady, CreatedTableIsNew, CreatedViewIsNew}
 use Rattle.mq_ready_laws.proofs.QueryLemmas.{query_ready}
 use Rattle.mq_ready_laws.proofs.StepLemmas.{ok_is, passed, went}
 
@@ -41,7 +40,6 @@ abbrev Stands : Catalog → Stmt → Bound → Type 0
 Stands catalog s (bound.CreateTable def) = is_taken catalog def.name ≡ false
 Stands catalog s (bound.CreateView name q) = (is_taken catalog name ≡ false) × QueryIsReady q
 Stands catalog s (bound.Query q) = QueryIsReady q
-Stands catalog s (bound.Load table file) = built s ≡ false
 Stands catalog s _ = Unit {0}
 
 -- ---- CREATE TABLE
@@ -111,7 +109,7 @@ statement_stands catalog (stmt.Insert name cols rows) b h = insert_stands catalo
 statement_stands catalog (stmt.Update name sets filter) b h = update_stands catalog (stmt.Update name sets filter) (folded name) sets filter b h
 statement_stands catalog (stmt.Delete name filter) b h = delete_stands catalog (stmt.Delete name filter) (folded name) filter b h
 statement_stands catalog (stmt.Load name file) b h =
-    named_stands catalog (stmt.Load name file) (not (is_table catalog (folded name))) (folded name) (bound.Load (folded name) file) b h refl
+    named_stands catalog (stmt.Load name file) (not (is_table catalog (folded name))) (folded name) (bound.Load (folded name) file) b h tt
 statement_stands catalog (stmt.Show name) b h = subst (Stands catalog (stmt.Show name)) (ok_is (bound.Show (folded name)) b h) tt
 statement_stands catalog (stmt.Query q) b h =
     let w = went (query_bound catalog q) (λ b. Ok (bound.Query b)) b h in
@@ -129,6 +127,3 @@ query_is_ready catalog s q = statement_stands catalog s (bound.Query q)
 
 pub view_is_ready : (catalog : Catalog) (s : Stmt) (name : Name) (q : BoundQuery) → BoundViewIsReady catalog s name q
 view_is_ready catalog s name q h = (statement_stands catalog s (bound.CreateView name q) h).1
-
-pub load_is_not_built : (catalog : Catalog) (s : Stmt) (table file : Name) → LoadIsNotBuilt catalog s table file
-load_is_not_built catalog s table file is_built h = let n = statement_stands catalog s (bound.Load table file) h in let c : true ≡ false = sym is_built ∙ n in absurd cc

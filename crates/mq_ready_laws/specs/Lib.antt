@@ -1,2 +1,1 @@
-pub mod BuiltForms
 pub mod ReadyLaws

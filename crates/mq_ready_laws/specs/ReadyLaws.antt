@@ -1,5 +1,5 @@
 -- What is bound is ready to run.
-use Rattle.std.specs.Prelude.{◌≡◌, true, false, Ok}
+use Rattle.std.specs.Prelude.{◌≡◌, false, Ok}
 use Rattle.mq_ast.specs.declared.statements.Stmt.{Stmt}
 use Rattle.mq_ir.specs.declared.catalog.Catalog.{Catalog}
 use Rattle.mq_ir.specs.declared.query.BoundQuery.{BoundQuery}
@@ -9,7 +9,6 @@ use Rattle.mq_ir.specs.Names.{is_taken}
 use Rattle.mq_ir.specs.Ready.{QueryIsReady}
 use Rattle.mq_bind_scopes.specs.Names.{Name}
 use Rattle.mq_binder.specs.StatementWalk.{statement_bound}
-use Rattle.mq_ready_laws.specs.BuiltForms.{built}
 
 -- A table that may be created has a name that is new to the catalog.
 abbrev pub CreatedTableIsNew : Catalog → Stmt → TableDef → Type 0
@@ -25,7 +24,3 @@ BoundQueryIsReady catalog s q = statement_bound catalog s ≡ Ok (bound.Query q)
 
 abbrev pub BoundViewIsReady : Catalog → Stmt → Name → BoundQuery → Type 0
 BoundViewIsReady catalog s name q = statement_bound catalog s ≡ Ok (bound.CreateView name q) → QueryIsReady q
-
--- A statement that the program does is bound to no LOAD.
-abbrev pub LoadIsNotBuilt : Catalog → Stmt → Name → Name → Type 0
-LoadIsNotBuilt catalog s table file = built s ≡ true → statement_bound catalog s ≡ Ok (bound.Load table file) → ⊥

@@ -3,7 +3,7 @@ ghost use Rattle.mq_ir.specs.declared.catalog.Catalog.{Catalog};
 ghost use Rattle.mq_ir.specs.declared.query.BoundQuery.{BoundQuery};
 ghost use Rattle.mq_ir.specs.declared.statement.TableDef.{TableDef};
 ghost use Rattle.mq_bind_scopes.specs.Names.{Name};
-ghost use Rattle.mq_ready_laws.specs.ReadyLaws.{BoundQueryIsReady, BoundViewIsReady, CreatedTableIsNew, CreatedViewIsNew, LoadIsNotBuilt};
+ghost use Rattle.mq_ready_laws.specs.ReadyLaws.{BoundQueryIsReady, BoundViewIsReady, CreatedTableIsNew, CreatedViewIsNew};
 
 /// A table that may be created has a name that no table and no view has.
 pub fn created_tables_are_new()
@@ -24,9 +24,4 @@ pub fn queries_are_ready()
 /// So has the model of a query that a view stands for.
 pub fn views_are_ready()
     ensures { (catalog : Catalog) (s : Stmt) (name : Name) (q : BoundQuery) → BoundViewIsReady catalog s name q }
-{}
-
-/// A statement that the program does is bound to no LOAD.
-pub fn loads_are_not_built()
-    ensures { (catalog : Catalog) (s : Stmt) (table file : Name) → LoadIsNotBuilt catalog s table file }
 {}

@@ -16,6 +16,7 @@ pub(crate) struct Table {
     breaks: usize,
     open: bool,
     bases: Vec<(String, Vec<u8>)>,
+    files: Vec<(String, Vec<u8>)>,
 }
 
 impl Table {
@@ -26,6 +27,7 @@ impl Table {
             breaks: 0,
             open: false,
             bases: Vec::new(alloc),
+            files: Vec::new(alloc),
         }
     }
 }
@@ -64,34 +66,58 @@ fn add_line(table: &mut Table, line: &str) -> Result<(), Memory> {
 pub(crate) fn ended(alloc: Global, table: &mut Table) -> Result<Vec<u8>, Memory> {
     let mut answer = Vec::new(alloc);
     if table.open {
-        add_answer(alloc, table, &mut answer)?;
+        let bytes = bytes_of(alloc, table.head.as_str(), table.text.as_str())?;
+        if ask(table.head.as_str(), "file").is_some() {
+            keep(alloc, table.head.as_str(), bytes, &mut table.files)?;
+        } else {
+            add_answer(alloc, table, bytes, &mut answer)?;
+        }
     }
     Ok(answer)
 }
 
-// The name of the row, and the lines of its script.
-fn add_answer(alloc: Global, table: &mut Table, answer: &mut Vec<u8>) -> Result<(), Memory> {
+// The name of the row, and the lines of its script, which is kept where others may begin with it.
+fn add_answer(
+    alloc: Global,
+    table: &mut Table,
+    script: Vec<u8>,
+    answer: &mut Vec<u8>,
+) -> Result<(), Memory> {
     answer.extend_from_slice(b"## ")?;
     answer.extend_from_slice(name_of(table.head.as_str()).as_bytes())?;
     answer.push(b'\n')?;
-    let script = bytes_of(alloc, table.head.as_str(), table.text.as_str())?;
     if ask(table.head.as_str(), "base").is_some() {
-        keep(alloc, table, &script)?;
+        let copy = script.clone()?;
+        keep(alloc, table.head.as_str(), copy, &mut table.bases)?;
     }
+    add_shown(alloc, table, script, answer)
+}
+
+// The lines of a script, over the base that it begins with.
+fn add_shown(
+    alloc: Global,
+    table: &Table,
+    script: Vec<u8>,
+    answer: &mut Vec<u8>,
+) -> Result<(), Memory> {
     match ask(table.head.as_str(), "over") {
         Some(name) => match base_of(&table.bases, name) {
-            Some(base) => add_over(alloc, table.head.as_str(), base, &script, answer),
+            Some(base) => add_over(alloc, table, base, &script, answer),
             None => Ok(answer.extend_from_slice(b"no such base\n")?),
         },
-        None => add_run(alloc, table.head.as_str(), script, 0, answer),
+        None => add_run(alloc, table, script, 0, answer),
     }
 }
 
-fn keep(alloc: Global, table: &mut Table, script: &[u8]) -> Result<(), Memory> {
-    let name = String::from_str(alloc, name_of(table.head.as_str()))?;
-    let mut bytes = Vec::new(alloc);
-    bytes.extend_from_slice(script)?;
-    Ok(table.bases.push((name, bytes))?)
+// Keeps bytes under the name of their row.
+fn keep(
+    alloc: Global,
+    head: &str,
+    bytes: Vec<u8>,
+    kept: &mut Vec<(String, Vec<u8>)>,
+) -> Result<(), Memory> {
+    let name = String::from_str(alloc, name_of(head))?;
+    Ok(kept.push((name, bytes))?)
 }
 
 fn base_of<'a>(bases: &'a [(String, Vec<u8>)], name: &str) -> Option<&'a [u8]> {
@@ -106,25 +132,26 @@ fn base_of<'a>(bases: &'a [(String, Vec<u8>)], name: &str) -> Option<&'a [u8]> {
 // The lines of a script over what a base leaves; those of the base are not shown.
 fn add_over(
     alloc: Global,
-    head: &str,
+    table: &Table,
     base: &[u8],
     script: &[u8],
     answer: &mut Vec<u8>,
 ) -> Result<(), Memory> {
     let before = joined(alloc, base, b"")?;
-    let hidden = lines(run_script(alloc, "", before)?.sink.taken());
+    let hidden = lines(run_script(alloc, "", before, &[])?.sink.taken());
     let whole = joined(alloc, base, script)?;
-    add_run(alloc, head, whole, hidden, answer)
+    add_run(alloc, table, whole, hidden, answer)
 }
 
 fn add_run(
     alloc: Global,
-    head: &str,
+    table: &Table,
     script: Vec<u8>,
     hidden: usize,
     answer: &mut Vec<u8>,
 ) -> Result<(), Memory> {
-    let done = run_script(alloc, head, script)?;
+    let head = table.head.as_str();
+    let done = run_script(alloc, head, script, &table.files)?;
     if ask(head, "last").is_some() {
         add_last(done.sink.taken(), hidden, answer)?;
     } else {

@@ -15,18 +15,20 @@ use mq_refs::right_value_over;
 use mq_values::{Fail, Key, Value, ValueFault};
 use std::alloc::Global;
 
-/// The cells after a rule has assigned these targets one after another, or the first fault.
+/// The cells after a rule has assigned these targets one after another, or the first fault. The first of them is looked for
+/// at the place `near` before all others.
 pub fn assign_all(
     alloc: Global,
     act: &Acting<'_>,
     targets: &[Key],
+    near: usize,
     grid: Grid,
 ) -> Result<Grid, Fail<PlacedFault>>
     ensures exact { Gives result (each_in_turn (target_done (act_in act.now)) targets.now grid) }
     ensures width { IfOk result (λ g. g.width ≡ grid.width) }
 {
     let mut grid = grid;
-    let mut near = 0;
+    let mut near = near;
     'targets: for target in targets {
         let at = likely_place(&grid, target, near);
         grid = assign_one(alloc, act, target, at, grid)?;

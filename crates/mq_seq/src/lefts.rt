@@ -1,5 +1,5 @@
 //! The single left sides of a rule, one after another.
-ghost use Rattle.std.specs.Prelude.{◌≡◌, [], ◌∷◌, length, true, IfOk};
+ghost use Rattle.std.specs.Prelude.{◌≡◌, [], ◌∷◌, length, true, is_some, IfOk};
 ghost use Rattle.std.specs.Map.{keys_of};
 ghost use Rattle.mq_values.specs.Answers.{Gives};
 ghost use Rattle.mq_ir.specs.Results.{each_in_turn};
@@ -7,6 +7,7 @@ ghost use Rattle.mq_ir.specs.Keys.{is_among};
 ghost use Rattle.mq_ir.specs.Sequential as spec;
 ghost use Rattle.mq_ir.specs.Targets.{targets as spec_targets};
 ghost use Rattle.mq_ir.specs.Ready.{HavePlaces};
+ghost use Rattle.mq_dim_index.specs.Places.{place_of as spec_place_of};
 ghost use Rattle.mq_unfold.specs.FixedLefts.{NamesKey};
 ghost use Rattle.mq_seq.specs.Steps.{act_in, left_done};
 
@@ -53,7 +54,7 @@ fn act_one(
     let grid = grid.with_created(alloc, act.model, found.created.as_slice())?;
     match left_fault(alloc, act, left, found.cells.as_slice(), &grid)? {
         Some(fault) => Err(Fail::Cause(fault)),
-        None => assign_all(alloc, act, found.cells.as_slice(), grid),
+        None => assign_all(alloc, act, found.cells.as_slice(), 0, grid),
     }
 }
 
@@ -70,32 +71,37 @@ pub fn act_fixed(
     ensures exact { Gives result (left_done (act_in act.now) fixed.now.left grid) }
     ensures width { IfOk result (λ g. g.width ≡ grid.width) }
 {
-    if !is_own_target(fixed, act.rule.mode, &grid) {
+    let Some(at) = own_place(fixed, act.rule.mode, &grid) else {
         return act_one(alloc, act, &fixed.left, grid);
-    }
+    };
     let found = std::slice::from_ref(&fixed.key);
     match left_fault(alloc, act, &fixed.left, found, &grid)? {
         Some(fault) => Err(Fail::Cause(fault)),
-        None => assign_all(alloc, act, found, grid),
+        None => assign_all(alloc, act, found, at, grid),
     }
 }
 
-// Whether the cell of this key is seen to be the only target, and to be there.
-fn is_own_target(fixed: &Fixed, mode: Mode, grid: &Grid) -> bool
+// The place of the cell of this key, where that is seen to be the only target, and to be there.
+fn own_place(fixed: &Fixed, mode: Mode, grid: &Grid) -> Option<usize>
     requires { NamesKey fixed.now.left.places fixed.now.key }
-    ensures { result ≡ true → spec_targets fixed.now.left mode (keys_of grid.now.track.cells) ≡ record { cells = fixed.now.key ∷ []; created = [] } }
+    ensures { is_some result ≡ true → spec_targets fixed.now.left mode (keys_of grid.now.track.cells) ≡ record { cells = fixed.now.key ∷ []; created = [] } }
 {
     match mode {
-        Mode::Update => false,
-        Mode::Upsert => is_there(grid, &fixed.key),
-        Mode::UpsertAll => is_there(grid, &fixed.key),
+        Mode::Update => None,
+        Mode::Upsert => place_of(grid, &fixed.key),
+        Mode::UpsertAll => place_of(grid, &fixed.key),
     }
 }
 
-fn is_there(grid: &Grid, key: &Key) -> bool
-    ensures { result ≡ is_among (keys_of grid.now.track.cells) key.now }
+// The place at which the cell of a key stands, where it is there.
+fn place_of(grid: &Grid, key: &Key) -> Option<usize>
+    ensures place { result ≡ spec_place_of (keys_of grid.now.track.cells) key.now }
+    ensures there { is_some result ≡ is_among (keys_of grid.now.track.cells) key.now }
 {
-    grid.index().stored(key.as_slice()).is_some()
+    match grid.index().find(key.as_slice()) {
+        Some(at) => Some(at as usize),
+        None => None,
+    }
 }
 
 // Why a single left side may not act on these targets, over the cells with those that it creates.

@@ -1,5 +1,5 @@
 -- What the parser gives is what the tokens are read as.
-use Rattle.std.proofs.Common.{◌≡◌, List, [], ◌∷◌, true, false, map, Result, Ok, Err, refl, ap, ◌∙◌, subst}
+use Rattle.std.proofs.Common.{◌≡◌, List, [], ◌∷◌, map, Result, Ok, Err, refl, ap, subst}
 use Rattle.mq_values.specs.declared.faults.Refused.{Refused}
 use Rattle.mq_values.specs.declared.faults.Refused.TheVariants as refused
 use Rattle.mq_values.specs.declared.memory.Fail.{Fail}
@@ -7,11 +7,9 @@ use Rattle.mq_values.specs.declared.memory.Fail.TheVariants as fail
 use Rattle.mq_lexer.specs.declared.sorts.Token.{Token}
 use Rattle.mq_lexer.specs.Lexemes.{lexeme}
 use Rattle.mq_ast.specs.declared.statements.Stmt.{Stmt}
-use Rattle.mq_ast.specs.Laws.OneStatementLemmas.{stmt_same}
 use Rattle.mq_ast.specs.Prelude.{Tok, tok_of, toks}
 use Rattle.mq_parse_words.specs.Reading.{from}
 use Rattle.mq_parse_stmt.specs.Parsing.{Parses}
-use Rattle.mq_ready_laws.specs.BuiltForms.{built}
 use Rattle.mq_tool.specs.Script.{Deep, NoTree, seen}
 use Rattle.mq_tool.specs.Steps.{Finds}
 
@@ -22,20 +20,14 @@ seen_tokens (t ∷ ts) = ap (λ k. tok_of t ∷ k) (seen_tokens ts)
 as_seen : (ts : List Token) (r : Result Stmt (Fail Refused)) → Parses (from ts 0) r → Parses (seen (map lexeme ts)) r
 as_seen ts r h = subst (λ (k : List Tok). Parses k r) (seen_tokens ts) h
 
-pub found : (ts : List Token) (s : Stmt) → Parses (from ts 0) (Ok s) → built s ≡ true → Finds (map lexeme ts) (Ok s)
-found ts s h is = let p = as_seen ts (Ok s) h in (p.0, p.1, is)
-
--- a statement that the program does not do
-pub not_built : (ts : List Token) (s : Stmt) → Parses (from ts 0) (Ok s) → built s ≡ false → Finds (map lexeme ts) (Err (fail.Cause refused.Syntax))
-not_built ts s h is =
-    let p = as_seen ts (Ok s) h in
-    (NoTree, (p.0, λ t d. ap built (stmt_same t s (seen (map lexeme ts)) d p.1) ∙ is), refl)
+pub found : (ts : List Token) (s : Stmt) → Parses (from ts 0) (Ok s) → Finds (map lexeme ts) (Ok s)
+found ts s h = as_seen ts (Ok s) h
 
 module _ (ts : List Token) where
   refuses : (e : Fail Refused) → Parses (seen (map lexeme ts)) (Err e) → Finds (map lexeme ts) (Err e)
   refuses fail.Memory p = tt
   refuses (fail.Cause refused.TooDeep) p = (Deep, p, refl)
-  refuses (fail.Cause refused.Syntax) p = (NoTree, (p.0, λ t d. absurd (p.1 t d)), refl)
+  refuses (fail.Cause refused.Syntax) p = (NoTree, p, refl)
   refuses (fail.Cause (refused.UnknownName n)) p = absurd p
   refuses (fail.Cause (refused.DuplicateName n)) p = absurd p
   refuses (fail.Cause refused.KindMismatch) p = absurd p

@@ -1,6 +1,9 @@
 pub mod CatalogLemmas
+pub mod CommandLemmas
 pub mod FindLemmas
 pub mod LineLemmas
+pub mod LoadLemmas
 pub mod ReadLemmas
 pub mod RunLemmas
 pub mod StepLemmas
+pub mod SummaryLemmas

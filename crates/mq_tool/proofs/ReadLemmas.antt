@@ -1,15 +1,11 @@
 -- Tokens are read in one way only.
-use Rattle.std.proofs.Common.{◌≡◌, ℕ, List, [], ◌∷◌, true, false, refl, sym, ap, ◌∙◌}
+use Rattle.std.proofs.Common.{◌≡◌, ℕ, List, [], ◌∷◌, refl, sym, ap, ◌∙◌}
 use Rattle.mq_lexer.specs.Lexemes.{Lexeme}
 use Rattle.mq_lexer.specs.Statements.{Statement}
 use Rattle.mq_ast.specs.Laws.OneStatementLemmas.{stmt_same}
 use Rattle.mq_ir.specs.Lines.{Line}
-use Rattle.mq_ir.specs.Statement.{Files}
 use Rattle.mq_engine.specs.Sessions.{nothing}
-use Rattle.mq_tool.specs.Script.{AreReadAs, ArePrinted, Deep, IsReadAs, NoTree, Read, Tree, lines_from, seen}
-
-clash : {P : Type 0} → true ≡ false → P
-clash h = absurd cc
+use Rattle.mq_tool.specs.Script.{AreReadAs, ArePrinted, Deep, FileMap, IsReadAs, NoTree, Read, Tree, lines_from, seen}
 
 pub one_read : (tokens : List Lexeme) (a b : Read) → IsReadAs tokens a → IsReadAs tokens b → a ≡ b
 one_read tokens Deep Deep p q = refl
@@ -17,9 +13,9 @@ one_read tokens Deep NoTree p q = absurd (q.0 p)
 one_read tokens Deep (Tree s) p q = absurd (q.0 p)
 one_read tokens NoTree Deep p q = absurd (p.0 q)
 one_read tokens NoTree NoTree p q = refl
-one_read tokens NoTree (Tree s) p q = clash (sym q.2 ∙ p.1 s q.1)
+one_read tokens NoTree (Tree s) p q = absurd (p.1 s q.1)
 one_read tokens (Tree s) Deep p q = absurd (p.0 q)
-one_read tokens (Tree s) NoTree p q = clash (sym p.2 ∙ q.1 s p.1)
+one_read tokens (Tree s) NoTree p q = absurd (q.1 s p.1)
 one_read tokens (Tree s) (Tree t) p q = ap Tree (stmt_same s t (seen tokens) p.1 q.1)
 
 -- a line and what is read there
@@ -38,5 +34,5 @@ one_list (s ∷ ss) (x ∷ xs) (y ∷ ys) p q =
     λ i. first i ∷ others i
 
 -- statements have one list of lines
-pub one_printed : (files : Files) (ss : List Statement) (a b : List Line) → ArePrinted files ss a → ArePrinted files ss b → a ≡ b
+pub one_printed : (files : FileMap) (ss : List Statement) (a b : List Line) → ArePrinted files ss a → ArePrinted files ss b → a ≡ b
 one_printed files ss a b p q = p.printed ∙ ap (lines_from files nothing) (one_list ss p.reads q.reads p.are_read q.are_read) ∙ sym q.printed

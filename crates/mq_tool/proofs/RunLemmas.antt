@@ -12,11 +12,11 @@ use Rattle.mq_io.specs.ProgressLemmas.{AppendsFront-after, AppendsFront-of_part}
 use Rattle.mq_lexer.specs.declared.script.Statement as code
 use Rattle.mq_lexer.specs.Statements.{Statement, statement}
 use Rattle.mq_ir.specs.Lines.{Line, is_flaw, line_text, text_of}
-use Rattle.mq_ir.specs.Statement.{Files, State}
+use Rattle.mq_ir.specs.Statement.{State}
 use Rattle.mq_engine.specs.Sessions.{nothing}
-use Rattle.mq_tool.specs.Script.{AreReadAs, ArePrinted, IsReadAs, Read, lines_from, statement_step, status_of}
+use Rattle.mq_tool.specs.Script.{AreReadAs, ArePrinted, FileMap, IsLoad, IsReadAs, Read, StoppedAtLoad, lines_from, state_from, statement_step, status_of}
 use Rattle.mq_tool.specs.declared.statuses.TheConstants.{DONE, FLAWED}
-use Rattle.mq_tool.specs.Steps.{CutShort, Writes, WritesAll, WritesFront}
+use Rattle.mq_tool.specs.Steps.{CutShort, IsLoadAt, Writes, WritesAll, WritesFront}
 use Rattle.mq_tool.proofs.ReadLemmas.{at_line}
 
 -- a source that is not touched gave nothing
@@ -30,8 +30,25 @@ told_whole P None new bytes c e p = tt
 told_whole P (Some xs) None bytes c e p = absurd c
 told_whole P (Some xs) (Some ys) bytes c e p = subst P (sym (c ∙ ap (λ t. bytes ++ t) e ∙ append-nil bytes)) p
 
+-- what holds of the files that are told
+pub if_told : (P : FileMap → Type 0) (told : Option FileMap) → ((files : FileMap) → told ≡ Some files → P files) → IfSome told P
+if_told P None h = tt
+if_told P (Some files) h = h files refl
+
 text_of-append : (xs ys : List Line) → text_of (xs ++ ys) ≡ text_of xs ++ text_of ys
 text_of-append xs ys = flat_map-append line_text xs ys
+
+-- the state after two lists of statements
+state_from-append : (files : FileMap) (state : State) (xs ys : List (ℕ × Read)) → state_from files state (xs ++ ys) ≡ state_from files (state_from files state xs) ys
+state_from-append files state [] ys = refl
+state_from-append files state (x ∷ xs) ys = state_from-append files (statement_step files state x).0 xs ys
+
+-- how two lists of statements are read
+reads-append : (xs ys : List Statement) (rs ts : List (ℕ × Read)) → AreReadAs xs rs → AreReadAs ys ts → AreReadAs (xs ++ ys) (rs ++ ts)
+reads-append [] ys [] ts p q = q
+reads-append [] ys (r ∷ rs) ts p q = absurd p
+reads-append (x ∷ xs) ys [] ts p q = absurd p
+reads-append (x ∷ xs) ys (r ∷ rs) ts p q = (p.0, p.1, reads-append xs ys rs ts p.2 q)
 
 -- how all statements are read where the rest is: those that are done first
 pub record Behind (reads : List (ℕ × Read)) (all rest : List Statement) : Type 0 where
@@ -39,17 +56,25 @@ pub record Behind (reads : List (ℕ × Read)) (all rest : List Statement) : Typ
   pub parted : (rs : List (ℕ × Read)) → AreReadAs all rs → (others : List (ℕ × Read)) × (rs ≡ reads ++ others) × AreReadAs rest others
 
 -- what was done of all statements, once the rest is left: with the lines of the rest it makes the lines of all
-pub record RunSoFar (files : Files) (before now : Option (List ℕ)) (state : State) (flaw : Bool) (all rest : List Statement) : Type 0 where
+pub record RunSoFar (files : FileMap) (before now : Option (List ℕ)) (state : State) (flaw : Bool) (all rest : List Statement) : Type 0 where
+  pub ran : List Statement
+  pub parts : all ≡ ran ++ rest
   pub reads : List (ℕ × Read)
+  pub are_read : AreReadAs ran reads
+  pub stands : state_from files nothing reads ≡ state
   pub behind : Behind reads all rest
   pub done : List Line
   pub lines : (rs : List (ℕ × Read)) → lines_from files nothing (reads ++ rs) ≡ done ++ lines_from files state rs
   pub written : Appends before now (text_of done)
   pub flawed : flaw ≡ list_any is_flaw done
 
-pub run_starts : (files : Files) (before : Option (List ℕ)) (all : List Statement) → RunSoFar files before before nothing false all all
+pub run_starts : (files : FileMap) (before : Option (List ℕ)) (all : List Statement) → RunSoFar files before before nothing false all all
 run_starts files before all = record {
+  ran = [];
+  parts = refl;
   reads = [];
+  are_read = tt;
+  stands = refl;
   behind = record { joined = λ rs p. p; parted = λ rs p. (rs, refl, p) };
   done = [];
   lines = λ rs. refl;
@@ -72,14 +97,19 @@ next_behind reads all rest s read is so = record {
         let first : x ≡ (s.line, read) = at_line s.tokens s.line x (s.line, read) p.0 refl p.1 is in
         (xs, e ∙ ap (λ y. reads ++ y ∷ xs) first ∙ sym (append_assoc reads ((s.line, read) ∷ []) xs), p.2)
 
-pub run_goes_on : (files : Files) (before now next : Option (List ℕ)) (state state' : State) (flaw found : Bool) (all rest : List Statement) (s : Statement)
-    → RunSoFar files before now state flaw all (s ∷ rest) → Writes s state state' now next found → RunSoFar files before next state' (flaw || found) all rest
-run_goes_on files before now next state state' flaw found all rest s so w =
+pub run_goes_on : (files : FileMap) (before now next : Option (List ℕ)) (state state' : State) (flaw found : Bool) (all rest : List Statement) (s : Statement) (told : Option FileMap)
+    → told ≡ Some files → RunSoFar files before now state flaw all (s ∷ rest) → Writes s told state state' now next found
+    → RunSoFar files before next state' (flaw || found) all rest
+run_goes_on files before now next state state' flaw found all rest s told is so w =
     let r : ℕ × Read = (s.line, w.0) in
     let meant = statement_step files state r in
-    let here = w.2 files in
+    let here = w.2 files is in
     record {
+      ran = so.ran ++ s ∷ [];
+      parts = so.parts ∙ sym (append_assoc so.ran (s ∷ []) rest);
       reads = so.reads ++ r ∷ [];
+      are_read = reads-append so.ran (s ∷ []) so.reads (r ∷ []) so.are_read (refl, w.1, tt);
+      stands = state_from-append files nothing so.reads (r ∷ []) ∙ ap (λ (st : State). (statement_step files st r).0) so.stands ∙ sym here.0;
       behind = next_behind so.reads all rest s w.0 w.1 so.behind;
       done = so.done ++ meant.1;
       lines = λ rs.
@@ -90,9 +120,10 @@ run_goes_on files before now next state state' flaw found all rest s so w =
       flawed = ap (λ q. q || found) so.flawed ∙ ap (λ q. list_any is_flaw so.done || q) here.2 ∙ sym (list_any-append is_flaw so.done meant.1);
     }
 
-pub run_cut : (files : Files) (before now next : Option (List ℕ)) (state : State) (flaw : Bool) (all rest : List Statement) (s : Statement)
-    → RunSoFar files before now state flaw all (s ∷ rest) → CutShort s state now next → WritesFront files all before next
-run_cut files before now next state flaw all rest s so cut lines printed =
+pub run_cut : (files : FileMap) (before now next : Option (List ℕ)) (state : State) (flaw : Bool) (all rest : List Statement) (s : Statement)
+    (told : Option FileMap) → told ≡ Some files → RunSoFar files before now state flaw all (s ∷ rest) → CutShort s told state now next
+    → WritesFront files all before next
+run_cut files before now next state flaw all rest s told is so cut lines printed =
     let h = so.behind.parted printed.reads printed.are_read in
     by h.0 h.2 (printed.printed ∙ ap (lines_from files nothing) h.1 ∙ so.lines h.0)
   where
@@ -109,9 +140,28 @@ run_cut files before now next state flaw all rest s so cut lines printed =
         ap (λ t. text_of so.done ++ t) (sym (text_of-append meant.1 others)) ∙ sym (text_of-append so.done (meant.1 ++ others))
         ∙ ap text_of (sym all_lines) in
         subst (AppendsFront before next) text
-        (AppendsFront-after before now next _ _ so.written (AppendsFront-of_part now next (text_of meant.1) (text_of others) (cut files x.1 p.1)))
+        (AppendsFront-after before now next _ _ so.written (AppendsFront-of_part now next (text_of meant.1) (text_of others) (cut files x.1 is p.1)))
 
-pub run_ends : (files : Files) (before now : Option (List ℕ)) (state : State) (flaw : Bool) (all : List Statement)
+-- a run that stops at a LOAD
+pub run_stops : (files : FileMap) (before now : Option (List ℕ)) (state : State) (flaw : Bool) (all rest : List Statement) (s : Statement)
+    → RunSoFar files before now state flaw all (s ∷ rest) → IsLoadAt s state → StoppedAtLoad files all before now
+run_stops files before now state flaw all rest s so load =
+    let lines : so.done ≡ lines_from files nothing so.reads =
+    sym (append-nil so.done) ∙ sym (so.lines []) ∙ ap (lines_from files nothing) (append-nil so.reads) in
+    record {
+      done = so.ran;
+      load = s;
+      others = rest;
+      all = so.parts;
+      reads = so.reads;
+      are_read = so.are_read;
+      written = subst (λ (ls : List Line). Appends before now (text_of ls)) lines so.written;
+      read = load.0;
+      is_read = load.1;
+      is_load = subst (λ (st : State). IsLoad st load.0) (sym so.stands) load.2;
+    }
+
+pub run_ends : (files : FileMap) (before now : Option (List ℕ)) (state : State) (flaw : Bool) (all : List Statement)
     → RunSoFar files before now state flaw all [] → WritesAll files all before now flaw
 run_ends files before now state flaw all so =
     let printed : ArePrinted files all so.done = record {
@@ -133,23 +183,28 @@ no_more [] i h = drop_all i [] h
 no_more (x ∷ xs) zero h = absurd (omega arith)
 no_more (x ∷ xs) (suc i) h = no_more xs i (omega arith)
 
-pub run_ends_at : (files : Files) (before now : Option (List ℕ)) (state : State) (flaw : Bool) (xs : List code.Statement) (i : ℕ) → length xs ≤ i
+pub run_ends_at : (files : FileMap) (before now : Option (List ℕ)) (state : State) (flaw : Bool) (xs : List code.Statement) (i : ℕ) → length xs ≤ i
     → RunSoFar files before now state flaw (map statement xs) (drop i (map statement xs)) → WritesAll files (map statement xs) before now flaw
 run_ends_at files before now state flaw xs i h so =
     run_ends files before now state flaw (map statement xs) (subst (RunSoFar files before now state flaw (map statement xs)) (no_more xs i h) so)
 
 -- the status of a run that wrote all, by whether a line was a flaw
-pub status_by : (files : Files) (ss : List Statement) (before after : Option (List ℕ)) (flaw : Bool) → WritesAll files ss before after flaw
+pub status_by : (files : FileMap) (ss : List Statement) (before after : Option (List ℕ)) (flaw : Bool) → WritesAll files ss before after flaw
     → (lines : List Line) × ArePrinted files ss lines × Appends before after (text_of lines) × ((if flaw then FLAWED else DONE) ≡ status_of lines)
 status_by files ss before after flaw w = (w.0, w.1, w.2, ap (λ b. if b then FLAWED else DONE) w.3)
 
-module _ (files : Files) (before now next : Option (List ℕ)) (state state' : State) (flaw found : Bool) (xs : List code.Statement) (i : ℕ) (d : code.Statement) (less : i < length xs)
+module _ (files : FileMap) (told : Option FileMap) (is : told ≡ Some files) (before now next : Option (List ℕ)) (state state' : State) (flaw found : Bool)
+    (xs : List code.Statement) (i : ℕ) (d : code.Statement) (less : i < length xs)
     (so : RunSoFar files before now state flaw (map statement xs) (drop i (map statement xs))) where
   here : RunSoFar files before now state flaw (map statement xs) (statement (get_or xs i d) ∷ drop (i + 1) (map statement xs))
   here = subst (RunSoFar files before now state flaw (map statement xs)) (drop_statement xs i d less) so
 
-  pub run_goes_on_at : Writes (statement (get_or xs i d)) state state' now next found → RunSoFar files before next state' (flaw || found) (map statement xs) (drop (i + 1) (map statement xs))
-  run_goes_on_at = run_goes_on files before now next state state' flaw found (map statement xs) (drop (i + 1) (map statement xs)) (statement (get_or xs i d)) here
+  pub run_goes_on_at : Writes (statement (get_or xs i d)) told state state' now next found
+      → RunSoFar files before next state' (flaw || found) (map statement xs) (drop (i + 1) (map statement xs))
+  run_goes_on_at = run_goes_on files before now next state state' flaw found (map statement xs) (drop (i + 1) (map statement xs)) (statement (get_or xs i d)) told is here
 
-  pub run_cut_at : CutShort (statement (get_or xs i d)) state now next → WritesFront files (map statement xs) before next
-  run_cut_at = run_cut files before now next state flaw (map statement xs) (drop (i + 1) (map statement xs)) (statement (get_or xs i d)) here
+  pub run_cut_at : CutShort (statement (get_or xs i d)) told state now next → WritesFront files (map statement xs) before next
+  run_cut_at = run_cut files before now next state flaw (map statement xs) (drop (i + 1) (map statement xs)) (statement (get_or xs i d)) told is here
+
+  pub run_stops_at : IsLoadAt (statement (get_or xs i d)) state → StoppedAtLoad files (map statement xs) before now
+  run_stops_at = run_stops files before now state flaw (map statement xs) (drop (i + 1) (map statement xs)) (statement (get_or xs i d)) here

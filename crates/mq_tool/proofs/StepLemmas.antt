@@ -1,5 +1,5 @@
 -- One statement: what it is bound to, and what is done of it.
-use Rattle.std.proofs.Common.{◌≡◌, ℕ, List, [], ◌∷◌, ◌++◌, Bool, true, Option, Some, None, Result, Ok, Err, refl, sym, ap, ◌∙◌, subst, append-nil}
+use Rattle.std.proofs.Common.{◌≡◌, ℕ, List, [], ◌∷◌, ◌++◌, Bool, true, Option, Some, None, Result, Ok, Err, IsErrOf, refl, sym, ap, ◌∙◌, subst, append-nil}
 use Rattle.std.specs.List.{find, list_any}
 use Rattle.std.specs.Option.{ok_or, option_map_or}
 use Rattle.std.specs.Io.KnownBytes.{Appends}
@@ -20,35 +20,35 @@ use Rattle.mq_ir.specs.declared.statement.TableDef.{TableDef}
 use Rattle.mq_ir.specs.Answer.{answer_of}
 use Rattle.mq_ir.specs.Lines.{Line, RefusalLine, is_flaw, line_text, text_of}
 use Rattle.mq_ir.specs.Results.{◌>>=◌}
-use Rattle.mq_ir.specs.Statement.{Files, Printed, State, View, answer_lines, show_step, taken}
+use Rattle.mq_ir.specs.Statement.{Printed, State, View, answer_lines, show_step, taken}
 use Rattle.mq_ir.specs.Tables.{is_name}
 use Rattle.mq_binder.specs.StatementWalk.{statement_bound}
 use Rattle.mq_engine.specs.declared.views.NoView.{NoView}
 use Rattle.mq_engine.specs.Catalogs.{catalog_of}
 use Rattle.mq_engine.specs.Sessions.{view_answer}
-use Rattle.mq_ready_laws.specs.BuiltForms.{built}
-use Rattle.mq_ready_laws.specs.ReadyLaws.{BoundQueryIsReady, BoundViewIsReady, CreatedTableIsNew, CreatedViewIsNew, LoadIsNotBuilt}
-use Rattle.mq_tool.specs.Script.{IsReadAs, Read, Tree, meaning, or_refusal, statement_step}
-use Rattle.mq_tool.specs.Steps.{CanRun, CutShort, Does, Steps, Takes, Tries, Writes}
+use Rattle.mq_ready_laws.specs.ReadyLaws.{BoundQueryIsReady, BoundViewIsReady, CreatedTableIsNew, CreatedViewIsNew}
+use Rattle.mq_tool.specs.declared.stops.Stop.{Stop}
+use Rattle.mq_tool.specs.declared.stops.Stop.TheVariants as stop
+use Rattle.mq_tool.specs.Script.{FileMap, IsReadAs, Read, Tree, meaning, or_refusal, seen_files, statement_step}
+use Rattle.mq_tool.specs.Steps.{CanRun, CutShort, Does, Ends, Finds, IsLoadBound, Steps, Takes, Tries, Writes, stop_of}
 use Rattle.mq_tool.proofs.CatalogLemmas.{no_view, not_there}
 use Rattle.mq_tool.proofs.ReadLemmas.{one_read}
 
--- what a built statement is bound to can be done
-pub can_run : (state : State) (s : Stmt) (b : Bound) → built s ≡ true → statement_bound (catalog_of state) s ≡ Ok b
+-- what a statement is bound to can be done
+pub can_run : (state : State) (s : Stmt) (b : Bound) → statement_bound (catalog_of state) s ≡ Ok b
     → ((def : TableDef) → CreatedTableIsNew (catalog_of state) s def)
     → ((name : List ℕ) (q : BoundQuery) → CreatedViewIsNew (catalog_of state) s name q)
     → ((q : BoundQuery) → BoundQueryIsReady (catalog_of state) s q)
     → ((name : List ℕ) (q : BoundQuery) → BoundViewIsReady (catalog_of state) s name q)
-    → ((table file : List ℕ) → LoadIsNotBuilt (catalog_of state) s table file)
     → CanRun state b
-can_run state s (bound.CreateTable def) is e tables named queries views loads = not_there state def.name (tables def e)
-can_run state s (bound.DropTable name) is e tables named queries views loads = tt
-can_run state s (bound.CreateView name q) is e tables named queries views loads = (no_view (catalog_of state) name (named name q e), views name q e)
-can_run state s (bound.DropView name) is e tables named queries views loads = tt
-can_run state s (bound.Change change) is e tables named queries views loads = tt
-can_run state s (bound.Load table file) is e tables named queries views loads = loads table file is e
-can_run state s (bound.Show name) is e tables named queries views loads = tt
-can_run state s (bound.Query q) is e tables named queries views loads = queries q e
+can_run state s (bound.CreateTable def) e tables named queries views = not_there state def.name (tables def e)
+can_run state s (bound.DropTable name) e tables named queries views = tt
+can_run state s (bound.CreateView name q) e tables named queries views = (no_view (catalog_of state) name (named name q e), views name q e)
+can_run state s (bound.DropView name) e tables named queries views = tt
+can_run state s (bound.Change change) e tables named queries views = tt
+can_run state s (bound.Load table file) e tables named queries views = tt
+can_run state s (bound.Show name) e tables named queries views = tt
+can_run state s (bound.Query q) e tables named queries views = queries q e
 
 -- the answer of a view that is there or not, and what SHOW prints of it
 abbrev answered : State → Option View → List ℕ → Result Answer NoView
@@ -85,52 +85,82 @@ pub answer_taken : (meant : Result Printed Refused) (old new : State) (a : Answe
 answer_taken meant old new a flaw before after e n t f = ((old, answer_lines a), e, (n, t, f))
 
 -- a statement that was bound is taken as its tokens mean it
-meant_by : (files : Files) (state : State) (s : Stmt) (b : Bound) → statement_bound (catalog_of state) s ≡ Ok b → meaning files state (Tree s) ≡ taken files state b
-meant_by files state s b e = ap (λ (r : Result Bound Refused). r >>= taken files state) e
+meant_by : (files : FileMap) (state : State) (s : Stmt) (b : Bound) → statement_bound (catalog_of state) s ≡ Ok b
+    → meaning files state (Tree s) ≡ taken (seen_files files) state b
+meant_by files state s b e = ap (λ (r : Result Bound Refused). r >>= taken (seen_files files) state) e
 
-pub tried : (tokens : List Lexeme) (old new : State) (before after : List ℕ) (s : Stmt) (b : Bound) (result : Result Bool (Fail Refused)) → IsReadAs tokens (Tree s)
-    → statement_bound (catalog_of old) s ≡ Ok b → ((files : Files) → Takes (taken files old b) old new before after result) → Tries tokens old new before after result
-tried tokens old new before after s b (Ok flaw) is e h =
-    (Tree s, is, λ files. subst (λ (m : Result Printed Refused). Takes m old new before after (Ok flaw)) (sym (meant_by files old s b e)) (h files))
-tried tokens old new before after s b (Err fail.Memory) is e h = tt
-tried tokens old new before after s b (Err (fail.Cause r)) is e h =
-    (Tree s, is, λ files. subst (λ (m : Result Printed Refused). Takes m old new before after (Err (fail.Cause r))) (sym (meant_by files old s b e)) (h files))
+-- what stops for a refusal or for want of memory
+pub stops : (meant : Result Printed Refused) (old new : State) (before after : List ℕ) (e : Fail Refused) → Takes meant old new before after (Err e)
+    → Ends meant old new before after (Err (stop_of e))
+stops meant old new before after (fail.Cause r) h = h
+stops meant old new before after fail.Memory h = tt
 
-pub not_bound : (tokens : List Lexeme) (old : State) (before : List ℕ) (s : Stmt) (e : Fail Refused) → IsReadAs tokens (Tree s)
-    → Gives (Err e) (statement_bound (catalog_of old) s) → Tries tokens old old before before (Err e)
-not_bound tokens old before s fail.Memory is h = tt
-not_bound tokens old before s (fail.Cause r) is h =
-    (Tree s, is, λ files. (ap (λ (m : Result Bound Refused). m >>= taken files old) h, refl, refl))
+-- which is not that a file was not fetched
+abbrev stopped_by : Fail Refused → Result Bool Stop
+stopped_by e = Err (stop_of e)
+
+pub stopped_otherwise : {P : Type 0} (e : Fail Refused) → IsErrOf (stopped_by e) stop.NotFetched → P
+stopped_otherwise (fail.Cause r) h = absurd cc
+stopped_otherwise fail.Memory h = absurd cc
+
+pub tried : (tokens : List Lexeme) (told : Option FileMap) (old new : State) (before after : List ℕ) (s : Stmt) (b : Bound) (result : Result Bool Stop) → IsReadAs tokens (Tree s)
+    → statement_bound (catalog_of old) s ≡ Ok b
+    → ((files : FileMap) → told ≡ Some files → Ends (taken (seen_files files) old b) old new before after result)
+    → (IsErrOf result stop.NotFetched → IsLoadBound b) → (IsErrOf result stop.NotFetched → (new ≡ old) × (after ≡ before))
+    → Tries tokens told old new before after result
+tried tokens told old new before after s b (Ok flaw) is e h load same =
+    (Tree s, is, λ files t. subst (λ (m : Result Printed Refused). Ends m old new before after (Ok flaw)) (sym (meant_by files old s b e)) (h files t))
+tried tokens told old new before after s b (Err stop.Memory) is e h load same = tt
+tried tokens told old new before after s b (Err stop.NotFetched) is e h load same =
+    let l = load refl in
+    let kept = same refl in
+    (Tree s, is, (l.0, l.1, e ∙ ap Ok l.2), kept.0, kept.1)
+tried tokens told old new before after s b (Err (stop.Refused r)) is e h load same =
+    (Tree s, is, λ files t. subst (λ (m : Result Printed Refused). Ends m old new before after (Err (stop.Refused r))) (sym (meant_by files old s b e)) (h files t))
+
+pub not_bound : (tokens : List Lexeme) (told : Option FileMap) (old : State) (before : List ℕ) (s : Stmt) (e : Fail Refused) → IsReadAs tokens (Tree s)
+    → Gives (Err e) (statement_bound (catalog_of old) s) → Tries tokens told old old before before (Err (stop_of e))
+not_bound tokens told old before s fail.Memory is h = tt
+not_bound tokens told old before s (fail.Cause r) is h =
+    (Tree s, is, λ files t. (ap (λ (m : Result Bound Refused). m >>= taken (seen_files files) old) h, refl, refl))
+
+-- a statement that is not read
+pub not_read : (tokens : List Lexeme) (told : Option FileMap) (old : State) (before : List ℕ) (e : Fail Refused) → Finds tokens (Err e)
+    → Tries tokens told old old before before (Err (stop_of e))
+not_read tokens told old before fail.Memory h = tt
+not_read tokens told old before (fail.Cause r) h =
+    (h.0, h.1, λ files t. (ap (λ (m : Result Stmt Refused). m >>= (λ s. statement_bound (catalog_of old) s >>= taken (seen_files files) old)) h.2, refl, refl))
 
 -- a statement that was tried was done, or its refusal is its line
-pub does : (s : Statement) (old new : State) (before after : List ℕ) (flaw : Bool) → Tries s.tokens old new before after (Ok flaw) → Does s old new before after flaw
-does s old new before after flaw h = (
+pub does : (s : Statement) (told : Option FileMap) (old new : State) (before after : List ℕ) (flaw : Bool) → Tries s.tokens told old new before after (Ok flaw)
+    → Does s told old new before after flaw
+does s told old new before after flaw h = (
   h.0,
   h.1,
-  λ files.
-      let t = h.2 files in
+  λ files is.
+      let t = h.2 files is in
       subst (λ (m : Printed). Steps m new before after flaw) (sym (ap (or_refusal old s.line) t.1)) t.2,
 )
 
-pub does_refuse : (s : Statement) (old new : State) (before mid after : List ℕ) (r : Refused) → Tries s.tokens old new before mid (Err (fail.Cause r))
-    → after ≡ mid ++ line_text (RefusalLine s.line r) → Does s old new before after true
-does_refuse s old new before mid after r h a = (
+pub does_refuse : (s : Statement) (told : Option FileMap) (old new : State) (before mid after : List ℕ) (r : Refused)
+    → Tries s.tokens told old new before mid (Err (stop.Refused r)) → after ≡ mid ++ line_text (RefusalLine s.line r) → Does s told old new before after true
+does_refuse s told old new before mid after r h a = (
   h.0,
   h.1,
-  λ files.
-      let t = h.2 files in
+  λ files is.
+      let t = h.2 files is in
       let line = RefusalLine s.line r in
       let text : after ≡ before ++ text_of (line ∷ []) = one_line before after line (a ∙ ap (λ m. m ++ line_text line) t.2) in
       subst (λ (m : Printed). Steps m new before after true) (sym (ap (or_refusal old s.line) t.0)) (t.1, text, refl),
 )
 
 -- its lines are written, whole or a front of them, or nothing is written
-pub writes : (s : Statement) (old new : State) (before after : Option (List ℕ)) (text : List ℕ) (flaw : Bool) → Does s old new [] text flaw → Appends before after text
-    → Writes s old new before after flaw
-writes s old new before after text flaw d a = (d.0, d.1, λ files. let t = d.2 files in (t.0, subst (Appends before after) t.1 a, t.2))
+pub writes : (s : Statement) (told : Option FileMap) (old new : State) (before after : Option (List ℕ)) (text : List ℕ) (flaw : Bool)
+    → Does s told old new [] text flaw → Appends before after text → Writes s told old new before after flaw
+writes s told old new before after text flaw d a = (d.0, d.1, λ files is. let t = d.2 files is in (t.0, subst (Appends before after) t.1 a, t.2))
 
-pub cut_at : (s : Statement) (old new : State) (before after : Option (List ℕ)) (text : List ℕ) (flaw : Bool) → Does s old new [] text flaw → AppendsFront before after text
-    → CutShort s old before after
-cut_at s old new before after text flaw d a files read is =
+pub cut_at : (s : Statement) (told : Option FileMap) (old new : State) (before after : Option (List ℕ)) (text : List ℕ) (flaw : Bool)
+    → Does s told old new [] text flaw → AppendsFront before after text → CutShort s told old before after
+cut_at s told old new before after text flaw d a files read t is =
     let same : read ≡ d.0 = one_read s.tokens read d.0 is d.1 in
-    subst (AppendsFront before after) ((d.2 files).1 ∙ ap (λ (r : Read). text_of (statement_step files old (s.line, r)).1) (sym same)) a
+    subst (AppendsFront before after) ((d.2 files t).1 ∙ ap (λ (r : Read). text_of (statement_step files old (s.line, r)).1) (sym same)) a

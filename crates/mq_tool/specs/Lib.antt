@@ -1,2 +1,5 @@
+pub mod Commands
+pub mod Loads
 pub mod Script
 pub mod Steps
+pub mod Summary

@@ -3,11 +3,10 @@
 ghost use Rattle.std.specs.Prelude.{◌≡◌, ℕ, List};
 ghost use Rattle.mq_lexer.specs.Lexemes.{Lexeme};
 ghost use Rattle.mq_ir.specs.Lines.{Line};
-ghost use Rattle.mq_ir.specs.Statement.{Files};
-ghost use Rattle.mq_tool.specs.Script.{IsOutput, IsReadAs, Read};
+ghost use Rattle.mq_tool.specs.Script.{FileMap, IsOutput, IsReadAs, Read};
 
 /// The tokens of a statement are read in one way only, and so a script has one output.
 pub fn one_output()
     ensures read { (tokens : List Lexeme) (a b : Read) → IsReadAs tokens a → IsReadAs tokens b → a ≡ b }
-    ensures output { (files : Files) (text : List ℕ) (a b : List Line) → IsOutput files text a → IsOutput files text b → a ≡ b }
+    ensures output { (files : FileMap) (text : List ℕ) (a b : List Line) → IsOutput files text a → IsOutput files text b → a ≡ b }
 {}

@@ -3,15 +3,20 @@
 //! `specs/Script.antt` defines what a script prints.
 #![tactic(auto)]
 
+mod commands;
+mod generated;
 mod laws;
+mod loads;
 mod reading;
+mod runs;
 mod scripts;
 mod statuses;
 mod step;
+mod stops;
 mod takes;
 
 pub use laws::one_output;
-pub use scripts::run;
+pub use runs::run;
 pub use statuses::{
     BAD_WORDS, DONE, FLAWED, NO_MEMORY, NOT_UTF8, READ_FAILED, TOO_LONG, WRITE_FAILED,
 };

@@ -1,11 +1,10 @@
 //! What the tokens of a statement are read as, and what a statement is bound to.
 
-ghost use Rattle.std.specs.Prelude.{◌≡◌, true, map, IfOk};
+ghost use Rattle.std.specs.Prelude.{map, IfOk};
 ghost use Rattle.mq_values.specs.Answers.{Gives};
 ghost use Rattle.mq_lexer.specs.Lexemes.{lexeme};
 ghost use Rattle.mq_binder.specs.StatementWalk.{statement_bound};
 ghost use Rattle.mq_engine.specs.Catalogs.{catalog_of};
-ghost use Rattle.mq_ready_laws.specs.BuiltForms as forms;
 ghost use Rattle.mq_tool.specs.Steps.{CanRun, Finds};
 
 use mq_ast::Stmt;
@@ -15,28 +14,22 @@ use mq_ir::Bound;
 use mq_lexer::Token;
 use mq_parse_stmt::parse;
 use mq_ready_laws::{
-    built, created_tables_are_new, created_views_are_new, loads_are_not_built, queries_are_ready,
-    views_are_ready,
+    created_tables_are_new, created_views_are_new, queries_are_ready, views_are_ready,
 };
 use mq_values::{Boxed, Fail, Refused};
 use std::alloc::Global;
 
 /// The statement that the tokens are read as. `TOO_DEEP` comes exactly where they nest too deep, and else `SYNTAX` exactly
-/// where no statement that the program does reads them (docs/MEANING.md, "Scripts").
+/// where no statement reads them (docs/MEANING.md, "Scripts").
 pub fn read(alloc: Global, tokens: &[Token<'_>]) -> Result<Boxed<Stmt>, Fail<Refused>>
     ensures { Finds (map lexeme tokens.now) result }
 {
-    let tree = Boxed::new(alloc, parse(alloc, tokens)?)?;
-    if built(tree.get()) {
-        Ok(tree)
-    } else {
-        Err(Fail::Cause(Refused::Syntax))
-    }
+    let tree = parse(alloc, tokens)?;
+    Ok(Boxed::new(alloc, tree)?)
 }
 
 /// What a statement is bound to under the names that stand, or its first offence. What it is bound to can be done.
 pub fn bound_of(alloc: Global, engine: &Engine, tree: &Stmt) -> Result<Bound, Fail<Refused>>
-    requires { forms.built tree.now ≡ true }
     ensures exact { Gives result (statement_bound (catalog_of engine.now) tree.now) }
     ensures can_run { IfOk result (CanRun engine.now) }
 {
@@ -44,6 +37,5 @@ pub fn bound_of(alloc: Global, engine: &Engine, tree: &Stmt) -> Result<Bound, Fa
     created_views_are_new();
     queries_are_ready();
     views_are_ready();
-    loads_are_not_built();
     bind(alloc, engine.catalog(), tree)
 }

@@ -1,80 +1,63 @@
-//! A whole run: from the words of the command line and the bytes of a script to its output and its status.
+//! A run of one script: from its bytes to its output and its status.
 
-ghost use Rattle.std.specs.Prelude.{◌≡◌, ◌≢◌, ◌↔◌, ◌⊎◌, ◌+◌, ◌≤◌, ◌||◌, List, [], Some, length, map, IfOk, IfSome, OnErr, IsErrOf, IsUtf8};
+ghost use Rattle.std.specs.Prelude.{◌≡◌, ◌≢◌, ◌↔◌, ◌⊎◌, ◌+◌, ◌≤◌, ◌||◌, List, Some, length, map, IfOk, IfSome, OnErr, IsErrOf, IsUtf8};
 ghost use Rattle.std.specs.Io.KnownBytes.{Appends, IsAtEnd};
 ghost use Rattle.mq_io.specs.Causes.{Rose};
 ghost use Rattle.mq_io.specs.Progress.{AppendsFront, GaveAtMost, GaveMore};
 ghost use Rattle.mq_lexer.specs.Statements as lexer;
 ghost use Rattle.mq_lexer.specs.Tokens as scanner;
 ghost use Rattle.mq_ir.specs.Lines.{Line, text_of};
-ghost use Rattle.mq_ir.specs.Statement.{Files};
-ghost use Rattle.mq_tool.specs.Script.{IsOutput, IsScript, IsStatus, IsWhole, status_of};
-ghost use Rattle.mq_tool.specs.Steps.{CutShort, Writes, WritesAll, WritesFront};
+ghost use Rattle.mq_engine.specs.declared.engine.TheConstants.{MAX_WORKERS};
+ghost use Rattle.mq_tool.specs.declared.statuses.TheConstants.{BAD_WORDS};
+ghost use Rattle.mq_tool.specs.Script.{FileMap, IsOutput, IsScript, IsStatus, IsWhole, StoppedAtLoad, StopsAtLoad, status_of};
+ghost use Rattle.mq_tool.specs.Steps.{CutShort, IsLoadAt, Writes, WritesAll, WritesFront};
 
-use crate::statuses::{
-    BAD_WORDS, DONE, FLAWED, NO_MEMORY, NOT_UTF8, READ_FAILED, TOO_LONG, WRITE_FAILED,
-};
+use crate::statuses::{DONE, FLAWED, NO_MEMORY, NOT_UTF8, READ_FAILED, TOO_LONG, WRITE_FAILED};
 use crate::step::do_statement;
+use crate::stops::Halt;
 use mq_engine::Engine;
 use mq_io::{Gate, IoFault, READ_SIZE, ReadFault, Shelf, Sink, Source, read_all, write_all};
 use mq_lexer::{Statement, statements, tokens};
 use mq_values::MAX_SCRIPT_BYTES;
 use std::alloc::Global;
 
-/// Reads the whole script, runs it statement by statement, and writes each statement's lines before the next one
-/// starts. The answer is the status of the program (docs/LANGUAGE.md, "Statuses"): `DONE` and `FLAWED` where all was
-/// done, `BAD_WORDS` for words that are not known, `READ_FAILED` and `WRITE_FAILED` where the source or the sink
-/// failed, `NO_MEMORY` for want of memory, `TOO_LONG` for a script that is too long, `NOT_UTF8` for one that is not
-/// UTF-8.
-#[tactic(auto, using(crate::proofs::RunLemmas::gave_nothing))]
-pub fn run<S: Source, F: Shelf, K: Sink, G: Gate>(
+/// Reads the whole script, runs it statement by statement, and writes each statement's lines before the next one starts.
+/// The answer is the status of the run (docs/LANGUAGE.md, "Statuses").
+pub(crate) fn run_script<S: Source, F: Shelf, K: Sink, G: Gate>(
     alloc: Global,
-    words: &[String],
+    workers: u32,
     script: &mut S,
     files: &mut F,
     out: &mut K,
     gate: &G,
 ) -> u8
-    // There are no words but none, and else nothing is read or written.
-    ensures words { (result ≡ BAD_WORDS) ↔ (words.now ≢ []) }
-    ensures untouched { result ≡ BAD_WORDS → (script.new ≡ script.old) × (out.new ≡ out.old) }
-    ensures files { files.new ≡ files.old }
-    ensures range { IsStatus result }
-
-    // What failed, and where nothing was written.
-    ensures read_failed { result ≡ READ_FAILED → Rose (S.faults script.old) (S.faults script.new) }
+    requires { (1 ≤ workers) × (workers ≤ MAX_WORKERS) }
+    ensures files { F.files files.new ≡ F.files files.old }
+    ensures range { (result ≢ BAD_WORDS) × IsStatus result }
+    ensures read_failed { result ≡ READ_FAILED
+        → ((Rose (S.faults script.old) (S.faults script.new)) × (out.new ≡ out.old))
+        ⊎ ((Rose (F.faults files.old) (F.faults files.new)) × IfSome (S.left script.old) (λ b. IfSome (F.files files.old)
+        (λ told. StopsAtLoad told b (K.taken out.old) (K.taken out.new)))) }
     ensures write_failed { result ≡ WRITE_FAILED → Rose (K.faults out.old) (K.faults out.new) }
-    ensures nothing { (result ≡ READ_FAILED) ⊎ (result ≡ TOO_LONG) ⊎ (result ≡ NOT_UTF8) → out.new ≡ out.old }
-
-    // The source is read to its end, or by at most one buffer past the limit.
-    ensures end { IsWhole result → IsAtEnd (S.left script.new) }
+    ensures nothing { (result ≡ TOO_LONG) ⊎ (result ≡ NOT_UTF8) → out.new ≡ out.old }
+    ensures end { IsWhole result ⊎ (result ≡ NOT_UTF8) → IsAtEnd (S.left script.new) }
     ensures stops { GaveAtMost (MAX_SCRIPT_BYTES + READ_SIZE) (S.left script.old) (S.left script.new) }
-
-    // Where the source tells its bytes: which of them are no script.
     ensures too_long { IfSome (S.left script.old)
         (λ b. (result ≡ TOO_LONG) ↔ GaveMore MAX_SCRIPT_BYTES (Some b) (S.left script.new)) }
     ensures not_utf8 { result ≡ NOT_UTF8 → IfSome (S.left script.old)
         (λ b. (length b ≤ MAX_SCRIPT_BYTES) × ¬ IsUtf8 b) }
     ensures is_script { IsWhole result ⊎ (result ≡ WRITE_FAILED) → IfSome (S.left script.old) IsScript }
-
-    // What is written: the output of the script, whatever the files hold, or a front of it where the run was cut short,
-    // and nothing of bytes that are no script.
-    ensures done { IsWhole result → IfSome (S.left script.old) (λ b. (files : Files) → (lines : List Line) × IsOutput files b lines
-        × Appends (K.taken out.old) (K.taken out.new) (text_of lines) × (result ≡ status_of lines)) }
-    ensures cut_short { (result ≡ WRITE_FAILED) ⊎ (result ≡ NO_MEMORY) → IfSome (S.left script.old) (λ b. (files : Files) (lines : List Line)
-        → IsOutput files b lines → AppendsFront (K.taken out.old) (K.taken out.new) (text_of lines)) }
+    ensures done { IsWhole result → IfSome (S.left script.old) (λ b. IfSome (F.files files.old) (λ told. (lines : List Line) × IsOutput told b lines
+        × Appends (K.taken out.old) (K.taken out.new) (text_of lines) × (result ≡ status_of lines))) }
+    ensures cut_short { (result ≡ WRITE_FAILED) ⊎ (result ≡ NO_MEMORY) → IfSome (S.left script.old) (λ b. IfSome (F.files files.old) (λ told.
+        (lines : List Line) → IsOutput told b lines → AppendsFront (K.taken out.old) (K.taken out.new) (text_of lines))) }
     ensures no_script { result ≡ NO_MEMORY → IfSome (S.left script.old) (λ b. ¬ IsScript b → out.new ≡ out.old) }
-
-    // A script is run to its end, unless a count rose or memory ran out.
-    ensures complete { words.now ≡ []
-        → ¬ Rose (S.faults script.old) (S.faults script.new) → ¬ Rose (K.faults out.old) (K.faults out.new)
+    ensures complete { ¬ Rose (S.faults script.old) (S.faults script.new) → ¬ Rose (F.faults files.old) (F.faults files.new)
+        → ¬ Rose (K.faults out.old) (K.faults out.new)
         → IfSome (S.left script.old) (λ b. IsScript b → IsWhole result ⊎ (result ≡ NO_MEMORY)) }
 {
-    if !words.is_empty() {
-        return BAD_WORDS;
-    }
     match read_all(alloc, script, MAX_SCRIPT_BYTES) {
-        Ok(bytes) => run_bytes(alloc, &bytes, out, gate),
+        Ok(bytes) => run_bytes(alloc, workers, &bytes, files, out, gate),
         Err(ReadFault::TooLong) => TOO_LONG,
         Err(ReadFault::Failed) => READ_FAILED,
         Err(ReadFault::Memory) => NO_MEMORY,
@@ -82,68 +65,97 @@ pub fn run<S: Source, F: Shelf, K: Sink, G: Gate>(
 }
 
 // Runs the script of these bytes.
-fn run_bytes<K: Sink, G: Gate>(alloc: Global, bytes: &[u8], out: &mut K, gate: &G) -> u8
-    ensures range { IsWhole result ⊎ (result ≡ WRITE_FAILED) ⊎ (result ≡ NO_MEMORY) ⊎ (result ≡ NOT_UTF8) }
+fn run_bytes<F: Shelf, K: Sink, G: Gate>(
+    alloc: Global,
+    workers: u32,
+    bytes: &[u8],
+    files: &mut F,
+    out: &mut K,
+    gate: &G,
+) -> u8
+    requires { (1 ≤ workers) × (workers ≤ MAX_WORKERS) }
+    ensures range { IsWhole result ⊎ (result ≡ READ_FAILED) ⊎ (result ≡ WRITE_FAILED) ⊎ (result ≡ NO_MEMORY) ⊎ (result ≡ NOT_UTF8) }
+    ensures files { F.files files.new ≡ F.files files.old }
+    ensures read_failed { result ≡ READ_FAILED → Rose (F.faults files.old) (F.faults files.new) }
+    ensures stopped { result ≡ READ_FAILED → (told : FileMap) → F.files files.old ≡ Some told
+        → StopsAtLoad told bytes.now (K.taken out.old) (K.taken out.new) }
     ensures write_failed { result ≡ WRITE_FAILED → Rose (K.faults out.old) (K.faults out.new) }
     ensures not_utf8 { result ≡ NOT_UTF8 → (out.new ≡ out.old) × ¬ IsUtf8 bytes.now }
     ensures is_utf8 { result ≢ NOT_UTF8 → IsUtf8 bytes.now }
-    ensures done { IsWhole result → (files : Files) → (lines : List Line) × IsOutput files bytes.now lines
+    ensures done { IsWhole result → (told : FileMap) → F.files files.old ≡ Some told → (lines : List Line) × IsOutput told bytes.now lines
         × Appends (K.taken out.old) (K.taken out.new) (text_of lines) × (result ≡ status_of lines) }
-    ensures cut_short { (result ≡ WRITE_FAILED) ⊎ (result ≡ NO_MEMORY) → (files : Files) (lines : List Line)
-        → IsOutput files bytes.now lines → AppendsFront (K.taken out.old) (K.taken out.new) (text_of lines) }
+    ensures cut_short { (result ≡ WRITE_FAILED) ⊎ (result ≡ NO_MEMORY) → (told : FileMap) → F.files files.old ≡ Some told → (lines : List Line)
+        → IsOutput told bytes.now lines → AppendsFront (K.taken out.old) (K.taken out.new) (text_of lines) }
 {
     match str::from_utf8(bytes) {
-        Ok(text) => match run_text(alloc, text, out, gate) {
+        Ok(text) => match run_text(alloc, workers, text, files, out, gate) {
             Ok(true) => FLAWED,
             Ok(false) => DONE,
-            Err(IoFault::Failed) => WRITE_FAILED,
-            Err(IoFault::Memory) => NO_MEMORY,
+            Err(Halt::ReadFailed) => READ_FAILED,
+            Err(Halt::WriteFailed) => WRITE_FAILED,
+            Err(Halt::Memory) => NO_MEMORY,
         },
         Err(_) => NOT_UTF8,
     }
 }
 
 // Runs the script of this text, and answers whether some line was an error or a fault.
-fn run_text<K: Sink, G: Gate>(
+fn run_text<F: Shelf, K: Sink, G: Gate>(
     alloc: Global,
+    workers: u32,
     text: &str,
+    files: &mut F,
     out: &mut K,
     gate: &G,
-) -> Result<bool, IoFault>
-    ensures done { IfOk result (λ flaw. (files : Files) →
-        WritesAll files (lexer.statements (scanner.tokens text.now)) (K.taken out.old) (K.taken out.new) flaw) }
-    ensures cut_short { OnErr result ((files : Files) →
-        WritesFront files (lexer.statements (scanner.tokens text.now)) (K.taken out.old) (K.taken out.new)) }
-    ensures failed { IsErrOf result IoFault.Failed → Rose (K.faults out.old) (K.faults out.new) }
+) -> Result<bool, Halt>
+    requires { (1 ≤ workers) × (workers ≤ MAX_WORKERS) }
+    ensures done { IfOk result (λ flaw. (told : FileMap) → F.files files.old ≡ Some told →
+        WritesAll told (lexer.statements (scanner.tokens text.now)) (K.taken out.old) (K.taken out.new) flaw) }
+    ensures cut_short { OnErr result ((told : FileMap) → F.files files.old ≡ Some told →
+        WritesFront told (lexer.statements (scanner.tokens text.now)) (K.taken out.old) (K.taken out.new)) }
+    ensures stopped { IsErrOf result Halt.ReadFailed → (told : FileMap) → F.files files.old ≡ Some told →
+        StoppedAtLoad told (lexer.statements (scanner.tokens text.now)) (K.taken out.old) (K.taken out.new) }
+    ensures files { F.files files.new ≡ F.files files.old }
+    ensures read_failed { IsErrOf result Halt.ReadFailed → Rose (F.faults files.old) (F.faults files.new) }
+    ensures write_failed { IsErrOf result Halt.WriteFailed → Rose (K.faults out.old) (K.faults out.new) }
 {
     let Ok(tokens) = tokens(alloc, text) else {
-        return Err(IoFault::Memory);
+        return Err(Halt::Memory);
     };
     let Ok(statements) = statements(alloc, &tokens) else {
-        return Err(IoFault::Memory);
+        return Err(Halt::Memory);
     };
-    run_statements(alloc, &statements, out, gate)
+    run_statements(alloc, workers, &statements, files, out, gate)
 }
 
-// Runs statements, one after another, from no table and no view on.
-fn run_statements<K: Sink, G: Gate>(
+/// Runs statements, one after another, from no table and no view on, and answers whether some line was an error or a
+/// fault.
+pub(crate) fn run_statements<F: Shelf, K: Sink, G: Gate>(
     alloc: Global,
+    workers: u32,
     statements: &[Statement<'_, '_>],
+    files: &mut F,
     out: &mut K,
     gate: &G,
-) -> Result<bool, IoFault>
-    ensures done { IfOk result (λ flaw. (files : Files) →
-        WritesAll files (map lexer.statement statements.now) (K.taken out.old) (K.taken out.new) flaw) }
-    ensures cut_short { OnErr result ((files : Files) →
-        WritesFront files (map lexer.statement statements.now) (K.taken out.old) (K.taken out.new)) }
+) -> Result<bool, Halt>
+    requires { (1 ≤ workers) × (workers ≤ MAX_WORKERS) }
+    ensures done { IfOk result (λ flaw. (told : FileMap) → F.files files.old ≡ Some told →
+        WritesAll told (map lexer.statement statements.now) (K.taken out.old) (K.taken out.new) flaw) }
+    ensures cut_short { OnErr result ((told : FileMap) → F.files files.old ≡ Some told →
+        WritesFront told (map lexer.statement statements.now) (K.taken out.old) (K.taken out.new)) }
+    ensures stopped { IsErrOf result Halt.ReadFailed → (told : FileMap) → F.files files.old ≡ Some told →
+        StoppedAtLoad told (map lexer.statement statements.now) (K.taken out.old) (K.taken out.new) }
+    ensures files { F.files files.new ≡ F.files files.old }
+    ensures later_files { F.faults files.old ≤ F.faults files.new }
     ensures later { K.faults out.old ≤ K.faults out.new }
-    ensures failed { IsErrOf result IoFault.Failed → Rose (K.faults out.old) (K.faults out.new) }
+    ensures read_failed { IsErrOf result Halt.ReadFailed → Rose (F.faults files.old) (F.faults files.new) }
+    ensures write_failed { IsErrOf result Halt.WriteFailed → Rose (K.faults out.old) (K.faults out.new) }
 {
-    let mut engine = Engine::new(alloc, 1);
+    let mut engine = Engine::new(alloc, workers);
     let mut lines = Vec::new(alloc);
     let mut flaw = false;
     'statements: for statement in statements {
-        let found = run_statement(alloc, &mut engine, statement, &mut lines, out, gate)?;
+        let found = run_statement(alloc, &mut engine, statement, &mut lines, files, out, gate)?;
         flaw = either(flaw, found);
     }
     Ok(flaw)
@@ -156,23 +168,32 @@ fn either(a: bool, b: bool) -> bool
 }
 
 // Runs a statement and writes its lines.
-fn run_statement<K: Sink, G: Gate>(
+fn run_statement<F: Shelf, K: Sink, G: Gate>(
     alloc: Global,
     engine: &mut Engine,
     statement: &Statement<'_, '_>,
     lines: &mut Vec<u8>,
+    files: &mut F,
     out: &mut K,
     gate: &G,
-) -> Result<bool, IoFault>
-    ensures done { IfOk result (Writes (lexer.statement statement.now) engine.old engine.new (K.taken out.old) (K.taken out.new)) }
-    ensures cut_short { OnErr result (CutShort (lexer.statement statement.now) engine.old (K.taken out.old) (K.taken out.new)) }
+) -> Result<bool, Halt>
+    ensures done { IfOk result (Writes (lexer.statement statement.now) (F.files files.old) engine.old engine.new (K.taken out.old) (K.taken out.new)) }
+    ensures cut_short { OnErr result (CutShort (lexer.statement statement.now) (F.files files.old) engine.old (K.taken out.old) (K.taken out.new)) }
+    ensures stopped { IsErrOf result Halt.ReadFailed → (out.new ≡ out.old) × IsLoadAt (lexer.statement statement.now) engine.old }
+    ensures files { F.files files.new ≡ F.files files.old }
+    ensures later_files { F.faults files.old ≤ F.faults files.new }
     ensures later { K.faults out.old ≤ K.faults out.new }
-    ensures failed { IsErrOf result IoFault.Failed → Rose (K.faults out.old) (K.faults out.new) }
+    ensures read_failed { IsErrOf result Halt.ReadFailed → Rose (F.faults files.old) (F.faults files.new) }
+    ensures write_failed { IsErrOf result Halt.WriteFailed → Rose (K.faults out.old) (K.faults out.new) }
 {
     lines.clear();
-    let Ok(flaw) = do_statement(alloc, engine, statement, lines, gate) else {
-        return Err(IoFault::Memory);
-    };
-    write_all(out, lines)?;
-    Ok(flaw)
+    match do_statement(alloc, engine, statement, files, lines, gate) {
+        Ok(flaw) => match write_all(out, lines) {
+            Ok(()) => Ok(flaw),
+            Err(IoFault::Failed) => Err(Halt::WriteFailed),
+            Err(IoFault::Memory) => Err(Halt::Memory),
+        },
+        Err(IoFault::Failed) => Err(Halt::ReadFailed),
+        Err(IoFault::Memory) => Err(Halt::Memory),
+    }
 }

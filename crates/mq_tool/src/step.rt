@@ -1,51 +1,91 @@
 //! One statement: it is read, bound and done, and its lines are written into a buffer.
 
-ghost use Rattle.std.specs.Prelude.{IfOk, map};
+ghost use Rattle.std.specs.Prelude.{◌≡◌, ◌≤◌, Some, IfOk, IsErrOf, map};
+ghost use Rattle.mq_io.specs.Causes.{Rose};
 ghost use Rattle.mq_lexer.specs.Lexemes.{lexeme};
 ghost use Rattle.mq_lexer.specs.Statements as lexer;
-ghost use Rattle.mq_tool.specs.Steps.{Does, Tries};
+ghost use Rattle.mq_ir.specs.Statement.{taken};
+ghost use Rattle.mq_tool.specs.Script.{FileMap, seen_files};
+ghost use Rattle.mq_tool.specs.Steps.{CanRun, Does, Ends, IsLoadAt, IsLoadBound, Tries};
 
+use crate::loads::load;
 use crate::reading::{bound_of, read};
+use crate::stops::Stop;
 use crate::takes::take;
 use mq_engine::Engine;
-use mq_io::Gate;
+use mq_io::{Gate, IoFault, Shelf};
+use mq_ir::Bound;
 use mq_lexer::{Statement, Token};
 use mq_render::refusal_text;
-use mq_values::{Fail, Memory, Refused};
 use std::alloc::Global;
 
 /// Does a statement, appends its lines to `out`, and answers whether one of them is an error or a fault
-/// (docs/MEANING.md, "Scripts"). A statement that is refused alters nothing.
-pub fn do_statement<G: Gate>(
+/// (docs/MEANING.md, "Scripts"). A statement that is refused alters nothing. `Failed` comes where the shelf failed, at a LOAD
+/// that is read and bound, and then nothing is altered.
+pub fn do_statement<F: Shelf, G: Gate>(
     alloc: Global,
     engine: &mut Engine,
     statement: &Statement<'_, '_>,
+    files: &mut F,
     out: &mut Vec<u8>,
     gate: &G,
-) -> Result<bool, Memory>
-    ensures { IfOk result (Does (lexer.statement statement.now) engine.old engine.new out.old.items out.new.items) }
+) -> Result<bool, IoFault>
+    ensures done { IfOk result (Does (lexer.statement statement.now) (F.files files.old) engine.old engine.new out.old.items out.new.items) }
+    ensures files { F.files files.new ≡ F.files files.old }
+    ensures later { F.faults files.old ≤ F.faults files.new }
+    ensures load { IsErrOf result IoFault.Failed → IsLoadAt (lexer.statement statement.now) engine.old }
+    ensures failed { IsErrOf result IoFault.Failed → Rose (F.faults files.old) (F.faults files.new) }
 {
-    match try_statement(alloc, engine, statement.tokens, out, gate) {
+    match try_statement(alloc, engine, statement.tokens, files, out, gate) {
         Ok(flaw) => Ok(flaw),
-        Err(Fail::Cause(refused)) => {
-            refusal_text(statement.line, &refused, out)?;
-            Ok(true)
-        }
-        Err(Fail::Memory) => Err(Memory),
+        Err(Stop::Refused(refused)) => match refusal_text(statement.line, &refused, out) {
+            Ok(()) => Ok(true),
+            Err(_) => Err(IoFault::Memory),
+        },
+        Err(Stop::NotFetched) => Err(IoFault::Failed),
+        Err(Stop::Memory) => Err(IoFault::Memory),
     }
 }
 
-// Does the statement of these tokens, or answers why it is refused.
-fn try_statement<G: Gate>(
+// Does the statement of these tokens, or answers why it is not done.
+fn try_statement<F: Shelf, G: Gate>(
     alloc: Global,
     engine: &mut Engine,
     tokens: &[Token<'_>],
+    files: &mut F,
     out: &mut Vec<u8>,
     gate: &G,
-) -> Result<bool, Fail<Refused>>
-    ensures { Tries (map lexeme tokens.now) engine.old engine.new out.old.items out.new.items result }
+) -> Result<bool, Stop>
+    ensures done { Tries (map lexeme tokens.now) (F.files files.old) engine.old engine.new out.old.items out.new.items result }
+    ensures files { F.files files.new ≡ F.files files.old }
+    ensures later { F.faults files.old ≤ F.faults files.new }
+    ensures failed { IsErrOf result Stop.NotFetched → Rose (F.faults files.old) (F.faults files.new) }
 {
     let tree = read(alloc, tokens)?;
     let bound = bound_of(alloc, engine, tree.get())?;
-    take(alloc, engine, bound, out, gate)
+    do_bound(alloc, engine, bound, files, out, gate)
+}
+
+// Does a bound statement, or answers why it is not done, and then nothing is changed or appended.
+fn do_bound<F: Shelf, G: Gate>(
+    alloc: Global,
+    engine: &mut Engine,
+    bound: Bound,
+    files: &mut F,
+    out: &mut Vec<u8>,
+    gate: &G,
+) -> Result<bool, Stop>
+    requires { CanRun engine.old bound }
+    ensures done { (told : FileMap) → F.files files.old ≡ Some told
+        → Ends (taken (seen_files told) engine.old bound) engine.old engine.new out.old.items out.new.items result }
+    ensures files { F.files files.new ≡ F.files files.old }
+    ensures later { F.faults files.old ≤ F.faults files.new }
+    ensures load { IsErrOf result Stop.NotFetched → IsLoadBound bound }
+    ensures not_fetched { IsErrOf result Stop.NotFetched → (engine.new ≡ engine.old) × (out.new ≡ out.old) }
+    ensures failed { IsErrOf result Stop.NotFetched → Rose (F.faults files.old) (F.faults files.new) }
+{
+    match bound {
+        Bound::Load(table, file) => load(alloc, engine, table, &file, files, out, gate),
+        bound => Ok(take(alloc, engine, bound, out, gate)?),
+    }
 }

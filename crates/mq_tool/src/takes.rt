@@ -8,7 +8,7 @@ ghost use Rattle.mq_ir.specs.Statement as spec;
 ghost use Rattle.mq_ir.specs.Tables.{table_at};
 ghost use Rattle.mq_ir.specs.Ready.{QueryIsReady};
 ghost use Rattle.mq_engine.specs.Catalogs.{catalog_of};
-ghost use Rattle.mq_tool.specs.Steps.{CanLend, CanRun, Takes};
+ghost use Rattle.mq_tool.specs.Steps.{CanLend, CanTake, Takes};
 
 use mq_engine::Engine;
 use mq_io::Gate;
@@ -17,8 +17,8 @@ use mq_render::{answer_text, count_text, done_text};
 use mq_values::{Fail, Refused, Words};
 use std::alloc::Global;
 
-/// Does a bound statement, appends its lines to `out`, and answers whether one of them is an error or a fault; or why it
-/// is refused, and then nothing is changed or appended (docs/MEANING.md, "Statements").
+/// Does a bound statement that is no LOAD, appends its lines to `out`, and answers whether one of them is an error or a
+/// fault; or why it is refused, and then nothing is changed or appended (docs/MEANING.md, "Statements").
 pub fn take<G: Gate>(
     alloc: Global,
     engine: &mut Engine,
@@ -26,7 +26,7 @@ pub fn take<G: Gate>(
     out: &mut Vec<u8>,
     gate: &G,
 ) -> Result<bool, Fail<Refused>>
-    requires { CanRun engine.old bound }
+    requires { CanTake engine.old bound }
     ensures { (files : spec.Files) → Takes (spec.taken files engine.old bound) engine.old engine.new out.old.items out.new.items result }
 {
     match bound {
@@ -53,7 +53,7 @@ fn take_lent<G: Gate>(
         Bound::Change(change) => apply(alloc, engine, change, out, gate),
         Bound::Show(name) => show(alloc, engine, name, out, gate),
         Bound::Query(query) => ask(alloc, engine, query, out, gate),
-        // Those of which it keeps a part, and LOAD, which is not among the statements that are done, do not come.
+        // Those of which it keeps a part, and LOAD, do not come.
         _ => Err(Fail::Cause(Refused::Syntax)),
     }
 }

@@ -2,7 +2,7 @@ use Rattle.std.proofs.Common.{Err, sym, ap, ◌∙◌}
 use Rattle.std.specs.List.{find}
 use Rattle.mq_values.specs.declared.faults.Refused.TheVariants as refused
 use Rattle.mq_engine.specs.Catalogs.{entry_reads}
-use Rattle.mq_engine.proofs.DropLemmas.{drop_refused, dropped}
+use Rattle.mq_engine.proofs.DropLemmas.{drop_refused, dropped, not_refused}
 use Rattle.mq_engine.proofs.StateLemmas.{tables_kept}
 use Rattle.mq_engine.proofs.engine.Engine.drop_table.Goals as goal
 
@@ -24,3 +24,10 @@ returns-clause-exact c =
     let name = c.args.name.now in
     dropped c.self.inside.catalog c.self.inside.tables c.self.inside.views c.args.self.now c.self.view_is c.self.invariant.0 name c.remove.new.self
     (c.in_default.ensures ∙ ap (find (entry_reads name)) c.as_slice.ensures) c.remove.ensures.others
+
+pub returns-in_err-copy-clause-memory : goal.returns-in_err-copy-clause-memory
+returns-in_err-copy-clause-memory c =
+    let name = c.args.name.now in
+    λ none wanted. not_refused c.args.self.now name (refused.InUse c.in-Some.view.now.name)
+    (drop_refused c.self.inside.catalog c.self.inside.tables c.self.inside.views c.args.self.now c.self.view_is c.self.invariant.0 name c.in-Some.view.now
+    (c.in-Some.ensures ∙ ap (find (entry_reads name)) c.as_slice.ensures)) none

@@ -1,0 +1,6 @@
+pub mod Draws
+pub mod Kept
+pub mod Pieces
+pub mod Script
+pub mod Summary
+pub mod Notes

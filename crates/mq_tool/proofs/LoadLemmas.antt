@@ -1,0 +1,82 @@
+-- A LOAD: rows that are found in a file, and then appended.
+use Rattle.std.proofs.Common.{◌≡◌, ℕ, List, [], ◌∷◌, Bool, true, false, cond, map, Option, Some, None, Result, Ok, Err, refl, sym, ap, ◌∙◌, subst}
+use Rattle.std.specs.Option.{ok_or, option_map}
+use Rattle.std.specs.Prelude.{find}
+use Rattle.std.proofs.lemmas.Cmp.{nat_list_eq_equiv}
+use Rattle.mq_values.specs.declared.faults.Refused.{Refused}
+use Rattle.mq_values.specs.declared.faults.Refused.TheVariants as refused
+use Rattle.mq_values.specs.declared.memory.Fail.{Fail}
+use Rattle.mq_ir.specs.declared.catalog.TableEntry.{TableEntry}
+use Rattle.mq_ir.specs.declared.statement.Bound.TheVariants as bound
+use Rattle.mq_ir.specs.declared.statement.Change.TheVariants.{Append}
+use Rattle.mq_ir.specs.declared.statement.Schema.{Schema}
+use Rattle.mq_ir.specs.Partitions.{Tuple}
+use Rattle.mq_ir.specs.Results.{◌>>=◌}
+use Rattle.mq_ir.specs.Statement.{Printed, State, change_step, file_bytes, load_step, taken}
+use Rattle.mq_ir.specs.Tables.{Table, Tables, is_name, table_at}
+use Rattle.mq_csvload.specs.Loading.{rows_in}
+use Rattle.mq_engine.specs.Catalogs.{catalog_of, entry_of_table}
+use Rattle.mq_tool.specs.declared.stops.Stop.{Stop}
+use Rattle.mq_tool.specs.declared.stops.Stop.TheVariants as stop
+use Rattle.mq_tool.specs.Loads.{Found, rows_of_file}
+use Rattle.mq_tool.specs.Script.{FileMap, seen_files}
+use Rattle.mq_tool.specs.Steps.{Ends, Takes}
+
+-- the columns of a table of the catalog are those of the table
+schema_found : (tables : Tables) (name : List ℕ)
+    → option_map (λ (entry : TableEntry). entry.schema) (find (λ (entry : TableEntry). is_name entry.name name) (map entry_of_table tables))
+    ≡ option_map (λ (t : Table). t.schema) (table_at tables name)
+schema_found [] name = refl
+schema_found (t ∷ ts) name =
+    ap (λ b. option_map (λ (entry : TableEntry). entry.schema) (cond b (Some (entry_of_table t)) (find (λ (entry : TableEntry). is_name entry.name name) (map entry_of_table ts))))
+    (nat_list_eq_equiv.symm t.name name)
+    ∙ by (is_name name t.name) (schema_found ts name)
+  where
+    by : (b : Bool)
+        → option_map (λ (entry : TableEntry). entry.schema) (find (λ (entry : TableEntry). is_name entry.name name) (map entry_of_table ts))
+        ≡ option_map (λ (t : Table). t.schema) (table_at ts name)
+        → option_map (λ (entry : TableEntry). entry.schema) (cond b (Some (entry_of_table t)) (find (λ (entry : TableEntry). is_name entry.name name) (map entry_of_table ts)))
+        ≡ option_map (λ (t : Table). t.schema) (cond b (Some t) (table_at ts name))
+    by true h = refl
+    by false h = h
+
+-- three steps in a row
+steps_join : {A B C E : Type 0} (r : Result A E) (f : A → Result B E) (g : B → Result C E) → (r >>= f) >>= g ≡ r >>= (λ x. f x >>= g)
+steps_join (Ok x) f g = refl
+steps_join (Err e) f g = refl
+
+-- a LOAD finds its rows first, and then appends them
+load_parts : (files : FileMap) (state : State) (table file : List ℕ)
+    → load_step (seen_files files) state table file ≡ rows_of_file files (catalog_of state) table file >>= (λ rows. change_step state (Append table rows))
+load_parts files state table file =
+    by (table_at state.tables table)
+    ∙ ap (λ (s : Option Schema). (ok_or s (refused.UnknownName table) >>= rows_by) >>= append) (sym (schema_found state.tables table))
+  where
+    append : List Tuple → Result Printed Refused
+    append rows = change_step state (Append table rows)
+
+    rows_by : Schema → Result (List Tuple) Refused
+    rows_by schema = file_bytes (seen_files files) file >>= (λ bytes. rows_in bytes schema)
+
+    by : (o : Option Table)
+        → ok_or o (refused.UnknownName table) >>= (λ t. file_bytes (seen_files files) file >>= (λ bytes. rows_in bytes t.schema >>= append))
+        ≡ (ok_or (option_map (λ (t : Table). t.schema) o) (refused.UnknownName table) >>= rows_by) >>= append
+    by None = refl
+    by (Some t) = sym (steps_join (file_bytes (seen_files files) file) (λ bytes. rows_in bytes t.schema) append)
+
+-- rows that were found are appended
+pub loads : (files : FileMap) (old new : State) (table file : List ℕ) (rows : List Tuple) (before after : List ℕ) (result : Result Bool (Fail Refused))
+    → Found (Ok rows) (rows_of_file files (catalog_of old) table file) → Takes (change_step old (Append table rows)) old new before after result
+    → Takes (taken (seen_files files) old (bound.Load table file)) old new before after result
+loads files old new table file rows before after result found takes =
+    let meant : change_step old (Append table rows) ≡ load_step (seen_files files) old table file =
+    sym (load_parts files old table file ∙ ap (λ (r : Result (List Tuple) Refused). r >>= (λ rows. change_step old (Append table rows))) found) in
+    subst (λ (m : Result Printed Refused). Takes m old new before after result) meant takes
+
+-- where none were found the refusal is the statement's
+pub loads_none : (files : FileMap) (old : State) (table file : List ℕ) (before : List ℕ) (e : Stop) → Found (Err e) (rows_of_file files (catalog_of old) table file)
+    → Ends (taken (seen_files files) old (bound.Load table file)) old old before before (Err e)
+loads_none files old table file before (stop.Refused r) found =
+    (load_parts files old table file ∙ ap (λ (r : Result (List Tuple) Refused). r >>= (λ rows. change_step old (Append table rows))) found, refl, refl)
+loads_none files old table file before stop.NotFetched found = tt
+loads_none files old table file before stop.Memory found = tt
