@@ -1,18 +1,19 @@
 -- The grammar of statements. StmtE s tokens: s reads all the tokens.
-use Rattle.std.specs.Prelude.{ℕ, Bool, true, false, List, [], ◌∷◌, Option, None, Some}
+use Rattle.std.specs.Prelude.{ℕ, Bool, true, false, List, [], ◌∷◌}
 use Rattle.mq_values.specs.declared.value.Kind.{Kind}
 use Rattle.mq_ast.specs.declared.expressions.E.{E}
 use Rattle.mq_ast.specs.declared.queries.Query.{Query}
+use Rattle.mq_ast.specs.declared.statements.ChangeTree.{ChangeTree}
 use Rattle.mq_ast.specs.declared.statements.ColDef.{ColDef}
 use Rattle.mq_ast.specs.declared.statements.Stmt.{Stmt}
 use Rattle.mq_ast.specs.declared.statements.Stmt.TheVariants as stmt
 use Rattle.mq_lexer.specs.declared.keywords.Keyword.TheVariants as word
-use Rattle.mq_ast.specs.Tokens.{Tok, Word, Name, Text, opener, closer, comma, equal}
+use Rattle.mq_ast.specs.Tokens.{Tok, Word, Name, Text, opener, closer, open_square, close_square, comma, point}
 use Rattle.mq_ast.specs.GrammarNames.{KindE}
 use Rattle.mq_ast.specs.GrammarLists.{SomeOf, NameE}
-use Rattle.mq_ast.specs.GrammarExpression.{Expr, Tuple}
-use Rattle.mq_ast.specs.GrammarQuery.{WhereE}
+use Rattle.mq_ast.specs.GrammarExpression.{Exprs, Tuple}
 use Rattle.mq_ast.specs.GrammarModel.{QueryE}
+use Rattle.mq_ast.specs.GrammarChange.{ChangeE, NamesE}
 
 abbrev pub col_of : List ℕ → Kind → Bool → ColDef
 col_of n k not_null = record { name = n; kind = k; not_null = not_null }
@@ -27,24 +28,16 @@ pub data ColE : ColDef → List Tok → List Tok → Type 0 where
   col : {n : List ℕ} {k : Kind} {b : Bool} {from mid to : List Tok} →
       KindE k from mid → NotNullE b mid to → ColE (col_of n k b) (Name n ∷ from) to
 
--- '(' names ')', where names := name {',' name}
-pub data NamesE : List (List ℕ) → List Tok → List Tok → Type 0 where
-  names : {ns : List (List ℕ)} {from to : List Tok} → SomeOf NameE ns from (closer ∷ to) → NamesE ns (opener ∷ from) to
-
 -- [',' PRIMARY KEY '(' names ')']
 pub data PrimaryE : List (List ℕ) → List Tok → List Tok → Type 0 where
   primary_none : {to : List Tok} → PrimaryE [] to to
   primary_some : {ns : List (List ℕ)} {from to : List Tok} →
       NamesE ns from to → PrimaryE ns (comma ∷ Word word.Primary ∷ Word word.Key ∷ from) to
 
--- ['(' names ')']
-pub data MaybeNames : Option (List (List ℕ)) → List Tok → List Tok → Type 0 where
-  names_none : {to : List Tok} → MaybeNames None to to
-  names_some : {ns : List (List ℕ)} {from to : List Tok} → NamesE ns from to → MaybeNames (Some ns) from to
-
--- name '=' e
-pub data SetE : List ℕ × E → List Tok → List Tok → Type 0 where
-  set : {n : List ℕ} {a : E} {from to : List Tok} → Expr a from to → SetE (n, a) (Name n ∷ equal ∷ from) to
+-- [PARTITION tuple]
+pub data MaybePart : List E → List Tok → List Tok → Type 0 where
+  part_none : {to : List Tok} → MaybePart [] to to
+  part_some : {xs : List E} {from to : List Tok} → Tuple xs from to → MaybePart xs (Word word.Partition ∷ from) to
 
 -- stmt := what is below
 pub data StmtE : Stmt → List Tok → Type 0 where
@@ -56,18 +49,27 @@ pub data StmtE : Stmt → List Tok → Type 0 where
   stmt_create_view : {n : List ℕ} {q : Query} {from : List Tok} →
       QueryE q from [] → StmtE (stmt.CreateView n q) (Word word.Create ∷ Word word.View ∷ Name n ∷ Word word.As ∷ from)
   stmt_drop_view : {n : List ℕ} → StmtE (stmt.DropView n) (Word word.Drop ∷ Word word.View ∷ Name n ∷ [])
-  -- INSERT INTO name ['(' names ')'] VALUES tuple {',' tuple}
-  stmt_insert : {n : List ℕ} {o : Option (List (List ℕ))} {xss : List (List E)} {from mid : List Tok} →
-      MaybeNames o from (Word word.Values ∷ mid) → SomeOf Tuple xss mid [] →
-      StmtE (stmt.Insert n o xss) (Word word.Insert ∷ Word word.Into ∷ Name n ∷ from)
-  -- UPDATE name SET name '=' e {',' name '=' e} [WHERE e]
-  stmt_update : {n : List ℕ} {xs : List (List ℕ × E)} {o : Option E} {from mid : List Tok} →
-      SomeOf SetE xs from mid → WhereE o mid [] → StmtE (stmt.Update n xs o) (Word word.Update ∷ Name n ∷ Word word.Set ∷ from)
-  -- DELETE FROM name [WHERE e]
-  stmt_delete : {n : List ℕ} {o : Option E} {from : List Tok} →
-      WhereE o from [] → StmtE (stmt.Delete n o) (Word word.Delete ∷ Word word.From ∷ Name n ∷ from)
+  -- change
+  stmt_change : {c : ChangeTree} {from : List Tok} → ChangeE c from → StmtE (stmt.Change c) from
   -- LOAD INTO name FROM txt | SHOW name
   stmt_load : {n file : List ℕ} → StmtE (stmt.Load n file) (Word word.Load ∷ Word word.Into ∷ Name n ∷ Word word.From ∷ Text file ∷ [])
   stmt_show : {n : List ℕ} → StmtE (stmt.Show n) (Word word.Show ∷ Name n ∷ [])
   -- query, which begins with SELECT
   stmt_query : {q : Query} {from : List Tok} → QueryE q (Word word.Select ∷ from) [] → StmtE (stmt.Query q) (Word word.Select ∷ from)
+  -- BEGIN | COMMIT | ROLLBACK
+  stmt_begin : StmtE stmt.Begin (Word word.Begin ∷ [])
+  stmt_commit : StmtE stmt.Commit (Word word.Commit ∷ [])
+  stmt_rollback : StmtE stmt.Rollback (Word word.Rollback ∷ [])
+  -- CREATE SCENARIO name | DROP SCENARIO name
+  stmt_create_scenario : {n : List ℕ} → StmtE (stmt.CreateScenario n) (Word word.Create ∷ Word word.Scenario ∷ Name n ∷ [])
+  stmt_drop_scenario : {n : List ℕ} → StmtE (stmt.DropScenario n) (Word word.Drop ∷ Word word.Scenario ∷ Name n ∷ [])
+  -- UNDER name change
+  stmt_under : {n : List ℕ} {c : ChangeTree} {from : List Tok} →
+      ChangeE c from → StmtE (stmt.Under n c) (Word word.Under ∷ Name n ∷ from)
+  -- COMPARE name UNDER name {',' name}
+  stmt_compare : {n : List ℕ} {ns : List (List ℕ)} {from : List Tok} →
+      SomeOf NameE ns from [] → StmtE (stmt.Compare n ns) (Word word.Compare ∷ Name n ∷ Word word.Under ∷ from)
+  -- EXPLAIN CELL name '.' name [PARTITION tuple] '[' e {',' e} ']'
+  stmt_explain : {n m : List ℕ} {ps xs : List E} {from mid : List Tok} →
+      MaybePart ps from (open_square ∷ mid) → Exprs xs mid (close_square ∷ []) →
+      StmtE (stmt.ExplainCell n m ps xs) (Word word.Explain ∷ Word word.Cell ∷ Name n ∷ point ∷ Name m ∷ from)

@@ -5,6 +5,7 @@ pub mod OneExpressionLemmas
 pub mod OneQueryLemmas
 pub mod OneRuleLemmas
 pub mod OneModelLemmas
+pub mod OneChangeLemmas
 pub mod OneStatementLemmas
 -- equal trees that end at equal places, and facts that begin where others end
 pub use Rattle.mq_ast.specs.Laws.CommonLemmas.{Same, begin, none_some, cut}
@@ -34,6 +35,7 @@ pub use Rattle.mq_ast.specs.Laws.OneModelLemmas.{model_front_same, main_same, pa
 pub use Rattle.mq_ast.specs.Laws.OneModelLemmas.{auto_same, auto_past, int_same, iterate_same, iterate_past, opens_past, head_same}
 pub use Rattle.mq_ast.specs.Laws.OneModelLemmas.{head_past, rules_open, model_same, order_no_model, no_order, ends_keys, end_stop}
 pub use Rattle.mq_ast.specs.Laws.OneModelLemmas.{query_same}
+-- changes
+pub use Rattle.mq_ast.specs.Laws.OneChangeLemmas.{names_of_same, maybe_names_same, set_same, sets_same, change_same}
 -- statements
-pub use Rattle.mq_ast.specs.Laws.OneStatementLemmas.{col_same, cols_of_same, names_of_same, primary_ends, primary_same}
-pub use Rattle.mq_ast.specs.Laws.OneStatementLemmas.{maybe_names_same, set_same, sets_same}
+pub use Rattle.mq_ast.specs.Laws.OneStatementLemmas.{col_same, cols_of_same, primary_ends, primary_same, maybe_part_same}

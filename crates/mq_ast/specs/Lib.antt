@@ -11,6 +11,7 @@ pub mod GrammarQuery
 pub mod GrammarRule
 pub mod GrammarHead
 pub mod GrammarModel
+pub mod GrammarChange
 pub mod GrammarStatement
 pub mod Prelude
 pub mod Laws

@@ -38,7 +38,10 @@ pub use Rattle.mq_ast.specs.GrammarModel.{return_none, return_rows, RefSourceE, 
 pub use Rattle.mq_ast.specs.GrammarModel.{reference, FrontE, front, MainE, main_none, main_some, PartsE, parts_none, parts_some, BodyE}
 pub use Rattle.mq_ast.specs.GrammarModel.{body, TailE, tail, model_of, ModelE, model, MaybeModel, model_none, model_some, EndE, ending}
 pub use Rattle.mq_ast.specs.GrammarModel.{query_of, QueryE, query}
-pub use Rattle.mq_ast.specs.GrammarStatement.{col_of, NotNullE, null_may, null_not, ColE, col, NamesE, names, PrimaryE, primary_none}
-pub use Rattle.mq_ast.specs.GrammarStatement.{primary_some, MaybeNames, names_none, names_some, SetE, set, StmtE, stmt_create_table}
-pub use Rattle.mq_ast.specs.GrammarStatement.{stmt_drop_table, stmt_create_view, stmt_drop_view, stmt_insert, stmt_update, stmt_delete}
-pub use Rattle.mq_ast.specs.GrammarStatement.{stmt_load, stmt_show, stmt_query}
+pub use Rattle.mq_ast.specs.GrammarChange.{NamesE, names, MaybeNames, names_none, names_some, SetE, set, ChangeE, change_insert}
+pub use Rattle.mq_ast.specs.GrammarChange.{change_update, change_delete}
+pub use Rattle.mq_ast.specs.GrammarStatement.{col_of, NotNullE, null_may, null_not, ColE, col, PrimaryE, primary_none, primary_some}
+pub use Rattle.mq_ast.specs.GrammarStatement.{MaybePart, part_none, part_some, StmtE, stmt_create_table, stmt_drop_table}
+pub use Rattle.mq_ast.specs.GrammarStatement.{stmt_create_view, stmt_drop_view, stmt_change, stmt_load, stmt_show, stmt_query}
+pub use Rattle.mq_ast.specs.GrammarStatement.{stmt_begin, stmt_commit, stmt_rollback, stmt_create_scenario, stmt_drop_scenario}
+pub use Rattle.mq_ast.specs.GrammarStatement.{stmt_under, stmt_compare, stmt_explain}

@@ -1,7 +1,7 @@
 //! The trees of statements, queries and expressions, and the terminals of the grammar that reads them from tokens.
 //! Nothing goes in and nothing comes out: these are the types that the readers build and the binder takes.
-//! Which tree reads which tokens is the relation of specs/: `GrammarExpression`, `GrammarQuery`, `GrammarModel`, `GrammarRule`
-//! and `GrammarStatement`, which go on in `GrammarNames`, `GrammarLists` and `GrammarHead`.
+//! Which tree reads which tokens is the relation of specs/: `GrammarExpression`, `GrammarQuery`, `GrammarModel`, `GrammarRule`,
+//! `GrammarChange` and `GrammarStatement`, which go on in `GrammarNames`, `GrammarLists` and `GrammarHead`.
 #![tactic(auto)]
 
 pub mod clauses;
@@ -22,4 +22,4 @@ pub use queries::{
     ForList, FromItem, LeftPlace, LeftTree, ModelTree, Opt, OrderKey, Plain, Query, RefTree,
     RuleTree, Sel,
 };
-pub use statements::{ColDef, Stmt};
+pub use statements::{ChangeTree, ColDef, Stmt};

@@ -21,6 +21,45 @@ pub enum Stmt {
     DropView {
         name: Words,
     },
+    Change(ChangeTree),
+    Load {
+        name: Words,
+        file: Words,
+    },
+    Show {
+        name: Words,
+    },
+    Query(Query),
+    Begin,
+    Commit,
+    Rollback,
+    CreateScenario {
+        name: Words,
+    },
+    DropScenario {
+        name: Words,
+    },
+    /// A change that a scenario takes in.
+    Under {
+        scenario: Words,
+        change: ChangeTree,
+    },
+    Compare {
+        view: Words,
+        scenarios: Items<Words>,
+    },
+    /// Without PARTITION the list `part` is empty.
+    ExplainCell {
+        view: Words,
+        measure: Words,
+        part: Items<E>,
+        cell: Items<E>,
+    },
+}
+
+/// A change of the rows of a table.
+#[derive(Drop)]
+pub enum ChangeTree {
     Insert {
         name: Words,
         cols: Option<Items<Words>>,
@@ -35,14 +74,6 @@ pub enum Stmt {
         name: Words,
         filter: Option<E>,
     },
-    Load {
-        name: Words,
-        file: Words,
-    },
-    Show {
-        name: Words,
-    },
-    Query(Query),
 }
 
 /// A column of CREATE TABLE. A scale above 255 stands as 255.

@@ -8,6 +8,7 @@ mod changes;
 mod joins;
 mod looks;
 mod models;
+mod printing;
 mod reads;
 mod ready;
 mod rows;

@@ -3,7 +3,7 @@
 use crate::answers::add;
 use crate::scene::Scene;
 use crate::texts::{Read, unread};
-use crate::{changes, joins, looks, reads, runs, scripts, stores, values};
+use crate::{changes, joins, looks, printing, reads, runs, scripts, stores, values};
 use mq_values::{Fail, Memory};
 use std::alloc::Global;
 
@@ -31,7 +31,10 @@ fn told(alloc: Global, scene: &mut Scene, asked: &str, text: &str) -> Read<Vec<u
         "compared" => values::compared(alloc, text),
         "orders" => values::ordered(alloc, text),
         "found" => values::found(alloc, text),
-        "lines" => values::lines(alloc, text),
+        "lines" => printing::faults(alloc, text),
+        "refusals" => printing::refusals(alloc, text),
+        "scenario" => printing::scenarios(alloc, text),
+        "derivation" => printing::derivations(alloc, text),
         "tokens" => scripts::spelled(alloc, text),
         "aggregated" => reads::aggregated(alloc, text),
         "chosen" => reads::chosen(alloc, text),

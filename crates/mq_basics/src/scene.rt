@@ -40,6 +40,7 @@ impl Scene {
             catalog: Catalog {
                 tables: ByName::new(alloc),
                 views: ByName::new(alloc),
+                scenarios: ByName::new(alloc),
             },
             ways: Ways::new(alloc),
             front: String::new(alloc),

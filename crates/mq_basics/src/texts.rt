@@ -145,6 +145,7 @@ pub(crate) fn slot(alloc: Global, word: &str) -> Read<Slot> {
         "OVERFLOW" => Ok(Slot::Faulted(ValueFault::Overflow)),
         "DIVIDE_BY_ZERO" => Ok(Slot::Faulted(ValueFault::DivideByZero)),
         "TEXT_TOO_LONG" => Ok(Slot::Faulted(ValueFault::TextTooLong)),
+        "DATE_RANGE" => Ok(Slot::Faulted(ValueFault::DateRange)),
         _ => Ok(Slot::Done(value(alloc, word)?)),
     }
 }

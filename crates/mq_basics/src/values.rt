@@ -1,12 +1,8 @@
-//! How values print, compare and are found, and that their copies are the same; and lines with numbers at the edges.
+//! How values print, compare and are found, and that their copies are the same.
 
 use crate::answers::{add, add_bytes, add_if, add_number_or};
-use crate::texts::{Read, cut, key, keys, number_of, value};
-use mq_ir::Answer;
-use mq_render::{answer_text, refusal_text};
-use mq_values::{
-    Boxed, FaultKind, Items, Key, Memory, QueryFault, Refused, Words, cmp_sql, cmp_total, print,
-};
+use crate::texts::{Read, cut, key, keys, value};
+use mq_values::{Boxed, Items, Key, Memory, Words, cmp_sql, cmp_total, print};
 use std::alloc::Global;
 use std::cmp::Ordering;
 use std::collections::HashMap;
@@ -92,28 +88,5 @@ pub(crate) fn found(alloc: Global, text: &str) -> Read<Vec<u8>> {
     let one = key(alloc, one)?;
     let mut answer = Vec::new(alloc);
     add_number_or(map.get(&one).copied(), "none", &mut answer)?;
-    Ok(answer)
-}
-
-/// A number and two keys with tabs between them: a fault with this rule, partition and cell, and what LOAD is refused for with
-/// this line and row.
-pub(crate) fn lines(alloc: Global, text: &str) -> Read<Vec<u8>> {
-    let (number, rest) = cut(text, "\t")?;
-    let (partition, cell) = cut(rest, "\t")?;
-    let number = number_of(number)?;
-    let fault = QueryFault {
-        kind: FaultKind::SelfOrder,
-        rule: number,
-        partition: key(alloc, partition)?,
-        cell: key(alloc, cell)?,
-    };
-    let mut out = Vec::from_slice(alloc, b"> ")?;
-    answer_text(&Answer::Fault(fault), &mut out)?;
-    refusal_text(number, &Refused::NoFile, &mut out)?;
-    refusal_text(number, &Refused::FileTooLong, &mut out)?;
-    refusal_text(number, &Refused::LoadHeader, &mut out)?;
-    refusal_text(number, &Refused::LoadRow(number), &mut out)?;
-    let mut answer = Vec::new(alloc);
-    add_bytes(&out, &mut answer)?;
     Ok(answer)
 }

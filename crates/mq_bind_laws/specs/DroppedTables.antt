@@ -12,7 +12,11 @@ use Rattle.mq_binder.specs.QueryWalk.{query_bound}
 
 -- a catalog without the table of a name
 abbrev pub without_table : Catalog → Name → Catalog
-without_table catalog name = record { tables = filter (λ (t : TableEntry). not (is_name name t.name)) catalog.tables; views = catalog.views }
+without_table catalog name = record {
+  tables = filter (λ (t : TableEntry). not (is_name name t.name)) catalog.tables;
+  views = catalog.views;
+  scenarios = catalog.scenarios;
+}
 
 -- A query that is bound, and does not read the table of this name, is bound to the same without it.
 abbrev pub QueryOutlastsTable : Catalog → Name → Query → BoundQuery → Type 0

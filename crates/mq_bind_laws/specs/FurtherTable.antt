@@ -19,12 +19,12 @@ use Rattle.mq_binder.specs.StatementWalk.{statement_bound}
 
 -- a catalog with a further table, where CREATE TABLE puts it: behind the others
 abbrev pub with_table : Catalog → TableEntry → Catalog
-with_table catalog table = record { tables = catalog.tables ++ table ∷ []; views = catalog.views }
+with_table catalog table = record { tables = catalog.tables ++ table ∷ []; views = catalog.views; scenarios = catalog.scenarios }
 
 -- and with a further table at any place among the others
 abbrev pub with_table_at : ℕ → Catalog → TableEntry → Catalog
 with_table_at place catalog table =
-    record { tables = take place catalog.tables ++ table ∷ drop place catalog.tables; views = catalog.views }
+    record { tables = take place catalog.tables ++ table ∷ drop place catalog.tables; views = catalog.views; scenarios = catalog.scenarios }
 
 -- The answer stays as it was, unless it was that this name is unknown.
 abbrev pub StaysUnlessUnknown : {A : Type 0} → Name → Result A Refused → Result A Refused → Type 0
@@ -48,6 +48,7 @@ QueryStaysAnywhere place catalog table q =
 abbrev pub creates : Stmt → Bool
 creates (stmt.CreateTable name cols key) = true
 creates (stmt.CreateView name q) = true
+creates (stmt.CreateScenario name) = true
 creates _ = false
 
 -- Each other statement that is bound is bound to the same with a further table.
@@ -63,7 +64,14 @@ StatementStays catalog table s =
 abbrev pub ViewStays : Catalog → TableEntry → Name → Query → Type 0
 ViewStays catalog table name q =
     folded name ≢ table.name
-    → StaysUnlessUnknown table.name (statement_bound catalog (stmt.CreateView name q)) (statement_bound (with_table catalog table) (stmt.CreateView name q))
+    → StaysUnlessUnknown table.name
+    (statement_bound catalog (stmt.CreateView name q)) (statement_bound (with_table catalog table) (stmt.CreateView name q))
+
+-- CREATE SCENARIO of another name has the same answer.
+abbrev pub ScenarioStays : Catalog → TableEntry → Name → Type 0
+ScenarioStays catalog table name =
+    folded name ≢ table.name
+    → statement_bound (with_table catalog table) (stmt.CreateScenario name) ≡ statement_bound catalog (stmt.CreateScenario name)
 
 -- CREATE TABLE of another name has the same answer, where there is room for one more table.
 abbrev pub TableStays : Catalog → TableEntry → Name → List ColDef → List Name → Type 0

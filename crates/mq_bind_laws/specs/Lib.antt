@@ -1,7 +1,6 @@
 pub mod BoundViews
-pub mod Catalogs
+pub mod ColumnsWithin
 pub mod DroppedTables
-pub mod FitLaws
 pub mod FurtherTable
-pub mod Literals
+pub mod RefusedStatements
 pub mod StatementsBetween

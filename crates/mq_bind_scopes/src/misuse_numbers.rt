@@ -1,4 +1,4 @@
-//! The numbers under which a refusal names the misuses of grouped queries and MODEL clauses (docs/LANGUAGE.md, "Misuses").
+//! The numbers under which a refusal names the misuses of grouped queries, MODEL clauses and explained cells (docs/LANGUAGE.md, "Misuses").
 
 /// In a grouped query, a column outside an aggregate that GROUP BY does not name.
 pub const MISUSE_OF_UNGROUPED_COLUMN: u32 = 1;
@@ -41,3 +41,9 @@ pub const MISUSE_OF_ITEM_WITHOUT_NAME: u32 = 13;
 
 /// A measure of a reference where a measure of the main model has to stand.
 pub const MISUSE_OF_REFERENCE_MEASURE: u32 = 14;
+
+/// A cell to be explained of a view that is not in AUTOMATIC ORDER; one without MODEL is none either.
+pub const MISUSE_OF_EXPLAINED_VIEW: u32 = 15;
+
+/// A cell to be explained with another number of partition values than partition columns, or of values than dimensions.
+pub const MISUSE_OF_VALUE_COUNT: u32 = 16;

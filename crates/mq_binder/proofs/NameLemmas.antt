@@ -7,26 +7,35 @@ use Rattle.std.proofs.lemmas.Bool.{eqb-true}
 use Rattle.std.proofs.lemmas.List.Quantifiers.{position-Some}
 use Rattle.mq_lexer.specs.Words.{folded}
 use Rattle.mq_values.specs.declared.faults.Refused.{Refused}
+use Rattle.mq_values.specs.declared.limits.TheConstants.{MAX_COMPARED}
+use Rattle.mq_ast.specs.declared.expressions.E.{E}
 use Rattle.mq_ast.specs.declared.expressions.Path.{Path}
 use Rattle.mq_ast.specs.declared.queries.FromItem.{FromItem}
 use Rattle.mq_ast.specs.declared.queries.Sel.{Sel}
+use Rattle.mq_ast.specs.declared.statements.ChangeTree.{ChangeTree}
+use Rattle.mq_ast.specs.declared.statements.ChangeTree.TheVariants as tree
 use Rattle.mq_ast.specs.declared.statements.Stmt.{Stmt}
 use Rattle.mq_ast.specs.declared.statements.Stmt.TheVariants as stmt
 use Rattle.mq_ir.specs.declared.catalog.Catalog.{Catalog}
+use Rattle.mq_ir.specs.declared.limit_numbers.TheConstants.{LIMIT_OF_COMPARED}
 use Rattle.mq_ir.specs.declared.statement.Bound.TheVariants as bound
+use Rattle.mq_ir.specs.declared.statement.Change.{Change}
 use Rattle.mq_ir.specs.declared.statement.Column.{Column}
-use Rattle.mq_ir.specs.Results.{◌>>=◌}
+use Rattle.mq_ir.specs.Results.{◌>>=◌, each}
 use Rattle.mq_ir.specs.Tables.{is_name}
 use Rattle.mq_bind_scopes.specs.declared.scopes.Named.{Named}
 use Rattle.mq_bind_scopes.specs.declared.scopes.Position.{Position}
 use Rattle.mq_bind_scopes.specs.declared.scopes.RowColumn.{RowColumn}
 use Rattle.mq_bind_scopes.specs.declared.scopes.Scope.{Scope}
 use Rattle.mq_bind_expr.specs.Forms.{item_name, plain_path}
+use Rattle.mq_binder.specs.ChangeWalk.{delete_bound, insert_bound, update_bound}
 use Rattle.mq_binder.specs.FromWalk.{alias_of}
+use Rattle.mq_binder.specs.ListWalk.{limited}
 use Rattle.mq_bind_scopes.specs.Names.{Name, column_in, is_called, is_meant, item_called, item_seen, sole}
 use Rattle.mq_bind_scopes.specs.Refusals.{duplicate_name, refused_where, unknown_name}
-use Rattle.mq_binder.specs.StatementLaws.{AliasHidesColumn, AliasHidesTable, ColumnsByCapitals, PathsByCapitals, TablesByCapitals}
-use Rattle.mq_binder.specs.StatementWalk.{delete_bound, if_table, if_view, insert_bound, update_bound, view_bound}
+use Rattle.mq_binder.specs.ScenarioWalk.{comparison_bound, known_scenario, scenario_created, scenario_dropped, scenario_named, under_bound}
+use Rattle.mq_binder.specs.StatementLaws.{AliasHidesColumn, AliasHidesTable, ChangesByCapitals, ColumnsByCapitals, MeasuresByCapitals, PathsByCapitals, ScenariosByCapitals, TablesByCapitals}
+use Rattle.mq_binder.specs.StatementWalk.{explanation_bound, if_table, if_view, view_bound}
 use Rattle.mq_bind_expr.specs.Steps.{each_behind}
 use Rattle.mq_binder.specs.TableWalk.{column_called, new_column, table_bound}
 
@@ -66,17 +75,48 @@ named_alike columns taken (n ∷ ns) (o ∷ os) h =
 pub columns_by_capitals : (columns : List Column) (names others : List Name) → ColumnsByCapitals columns names others
 columns_by_capitals columns names others h = named_alike columns [] names others h
 
+pub changes_by_capitals : (catalog : Catalog) (c : ChangeTree) (a b : Name) → ChangesByCapitals catalog c a b
+changes_by_capitals catalog (tree.Insert old cols rows) a b h = ap (λ (n : Name). insert_bound catalog n cols rows) h
+changes_by_capitals catalog (tree.Update old sets filter) a b h = ap (λ (n : Name). update_bound catalog n sets filter) h
+changes_by_capitals catalog (tree.Delete old filter) a b h = ap (λ (n : Name). delete_bound catalog n filter) h
+
 pub tables_by_capitals : (catalog : Catalog) (s : Stmt) (a b : Name) → TablesByCapitals catalog s a b
 tables_by_capitals catalog (stmt.CreateTable old cols key) a b h = ap (λ (n : Name). table_bound catalog n cols key >>= (λ def. Ok (bound.CreateTable def))) h
 tables_by_capitals catalog (stmt.DropTable old) a b h = ap (λ (n : Name). if_table catalog n (bound.DropTable n)) h
 tables_by_capitals catalog (stmt.CreateView old q) a b h = ap (λ (n : Name). view_bound catalog n q) h
 tables_by_capitals catalog (stmt.DropView old) a b h = ap (λ (n : Name). if_view catalog n (bound.DropView n)) h
-tables_by_capitals catalog (stmt.Insert old cols rows) a b h = ap (λ (n : Name). insert_bound catalog n cols rows) h
-tables_by_capitals catalog (stmt.Update old sets filter) a b h = ap (λ (n : Name). update_bound catalog n sets filter) h
-tables_by_capitals catalog (stmt.Delete old filter) a b h = ap (λ (n : Name). delete_bound catalog n filter) h
+tables_by_capitals catalog (stmt.Change c) a b h =
+    ap (λ (r : Result Change Refused). r >>= (λ change. Ok (bound.Change change))) (changes_by_capitals catalog c a b h)
 tables_by_capitals catalog (stmt.Load old file) a b h = ap (λ (n : Name). if_table catalog n (bound.Load n file)) h
 tables_by_capitals catalog (stmt.Show old) a b h = ap (λ (n : Name). Ok (bound.Show n)) h
 tables_by_capitals catalog (stmt.Query q) a b h = refl
+tables_by_capitals catalog stmt.Begin a b h = refl
+tables_by_capitals catalog stmt.Commit a b h = refl
+tables_by_capitals catalog stmt.Rollback a b h = refl
+tables_by_capitals catalog (stmt.CreateScenario old) a b h = ap (λ (n : Name). scenario_created catalog n) h
+tables_by_capitals catalog (stmt.DropScenario old) a b h = ap (λ (n : Name). scenario_dropped catalog n) h
+tables_by_capitals catalog (stmt.Under old c) a b h = ap (λ (n : Name). under_bound catalog n c) h
+tables_by_capitals catalog (stmt.Compare old scenarios) a b h = ap (λ (n : Name). comparison_bound catalog n scenarios) h
+tables_by_capitals catalog (stmt.ExplainCell old measure part cell) a b h =
+    ap (λ (n : Name). explanation_bound catalog n (folded measure) part cell) h
+
+each_alike : (catalog : Catalog) (names others : List Name) → map folded names ≡ map folded others
+    → each (scenario_named catalog) names ≡ each (scenario_named catalog) others
+each_alike catalog [] [] h = refl
+each_alike catalog [] (o ∷ os) h = absurd cc
+each_alike catalog (n ∷ ns) [] h = absurd cc
+each_alike catalog (n ∷ ns) (o ∷ os) h =
+    let e : folded n ≡ folded o = ap (λ (l : List Name). get_or l 0 (folded o)) h in
+    let t : map folded ns ≡ map folded os = ap (λ (l : List Name). drop 1 l) h in
+    ap (λ (name : Name). known_scenario catalog name (Ok name) >>= (λ y. each (scenario_named catalog) ns >>= (λ ys. Ok (y ∷ ys)))) e
+    ∙ ap (λ (r : Result (List Name) Refused). scenario_named catalog o >>= (λ y. r >>= (λ ys. Ok (y ∷ ys)))) (each_alike catalog ns os t)
+
+pub scenarios_by_capitals : (catalog : Catalog) (names others : List Name) → ScenariosByCapitals catalog names others
+scenarios_by_capitals catalog names others h =
+    ap (λ (r : Result (List Name) Refused). r >>= limited MAX_COMPARED LIMIT_OF_COMPARED) (each_alike catalog names others h)
+
+pub measures_by_capitals : (catalog : Catalog) (view : Name) (part cell : List E) (a b : Name) → MeasuresByCapitals catalog view part cell a b
+measures_by_capitals catalog view part cell a b h = ap (λ (n : Name). explanation_bound catalog (folded view) n part cell) h
 
 -- names that are not the same
 name_is : (a b : Name) → is_name a b ≡ true → a ≡ b

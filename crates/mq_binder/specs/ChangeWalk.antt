@@ -1,11 +1,17 @@
--- INSERT, UPDATE and DELETE.
+-- INSERT, UPDATE and DELETE: changes of the rows of a table, whose name comes first.
 use Rattle.std.specs.Prelude.{ℕ, List, [], ◌∷◌, length, map, Bool, not, ◌==◌, Option, Some, None, Result, Ok, slice_set, slice_index_or}
 use Rattle.std.specs.List.{list_all, range_with_len, zip}
+use Rattle.mq_lexer.specs.Words.{folded}
 use Rattle.mq_values.specs.declared.faults.Refused.{Refused}
 use Rattle.mq_values.specs.declared.value.Value.TheVariants as value
 use Rattle.mq_ast.specs.declared.expressions.E.{E}
+use Rattle.mq_ast.specs.declared.statements.ChangeTree.{ChangeTree}
+use Rattle.mq_ast.specs.declared.statements.ChangeTree.TheVariants as tree
+use Rattle.mq_ir.specs.declared.catalog.Catalog.{Catalog}
 use Rattle.mq_ir.specs.declared.expression.Expr.{Expr}
 use Rattle.mq_ir.specs.declared.expression.Expr.TheVariants as expr
+use Rattle.mq_ir.specs.declared.statement.Change.{Change}
+use Rattle.mq_ir.specs.declared.statement.Change.TheVariants as change
 use Rattle.mq_ir.specs.declared.statement.Column.{Column}
 use Rattle.mq_ir.specs.declared.statement.Schema.{Schema}
 use Rattle.mq_ir.specs.Results.{◌>>=◌, each}
@@ -14,8 +20,8 @@ use Rattle.mq_bind_scopes.specs.declared.kinds.ExprKind.TheVariants as kind
 use Rattle.mq_bind_scopes.specs.declared.scopes.Found.{Found}
 use Rattle.mq_bind_scopes.specs.declared.scopes.Part.TheVariants as part
 use Rattle.mq_bind_scopes.specs.declared.scopes.Scope.{Scope}
-use Rattle.mq_bind_expr.specs.ExpressionWalk.{bound}
-use Rattle.mq_binder.specs.FromWalk.{columns_of_item, row_scope}
+use Rattle.mq_bind_expr.specs.ExpressionWalk.{bound, bound_filter}
+use Rattle.mq_binder.specs.FromWalk.{columns_of_item, row_scope, table_called}
 use Rattle.mq_bind_scopes.specs.Kinds.{is_assignable, of_column}
 use Rattle.mq_bind_scopes.specs.Names.{Name}
 use Rattle.mq_bind_expr.specs.OperatorNodes.{exprs_of}
@@ -72,3 +78,36 @@ set_bound schema scope taken s = new_column schema.cols taken s.0 >>= (λ n. set
 
 abbrev pub sets_bound : Schema → Scope → List (Name × E) → Result (List (ℕ × Expr)) Refused
 sets_bound schema scope = each_behind (set_bound schema scope) (λ (s : ℕ × Expr). s.0) []
+
+-- INSERT behind its table
+abbrev pub rows_inserted : Name → Schema → Option (List Name) → List (List E) → Result Change Refused
+rows_inserted table schema cols rows = rows_bound schema cols rows >>= (λ es. Ok (change.Insert table es))
+
+abbrev pub insert_bound : Catalog → Name → Option (List Name) → List (List E) → Result Change Refused
+insert_bound catalog table cols rows = table_called catalog table >>= (λ schema. rows_inserted table schema cols rows)
+
+-- UPDATE behind its table: SET, and then WHERE
+abbrev pub updated_where : Name → List (ℕ × Expr) → Option E → Scope → Result Change Refused
+updated_where table sets filter scope =
+    bound_filter scope (standing part.Row) filter >>= (λ condition. Ok (change.Update table sets condition))
+
+abbrev pub update_over : Name → Schema → List (Name × E) → Option E → Scope → Result Change Refused
+update_over table schema sets filter scope = sets_bound schema scope sets >>= (λ es. updated_where table es filter scope)
+
+abbrev pub update_bound : Catalog → Name → List (Name × E) → Option E → Result Change Refused
+update_bound catalog table sets filter =
+    table_called catalog table >>= (λ schema. update_over table schema sets filter (change_scope table schema))
+
+-- DELETE behind its table
+abbrev pub deleted_where : Name → Option E → Scope → Result Change Refused
+deleted_where table filter scope =
+    bound_filter scope (standing part.Row) filter >>= (λ condition. Ok (change.Delete table condition))
+
+abbrev pub delete_bound : Catalog → Name → Option E → Result Change Refused
+delete_bound catalog table filter = table_called catalog table >>= (λ schema. deleted_where table filter (change_scope table schema))
+
+-- What a change is bound to under a catalog, or its first offence: by itself, and where a scenario takes it in.
+abbrev pub change_bound : Catalog → ChangeTree → Result Change Refused
+change_bound catalog (tree.Insert name cols rows) = insert_bound catalog (folded name) cols rows
+change_bound catalog (tree.Update name sets filter) = update_bound catalog (folded name) sets filter
+change_bound catalog (tree.Delete name filter) = delete_bound catalog (folded name) filter

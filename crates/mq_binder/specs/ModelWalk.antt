@@ -66,8 +66,10 @@ rule_scope refs lists iterates = record {
 abbrev pub model_part : ModelTree → List ReferenceFound → Lists → Option Iterate → List Rule × List PlainPart → ModelPart
 model_part m refs lists iterate found = record {
   parts = length lists.parts;
+  part_kinds = list_kinds lists.parts;
   dims = list_kinds lists.dims;
   measures = list_kinds lists.measures;
+  names = list_names lists.measures;
   ignore_nav = ignores_nav m.main_opts (ignores_nav m.opts false);
   updated_only = m.updated_only;
   auto = m.auto;

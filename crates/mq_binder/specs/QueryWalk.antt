@@ -1,5 +1,5 @@
 -- A query: its rows, its MODEL clause or its items, what it prints, and its order.
-use Rattle.std.specs.Prelude.{ℕ, List, [], length, Bool, true, false, Option, Some, None, Result, Ok, position}
+use Rattle.std.specs.Prelude.{ℕ, List, length, Bool, true, false, Option, Some, None, Result, Ok, position}
 use Rattle.std.specs.List.{range_with_len}
 use Rattle.std.specs.Option.{ok_or, option_map_or}
 use Rattle.mq_lexer.specs.Words.{folded}

@@ -10,6 +10,8 @@ use Rattle.mq_ast.specs.declared.expressions.E.{E}
 use Rattle.mq_ast.specs.declared.expressions.Path.{Path}
 use Rattle.mq_ast.specs.declared.queries.FromItem.{FromItem}
 use Rattle.mq_ast.specs.declared.queries.Sel.{Sel}
+use Rattle.mq_ast.specs.declared.statements.ChangeTree.{ChangeTree}
+use Rattle.mq_ast.specs.declared.statements.ChangeTree.TheVariants as tree
 use Rattle.mq_ast.specs.declared.statements.Stmt.{Stmt}
 use Rattle.mq_ast.specs.declared.statements.Stmt.TheVariants as stmt
 use Rattle.mq_ir.specs.declared.catalog.Catalog.{Catalog}
@@ -22,9 +24,11 @@ use Rattle.mq_bind_scopes.specs.declared.scopes.RowColumn.{RowColumn}
 use Rattle.mq_bind_scopes.specs.declared.scopes.Scope.{Scope}
 use Rattle.mq_bind_expr.specs.ExpressionWalk.{bound, kind_of}
 use Rattle.mq_bind_expr.specs.Forms.{name_of, plain_path}
+use Rattle.mq_binder.specs.ChangeWalk.{change_bound}
 use Rattle.mq_binder.specs.FromWalk.{alias_of, row_scope}
 use Rattle.mq_bind_scopes.specs.Names.{Name, called, column_named}
 use Rattle.mq_bind_scopes.specs.Refusals.{unknown_name}
+use Rattle.mq_binder.specs.ScenarioWalk.{scenarios_named}
 use Rattle.mq_binder.specs.StatementWalk.{statement_bound}
 use Rattle.mq_binder.specs.TableWalk.{columns_named}
 
@@ -41,22 +45,47 @@ PathsByCapitals scope at a b = SamePath a b → column_named scope at a ≡ colu
 abbrev pub ColumnsByCapitals : List Column → List Name → List Name → Type 0
 ColumnsByCapitals columns names others = map folded names ≡ map folded others → columns_named columns names ≡ columns_named columns others
 
--- a statement with another name of its table or view
+-- a change with another name of its table
+abbrev pub change_renamed : Name → ChangeTree → ChangeTree
+change_renamed name (tree.Insert old cols rows) = tree.Insert name cols rows
+change_renamed name (tree.Update old sets filter) = tree.Update name sets filter
+change_renamed name (tree.Delete old filter) = tree.Delete name filter
+
+-- a statement with another name of what it makes, drops, changes, shows or explains: its table, view or scenario
 abbrev pub renamed : Name → Stmt → Stmt
 renamed name (stmt.CreateTable old cols key) = stmt.CreateTable name cols key
 renamed name (stmt.DropTable old) = stmt.DropTable name
 renamed name (stmt.CreateView old q) = stmt.CreateView name q
 renamed name (stmt.DropView old) = stmt.DropView name
-renamed name (stmt.Insert old cols rows) = stmt.Insert name cols rows
-renamed name (stmt.Update old sets filter) = stmt.Update name sets filter
-renamed name (stmt.Delete old filter) = stmt.Delete name filter
+renamed name (stmt.Change c) = stmt.Change (change_renamed name c)
 renamed name (stmt.Load old file) = stmt.Load name file
 renamed name (stmt.Show old) = stmt.Show name
 renamed name (stmt.Query q) = stmt.Query q
+renamed name stmt.Begin = stmt.Begin
+renamed name stmt.Commit = stmt.Commit
+renamed name stmt.Rollback = stmt.Rollback
+renamed name (stmt.CreateScenario old) = stmt.CreateScenario name
+renamed name (stmt.DropScenario old) = stmt.DropScenario name
+renamed name (stmt.Under old c) = stmt.Under name c
+renamed name (stmt.Compare old scenarios) = stmt.Compare name scenarios
+renamed name (stmt.ExplainCell old measure part cell) = stmt.ExplainCell name measure part cell
 
--- The name of a table or view is compared in capital letters.
+-- The name of a table, a view or a scenario is compared in capital letters.
 abbrev pub TablesByCapitals : Catalog → Stmt → Name → Name → Type 0
 TablesByCapitals catalog s a b = folded a ≡ folded b → statement_bound catalog (renamed a s) ≡ statement_bound catalog (renamed b s)
+
+-- So are the table of a change that a scenario takes in, the scenarios of a comparison, and the measure of an explained cell.
+abbrev pub ChangesByCapitals : Catalog → ChangeTree → Name → Name → Type 0
+ChangesByCapitals catalog c a b = folded a ≡ folded b → change_bound catalog (change_renamed a c) ≡ change_bound catalog (change_renamed b c)
+
+abbrev pub ScenariosByCapitals : Catalog → List Name → List Name → Type 0
+ScenariosByCapitals catalog names others =
+    map folded names ≡ map folded others → scenarios_named catalog names ≡ scenarios_named catalog others
+
+abbrev pub MeasuresByCapitals : Catalog → Name → List E → List E → Name → Name → Type 0
+MeasuresByCapitals catalog view part cell a b =
+    folded a ≡ folded b
+    → statement_bound catalog (stmt.ExplainCell view a part cell) ≡ statement_bound catalog (stmt.ExplainCell view b part cell)
 
 -- Over a FROM item with an alias the table's own name is unknown, where it is another one.
 abbrev pub AliasHidesTable : FromItem → Name → List RowColumn → Position → Name → Type 0

@@ -47,8 +47,8 @@ fn inserted_columns(
     }
 }
 
-// In a row that is inserted no column is known.
-fn no_columns(alloc: Global) -> Scope
+/// In a row that is inserted no column is known.
+pub fn no_columns(alloc: Global) -> Scope
     ensures { result ≡ spec.no_columns }
 {
     row_scope(alloc, Items::new(alloc), Items::new(alloc))

@@ -4,7 +4,10 @@
 #![tactic(auto)]
 
 mod bases;
+mod cells;
+mod change_trees;
 mod changes;
+mod fits;
 mod for_lists;
 mod found;
 mod laws;
@@ -15,10 +18,15 @@ mod plain;
 mod queries;
 mod references;
 mod rules;
+mod scenarios;
 mod sources;
 mod statements;
 mod tables;
 
+pub use fits::{
+    bases_fit, measures_are_named, plain_queries_fit, queries_fit, row_expressions_fit,
+    schemas_fit, statements_fit,
+};
 pub use found::{
     Base, LeftFound, LeftItemFound, ListFound, ListItem, Lists, ModelFound, PlainFound,
     ReferenceFound, RulesFound, Sources,

@@ -204,12 +204,14 @@ fn rule_scope(
     })
 }
 
-// The kinds of a model's columns, and its references.
+// The kinds of a model's columns, the names of its measures, and its references.
 #[derive(Drop)]
 struct ModelKinds {
     parts: u32,
+    part_kinds: Items<Kind>,
     dims: Items<Kind>,
     measures: Items<Kind>,
+    names: Items<Words>,
     refs: Items<RefPart>,
 }
 
@@ -230,19 +232,25 @@ fn model_kinds(
 ) -> Result<ModelKinds, Memory>
     ensures { IfOk result (λ kinds. kinds ≡ record {
       parts = length lists.now.parts;
+      part_kinds = listed.list_kinds lists.now.parts;
       dims = listed.list_kinds lists.now.dims;
       measures = listed.list_kinds lists.now.measures;
+      names = listed.list_names lists.now.measures;
       refs = map (λ (r : ReferenceOf). r.part) refs;
     }) }
 {
     let parts = number(lists.parts.len())?;
+    let part_kinds = list_kinds(alloc, lists.parts.as_slice())?;
     let dims = list_kinds(alloc, lists.dims.as_slice())?;
     let measures = list_kinds(alloc, lists.measures.as_slice())?;
+    let names = list_names(alloc, lists.measures.as_slice())?;
     let refs = reference_parts(alloc, refs)?;
     Ok(ModelKinds {
         parts,
+        part_kinds,
         dims,
         measures,
+        names,
         refs,
     })
 }
@@ -264,8 +272,10 @@ fn model_part(
 ) -> ModelPart
     ensures { result ≡ record {
       parts = kinds.parts;
+      part_kinds = kinds.part_kinds;
       dims = kinds.dims;
       measures = kinds.measures;
+      names = kinds.names;
       ignore_nav = options.ignores_nav m.now.main_opts (options.ignores_nav m.now.opts false);
       updated_only = m.now.updated_only;
       auto = m.now.auto;
@@ -277,8 +287,10 @@ fn model_part(
 {
     ModelPart {
         parts: kinds.parts,
+        part_kinds: kinds.part_kinds,
         dims: kinds.dims,
         measures: kinds.measures,
+        names: kinds.names,
         ignore_nav: nav_ignored(m),
         updated_only: m.updated_only,
         auto: m.auto,

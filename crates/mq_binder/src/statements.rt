@@ -5,19 +5,20 @@ ghost use Rattle.mq_lexer.specs.Words as words;
 ghost use Rattle.mq_values.specs.Answers.{Gives};
 ghost use Rattle.mq_ir.specs.Names as names;
 ghost use Rattle.mq_bind_scopes.specs.Refusals as refusals;
-ghost use Rattle.mq_binder.specs.ChangeWalk as changes;
+ghost use Rattle.mq_binder.specs.FitLaws.{AnswerFits};
 ghost use Rattle.mq_binder.specs.StatementParts as parts;
 ghost use Rattle.mq_binder.specs.StatementWalk as spec;
 
-use crate::changes::{change_scope, rows_bound, sets_bound};
+use crate::cells::explain;
+use crate::change_trees::change_bound;
 use crate::queries::query_bound;
+use crate::scenarios::{compare, create_scenario, drop_scenario, under};
 use crate::tables::{is_table, is_taken, table_bound};
-use mq_ast::{ColDef, E, Query, Stmt};
-use mq_bind_expr::{bound_filter, unboxed};
-use mq_bind_scopes::{Part, Scope, duplicate_name, limit, standing, unknown_name};
-use mq_ir::{Bound, Catalog, Change, Expr, LIMIT_OF_VIEWS, Schema};
+use mq_ast::{ChangeTree, ColDef, Query, Stmt};
+use mq_bind_scopes::{duplicate_name, limit, unknown_name};
+use mq_ir::{Bound, Catalog, LIMIT_OF_VIEWS};
 use mq_lexer::folded;
-use mq_values::{Fail, Items, MAX_VIEWS, Refused, Words};
+use mq_values::{Fail, MAX_VIEWS, Refused, Words};
 use std::alloc::Global;
 
 // The name of a table that is there.
@@ -120,125 +121,15 @@ fn create_view(
     view_bound(alloc, catalog, name, q)
 }
 
-fn insert_into(
-    alloc: Global,
-    name: Words,
-    schema: &Schema,
-    cols: &Option<Items<Words>>,
-    rows: &[Items<E>],
-) -> Result<Bound, Fail<Refused>>
-    ensures { Gives result (parts.rows_inserted name schema.now cols.now rows.now) }
-{
-    let rows = rows_bound(alloc, schema, cols, rows)?;
-    Ok(Bound::Change(Change::Insert { table: name, rows }))
-}
-
-// The table comes first.
-fn insert_bound(
+fn table_changed(
     alloc: Global,
     catalog: &Catalog,
-    name: &Words,
-    cols: &Option<Items<Words>>,
-    rows: &[Items<E>],
+    tree: &ChangeTree,
 ) -> Result<Bound, Fail<Refused>>
-    ensures { Gives result (spec.insert_bound catalog.now (words.folded name.now) cols.now rows.now) }
+    ensures { Gives result (parts.table_changed catalog.now tree.now) }
 {
-    let name = folded(alloc, name.as_str())?;
-    match catalog.table(name.as_str()) {
-        Some(schema) => insert_into(alloc, name, schema, cols, rows),
-        None => Err(unknown_name(name)),
-    }
-}
-
-fn update_where(
-    alloc: Global,
-    name: Words,
-    sets: Items<(u32, Expr)>,
-    filter: &Option<E>,
-    scope: &Scope,
-) -> Result<Bound, Fail<Refused>>
-    ensures { Gives result (parts.updated_where name sets filter.now scope.now) }
-{
-    let condition = bound_filter(alloc, scope, standing(Part::Row), filter)?;
-    Ok(Bound::Change(Change::Update {
-        table: name,
-        sets,
-        filter: unboxed(condition),
-    }))
-}
-
-fn update_over(
-    alloc: Global,
-    name: Words,
-    schema: &Schema,
-    sets: &[(Words, E)],
-    filter: &Option<E>,
-    scope: &Scope,
-) -> Result<Bound, Fail<Refused>>
-    ensures { Gives result (spec.update_over name schema.now sets.now filter.now scope.now) }
-{
-    let sets = sets_bound(alloc, schema, scope, sets)?;
-    update_where(alloc, name, sets, filter, scope)
-}
-
-fn update_of(
-    alloc: Global,
-    name: Words,
-    schema: &Schema,
-    sets: &[(Words, E)],
-    filter: &Option<E>,
-) -> Result<Bound, Fail<Refused>>
-    ensures { Gives result (spec.update_over name schema.now sets.now filter.now (changes.change_scope name schema.now)) }
-{
-    let scope = change_scope(alloc, name.copy()?, schema)?;
-    update_over(alloc, name, schema, sets, filter, &scope)
-}
-
-fn update_bound(
-    alloc: Global,
-    catalog: &Catalog,
-    name: &Words,
-    sets: &[(Words, E)],
-    filter: &Option<E>,
-) -> Result<Bound, Fail<Refused>>
-    ensures { Gives result (spec.update_bound catalog.now (words.folded name.now) sets.now filter.now) }
-{
-    let name = folded(alloc, name.as_str())?;
-    match catalog.table(name.as_str()) {
-        Some(schema) => update_of(alloc, name, schema, sets, filter),
-        None => Err(unknown_name(name)),
-    }
-}
-
-fn delete_of(
-    alloc: Global,
-    name: Words,
-    schema: &Schema,
-    filter: &Option<E>,
-) -> Result<Bound, Fail<Refused>>
-    ensures { Gives result (parts.deleted_where name filter.now (changes.change_scope name schema.now)) }
-{
-    let scope = change_scope(alloc, name.copy()?, schema)?;
-    let condition = bound_filter(alloc, &scope, standing(Part::Row), filter)?;
-    Ok(Bound::Change(Change::Delete {
-        table: name,
-        filter: unboxed(condition),
-    }))
-}
-
-fn delete_bound(
-    alloc: Global,
-    catalog: &Catalog,
-    name: &Words,
-    filter: &Option<E>,
-) -> Result<Bound, Fail<Refused>>
-    ensures { Gives result (spec.delete_bound catalog.now (words.folded name.now) filter.now) }
-{
-    let name = folded(alloc, name.as_str())?;
-    match catalog.table(name.as_str()) {
-        Some(schema) => delete_of(alloc, name, schema, filter),
-        None => Err(unknown_name(name)),
-    }
+    let change = change_bound(alloc, catalog, tree)?;
+    Ok(Bound::Change(change))
 }
 
 fn rows_of(alloc: Global, catalog: &Catalog, q: &Query) -> Result<Bound, Fail<Refused>>
@@ -248,9 +139,12 @@ fn rows_of(alloc: Global, catalog: &Catalog, q: &Query) -> Result<Bound, Fail<Re
     Ok(Bound::Query(b))
 }
 
-/// What a statement is bound to under a catalog. `UNKNOWN_NAME`, `DUPLICATE_NAME`, `KIND_MISMATCH`, `MODEL_FORM` or
-/// `LIMIT` comes where it has an offence, and it is the first that is met (docs/LANGUAGE.md, "The order of binding").
-pub fn bind(alloc: Global, catalog: &Catalog, statement: &Stmt) -> Result<Bound, Fail<Refused>>
+// What a statement is bound to.
+fn statement_bound(
+    alloc: Global,
+    catalog: &Catalog,
+    statement: &Stmt,
+) -> Result<Bound, Fail<Refused>>
     ensures { Gives result (spec.statement_bound catalog.now statement.now) }
 {
     match statement {
@@ -260,15 +154,40 @@ pub fn bind(alloc: Global, catalog: &Catalog, statement: &Stmt) -> Result<Bound,
         Stmt::DropTable { name } => drop_table(alloc, catalog, name),
         Stmt::CreateView { name, query } => create_view(alloc, catalog, name, query),
         Stmt::DropView { name } => drop_view(alloc, catalog, name),
-        Stmt::Insert { name, cols, rows } => {
-            insert_bound(alloc, catalog, name, cols, rows.as_slice())
-        }
-        Stmt::Update { name, sets, filter } => {
-            update_bound(alloc, catalog, name, sets.as_slice(), filter)
-        }
-        Stmt::Delete { name, filter } => delete_bound(alloc, catalog, name, filter),
+        Stmt::Change(tree) => table_changed(alloc, catalog, tree),
         Stmt::Load { name, file } => load(alloc, catalog, name, file),
         Stmt::Show { name } => show(alloc, name),
         Stmt::Query(q) => rows_of(alloc, catalog, q),
+        Stmt::Begin => Ok(Bound::Begin),
+        Stmt::Commit => Ok(Bound::Commit),
+        Stmt::Rollback => Ok(Bound::Rollback),
+        Stmt::CreateScenario { name } => create_scenario(alloc, catalog, name),
+        Stmt::DropScenario { name } => drop_scenario(alloc, catalog, name),
+        Stmt::Under { scenario, change } => under(alloc, catalog, scenario, change),
+        Stmt::Compare { view, scenarios } => compare(alloc, catalog, view, scenarios.as_slice()),
+        Stmt::ExplainCell {
+            view,
+            measure,
+            part,
+            cell,
+        } => explain(
+            alloc,
+            catalog,
+            view,
+            measure,
+            part.as_slice(),
+            cell.as_slice(),
+        ),
     }
+}
+
+/// What a statement is bound to under a catalog. `UNKNOWN_NAME`, `DUPLICATE_NAME`, `KIND_MISMATCH`, `MODEL_FORM` or
+/// `LIMIT` comes where it has an offence, and it is the first that is met (docs/LANGUAGE.md, "The order of binding").
+/// What it is bound to fits the catalog, where no column and no literal has a scale above the limit, and each model of a
+/// view has a name for each measure.
+pub fn bind(alloc: Global, catalog: &Catalog, statement: &Stmt) -> Result<Bound, Fail<Refused>>
+    ensures exact { Gives result (spec.statement_bound catalog.now statement.now) }
+    ensures fits { AnswerFits catalog.now statement.now result }
+{
+    statement_bound(alloc, catalog, statement)
 }

@@ -22,11 +22,11 @@ pub fn is_table(catalog: &Catalog, name: &Words) -> bool
     catalog.tables.has(name.as_str())
 }
 
-/// Whether there is a table or a view of this name.
+/// Whether there is a table, a view or a scenario of this name.
 pub fn is_taken(catalog: &Catalog, name: &Words) -> bool
     ensures { result ≡ names.is_taken catalog.now name.now }
 {
-    is_table(catalog, name) || catalog.is_view(name.as_str())
+    is_table(catalog, name) || catalog.is_view(name.as_str()) || catalog.is_scenario(name.as_str())
 }
 
 /// Whether the name is one of these.

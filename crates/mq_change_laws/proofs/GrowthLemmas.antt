@@ -1,82 +1,30 @@
 -- What holds of a shape as it grows, left side by left side.
-use Rattle.std.proofs.Common.{◌≡◌, ℕ, zero, suc, ◌+◌, ◌-◌, ◌<◌, ◌≤◌, Bool, true, false, not, ◌&&◌, ◌||◌, ◌==◌, List, [], ◌∷◌, ◌++◌, cond, length, map, Option, Some, None, IsSome, slice_get, Result, Ok, Err, refl, sym, ap, subst, ◌∙◌, arith}
+use Rattle.std.proofs.Common.{◌≡◌, Bool, true, false, not, ◌&&◌, ◌||◌, List, [], ◌∷◌, ◌++◌, cond, refl, sym, ap, subst, ◌∙◌, ℕ, zero, suc, ◌+◌, ◌-◌, ◌<◌, ◌≤◌, ◌==◌, length, map, Option, Some, None, IsSome, slice_get, Result, Ok, Err, arith}
 use Rattle.std.specs.Prelude.{if◌then◌else◌}
-use Rattle.std.specs.List.{enumerate_from, filter, find, list_any}
+use Rattle.std.specs.List.{filter, list_any, enumerate_from, find}
 use Rattle.std.specs.List.Sorted.{IsStrictlySortedBy}
-use Rattle.std.specs.Option.{option_map, option_map_or, option_or}
 use Rattle.std.specs.Ordering.{is_gt}
-use Rattle.std.proofs.lemmas.Bool.{and_from, and_left, or_parts, or_from, or_left, or_right, eqb-true, eq-eqb}
-use Rattle.mq_values.specs.Order.{cmp_key}
+use Rattle.std.proofs.lemmas.Bool.{or_parts, or_from, and_from, and_left, or_right, eqb-true, eq-eqb}
+use Rattle.std.specs.Option.{option_map, option_map_or, option_or}
 use Rattle.mq_values.specs.declared.faults.FaultKind.TheVariants as kind
-use Rattle.mq_values.specs.declared.operators.Mode.{Mode}
-use Rattle.mq_values.specs.declared.operators.Mode.TheVariants.{Update, Upsert, UpsertAll}
+use Rattle.mq_values.specs.Order.{cmp_key}
+use Rattle.mq_ir.specs.EachLaws.{Each, all_of, each_append, each_ascending, each_mapped, each_of}
+use Rattle.mq_ir.specs.Keys.{Tuple, is_among, is_same}
+use Rattle.mq_ir.specs.Partitions.{ascending, placed}
+use Rattle.mq_change_laws.specs.ReachLaws.{told_alike}
 use Rattle.mq_ir.specs.declared.query.PartShape.{PartShape}
 use Rattle.mq_ir.specs.declared.query.Rule.{Rule}
 use Rattle.mq_ir.specs.declared.query.SingleLeft.{SingleLeft}
-use Rattle.mq_ir.specs.EachLaws.{Each, all_of, each_append, each_ascending, each_mapped, each_of}
-use Rattle.mq_ir.specs.Keys.{Tuple, each_first, is_among, is_same}
-use Rattle.mq_ir.specs.Partitions.{ascending, placed}
 use Rattle.mq_ir.specs.Placed.{Placed, placed_fault}
 use Rattle.mq_ir.specs.Results.{◌>>=◌, each_in_turn, marked}
 use Rattle.mq_ir.specs.Shape.{Assignment, Growing, assigns, cmp_assignment, least_of, shape_over, shape_rule, shape_step}
-use Rattle.mq_ir.specs.Targets.{Targets, cmp_targets, is_symbolic, meets_left, meets_symbols, named, projected, targets, targets_in}
+use Rattle.mq_ir.specs.Targets.{Targets, targets}
 use Rattle.mq_ir.specs.Unfolding.{Model, unfold_rule}
 use Rattle.mq_change_laws.specs.CycleLaws.{least_none, none_kept}
-use Rattle.mq_change_laws.specs.ReachLaws.{told_alike}
 use Rattle.mq_change_laws.specs.ShapeLaws.{IsSound, ShapeIsSound}
-use Rattle.mq_change_laws.proofs.KeyLemmas.{Distinct, among_kept, any_append, any_ascending, any_placed, distinct_append, distinct_ascending, distinct_first, distinct_kept, same_itself, same_turned, strict_ascending, strict_distinct}
-
--- ---- a left side has each of its targets once
-targets_once : (left : SingleLeft) (mode : Mode) (set : List Tuple) → Distinct set → Distinct (targets left mode set).cells
-targets_once left mode set d = distinct_ascending (cmp_targets left) (targets_in left mode set) (by mode)
-  where
-    alone : Distinct (named left ∷ [])
-    alone = (refl, tt)
-
-    met : (b : Bool) → Distinct (if b then filter (meets_left left) set else named left ∷ [])
-    met true = distinct_kept (meets_left left) set d
-    met false = alone
-
-    crossed : (b : Bool) → Distinct (if b then each_first (map (projected left) (filter (meets_symbols left) set)) else named left ∷ [])
-    crossed true = distinct_first (map (projected left) (filter (meets_symbols left) set))
-    crossed false = alone
-
-    by : (m : Mode) → Distinct (targets_in left m set)
-    by Update = distinct_kept (meets_left left) set d
-    by Upsert = met (is_symbolic left)
-    by UpsertAll = crossed (is_symbolic left)
-
--- the created cells are not there yet
-created_apart : (set cells : List Tuple) → Each (λ q. is_among set q ≡ false) (filter (λ key. not (is_among set key)) cells)
-created_apart set [] = tt
-created_apart set (x ∷ xs) = by (is_among set x) refl (created_apart set xs)
-  where
-    by : (b : Bool) → is_among set x ≡ b → Each (λ q. is_among set q ≡ false) (filter (λ key. not (is_among set key)) xs)
-        → Each (λ q. is_among set q ≡ false) (cond (not b) (x ∷ filter (λ key. not (is_among set key)) xs) (filter (λ key. not (is_among set key)) xs))
-    by true e r = r
-    by false e r = (e, r)
-
--- each target is there, or is created
-there_or_created : (set cells : List Tuple) (q : Tuple) → is_among cells q ≡ true → (is_among (filter (λ key. not (is_among set key)) cells) q || is_among set q) ≡ true
-there_or_created set cells q h =
-    ap (λ b. b || is_among set q) (among_kept (λ key. not (is_among set key)) q cells ∙ ap (λ b. not (is_among set q) && b) h) ∙ either (is_among set q)
-  where
-    either : (b : Bool) → ((not b && true) || b) ≡ true
-    either true = refl
-    either false = refl
-
-each_itself : (cells : List Tuple) → Each (λ q. is_among cells q ≡ true) cells
-each_itself [] = tt
-each_itself (x ∷ xs) = (or_left (is_same x x) (is_among xs x) (same_itself x), each_more x xs xs (each_itself xs))
-  where
-    each_more : (x : Tuple) (all xs : List Tuple) → Each (λ q. is_among all q ≡ true) xs → Each (λ q. is_among (x ∷ all) q ≡ true) xs
-    each_more x all [] a = tt
-    each_more x all (y ∷ ys) a = (or_right (is_same y x) (is_among all y) a.0, each_more x all ys a.1)
-
--- what implies another on each item
-each_map : {X : Type 0} (P Q : X → Type 0) → ((x : X) → P x → Q x) → (xs : List X) → Each P xs → Each Q xs
-each_map P Q f [] a = tt
-each_map P Q f (x ∷ xs) a = (f x a.0, each_map P Q f xs a.1)
+use Rattle.mq_change_laws.specs.KeyLaws.{same_itself, same_turned, any_append, any_placed, any_ascending, each_itself, each_map}
+use Rattle.mq_change_laws.specs.OnceLaws.{Distinct, distinct_kept, distinct_append, targets_once, created_apart, there_or_created}
+use Rattle.mq_change_laws.specs.AscentLaws.{strict_distinct, strict_ascending}
 
 -- ---- assignments of which no measure of a cell is assigned twice
 abbrev Once : List Assignment → Type 0

@@ -1,5 +1,4 @@
 pub mod GrowthLemmas
-pub mod KeyLemmas
 pub mod LawLemmas
 pub mod SideLemmas
 pub mod StepLemmas

@@ -30,7 +30,8 @@ use Rattle.mq_ir.specs.Unfolding.{Model, test_of}
 use Rattle.mq_change_laws.specs.ChangeLaws.{SameLooksAreOne, StepsAlike}
 use Rattle.mq_change_laws.specs.NodeLaws.{looked, stepped}
 use Rattle.mq_change_laws.specs.SoundLaws.{same_is}
-use Rattle.mq_change_laws.proofs.KeyLemmas.{one_filter, same_itself}
+use Rattle.mq_change_laws.specs.AscentLaws.{one_filter}
+use Rattle.mq_change_laws.specs.KeyLaws.{same_itself}
 
 -- the step of a rule over two shapes that agree at its looks: the contract of `same_looks_make_the_same_step`
 abbrev pub StepsSame : Type 0

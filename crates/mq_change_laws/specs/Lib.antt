@@ -1,7 +1,10 @@
 pub mod ApartLaws
+pub mod AscentLaws
 pub mod ChangeLaws
 pub mod CycleLaws
+pub mod KeyLaws
 pub mod NodeLaws
+pub mod OnceLaws
 pub mod PoisonedLaws
 pub mod ReachLaws
 pub mod SettledLaws

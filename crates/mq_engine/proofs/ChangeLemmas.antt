@@ -1,5 +1,5 @@
--- What a change comes to where it is staged and committed.
-use Rattle.std.proofs.Common.{◌≡◌, ℕ, List, [], ◌∷◌, ◌++◌, true, false, map, Option, Some, None, Result, Ok, Err, length, refl, sym, ap, subst, ◌∙◌}
+-- A change where it is applied: it is the step of a session, and it keeps the names of the tables.
+use Rattle.std.proofs.Common.{◌≡◌, ℕ, List, [], ◌∷◌, ◌++◌, true, false, map, Option, Some, None, Result, Ok, Err, length, OnErr, refl, sym, ap, subst, ◌∙◌}
 use Rattle.std.specs.List.{enumerate_from}
 use Rattle.std.specs.Option.{ok_or}
 use Rattle.mq_values.specs.Answers.{Gives, result_map}
@@ -7,15 +7,18 @@ use Rattle.mq_values.specs.declared.faults.Refused.{Refused}
 use Rattle.mq_values.specs.declared.faults.Refused.TheVariants as refused
 use Rattle.mq_values.specs.declared.memory.Fail.{Fail}
 use Rattle.mq_values.specs.declared.memory.Fail.TheVariants as fail
+use Rattle.mq_ir.specs.declared.catalog.Catalog.{Catalog}
 use Rattle.mq_ir.specs.declared.statement.Change.{Change}
 use Rattle.mq_ir.specs.declared.statement.Change.TheVariants.{Insert, Append, Update, Delete}
 use Rattle.mq_ir.specs.Changes.{Changed, Visited, deleted_row, key_fault, rows_added, rows_changed, size_fault, table_of, updated_row, visited_as}
 use Rattle.mq_ir.specs.Lines.{Counted}
 use Rattle.mq_ir.specs.Results.{◌>>=◌, each}
-use Rattle.mq_ir.specs.Statement.{Printed, State, View, change_step, staged, unless_refused, with_rows}
+use Rattle.mq_ir.specs.Statement.{Printed, State, change_of_tables, change_step, staged, unless_refused, with_rows}
 use Rattle.mq_ir.specs.Tables.{Table, Tables, table_at}
 use Rattle.mq_tables.specs.InPlace.{applied}
-use Rattle.mq_tables.specs.Staging.{Staged, new_places, origins_of, place_unless_true, places_left, staging, stays}
+use Rattle.mq_tables.specs.Staging.{Staged, new_places, origins_of, place_unless_true, places_left, stays}
+use Rattle.mq_engine.specs.Catalogs.{entry_of_table, state_of}
+use Rattle.mq_engine.proofs.CatalogLemmas.{entries_changed}
 
 -- ---- where the rows can be made, their old places are known
 abbrev Is : {A : Type 0} → Result A Refused → Type 0
@@ -39,101 +42,81 @@ rows_are None (Ok c) keys changed h = (c, refl)
 rows_are None (Err e) keys changed h = absurd (cc)
 rows_are (Some e) r keys changed h = absurd (cc)
 
-abbrev pub whole : Tables → List View → State
-whole tables views = record { tables = tables; views = views }
+abbrev pub left : Tables → Catalog → ℕ → Printed
+left tables k count = (state_of tables k, Counted count ∷ [])
 
-abbrev pub counted : Tables → List View → ℕ → Result Printed Refused
-counted tables views count = Ok (whole tables views, Counted count ∷ [])
-
-module _ (state : State) (change : Change) where
-  staged_are : (table : Table) (changed : Changed) → staged state.tables table change ≡ Ok changed → Is (origins_of table change)
+module _ (tables : Tables) (change : Change) where
+  staged_are : (table : Table) (changed : Changed) → staged tables table change ≡ Ok changed → Is (origins_of table change)
   staged_are table changed h =
-      let rows = rows_are (size_fault state.tables table (rows_added change)) (rows_changed table change) (λ c. key_fault table.schema c.0) changed h in
+      let rows = rows_are (size_fault tables table (rows_added change)) (rows_changed table change) (λ c. key_fault table.schema c.0) changed h in
       origins_are table change rows.0 rows.1
 
-  -- ---- a change that was staged, and what comes of it
+  -- ---- what is staged and then committed is the change
   abbrev noted : Table → Changed → List (Option ℕ) → Staged
   noted table changed origins = record { table = table.name; had = length table.rows; rows = changed.0; counted = changed.1; origins = origins }
 
-  abbrev done : Staged → Result Printed Refused
-  done s = counted (with_rows state.tables s.table s.rows) state.views s.counted
+  abbrev put : Staged → Tables × ℕ
+  put s = (with_rows tables s.table s.rows, s.counted)
+
+  abbrev done : Table → Changed → Tables × ℕ
+  done table changed = (with_rows tables table.name changed.0, changed.1)
 
   abbrev stage_of : Table → Result Changed Refused → Result (List (Option ℕ)) Refused → Result Staged Refused
   stage_of table rows origins = rows >>= (λ changed. origins >>= (λ o. Ok (noted table changed o)))
 
-  abbrev step_of : Table → Result Changed Refused → Result Printed Refused
-  step_of table rows = rows >>= (λ changed. Ok (record state { tables = with_rows state.tables table.name changed.0 }, Counted changed.1 ∷ []))
+  abbrev change_of : Table → Result Changed Refused → Result (Tables × ℕ) Refused
+  change_of table rows = rows >>= (λ changed. Ok (done table changed))
 
-  rows_done : (table : Table) (rows : Result Changed Refused) (origins : Result (List (Option ℕ)) Refused) (s : Staged) → stage_of table rows origins ≡ Ok s → step_of table rows ≡ done s
-  rows_done table (Ok changed) (Ok o) s h = let q : noted table changed o ≡ s = cc in ap done q
-  rows_done table (Ok changed) (Err e) s h = absurd (cc)
-  rows_done table (Err e) origins s h = absurd (cc)
-
-  rows_fault : (table : Table) (rows : Result Changed Refused) (origins : Result (List (Option ℕ)) Refused) (e : Refused) → ((changed : Changed) → rows ≡ Ok changed → Is origins) → stage_of table rows origins ≡ Err e → step_of table rows ≡ Err e
-  rows_fault table (Ok changed) (Ok o) e k h = absurd (cc)
-  rows_fault table (Ok changed) (Err f) e k h = absurd (let w : Err f ≡ Ok (k changed refl).0 = (k changed refl).1 in cc)
-  rows_fault table (Err f) origins e k h = let q : f ≡ e = cc in ap Err q
+  rows_same : (table : Table) (rows : Result Changed Refused) (origins : Result (List (Option ℕ)) Refused) → ((changed : Changed) → rows ≡ Ok changed → Is origins)
+      → (stage_of table rows origins >>= (λ s. Ok (put s))) ≡ change_of table rows
+  rows_same table (Ok changed) (Ok o) k = refl
+  rows_same table (Ok changed) (Err f) k = absurd (let w : Err f ≡ Ok (k changed refl).0 = (k changed refl).1 in cc)
+  rows_same table (Err f) origins k = refl
 
   abbrev unknown : Refused
   unknown = refused.UnknownName (table_of change)
 
-  table_done : (o : Option Table) (s : Staged) → (ok_or o unknown >>= (λ table. stage_of table (staged state.tables table change) (origins_of table change))) ≡ Ok s
-      → (ok_or o unknown >>= (λ table. step_of table (staged state.tables table change))) ≡ done s
-  table_done None s h = absurd (cc)
-  table_done (Some table) s h = rows_done table (staged state.tables table change) (origins_of table change) s h
+  table_same : (o : Option Table)
+      → ((ok_or o unknown >>= (λ table. stage_of table (staged tables table change) (origins_of table change))) >>= (λ s. Ok (put s)))
+      ≡ (ok_or o unknown >>= (λ table. change_of table (staged tables table change)))
+  table_same None = refl
+  table_same (Some table) = rows_same table (staged tables table change) (origins_of table change) (staged_are table)
 
-  table_fault : (o : Option Table) (e : Refused) → (ok_or o unknown >>= (λ table. stage_of table (staged state.tables table change) (origins_of table change))) ≡ Err e
-      → (ok_or o unknown >>= (λ table. step_of table (staged state.tables table change))) ≡ Err e
-  table_fault None e h = let q : unknown ≡ e = cc in ap Err q
-  table_fault (Some table) e h = rows_fault table (staged state.tables table change) (origins_of table change) e (staged_are table) h
+  applied_is : applied tables change ≡ change_of_tables tables change
+  applied_is = table_same (table_at tables (table_of change))
 
-  pub change_done : (s : Staged) → staging state.tables change ≡ Ok s → change_step state change ≡ done s
-  change_done s h = table_done (table_at state.tables (table_of change)) s h
+  changed_as : (r : Result ℕ (Fail Refused)) (after : Tables) → Gives (result_map (λ count. (after, count)) r) (applied tables change)
+      → Gives {T = Tables × ℕ} (result_map (λ count. (after, count)) r) (change_of_tables tables change)
+  changed_as r after h = subst (Gives {T = Tables × ℕ} (result_map (λ count. (after, count)) r)) applied_is h
 
-  pub change_refused : (e : Fail Refused) → Gives {T = Staged} (Err e) (staging state.tables change) → Gives {T = Printed} (Err e) (change_step state change)
-  change_refused (fail.Cause e) h = table_fault (table_at state.tables (table_of change)) e h
-  change_refused fail.Memory h = tt
+  -- ---- so an applied change is the step of a session
+  abbrev printed : Catalog → Tables × ℕ → Printed
+  printed k changed = (record (state_of tables k) { tables = changed.0 }, Counted changed.1 ∷ [])
 
--- ---- what is applied is what is staged and then committed
-module _ (put : Staged → Tables) where
-  abbrev after_staging : Result Staged Refused → Result (Tables × ℕ) Refused
-  after_staging r = r >>= (λ s. Ok (put s, s.counted))
+  printed_as : (k : Catalog) (r : Result ℕ (Fail Refused)) (after : Tables) → Gives {T = Tables × ℕ} (result_map (λ count. (after, count)) r) (change_of_tables tables change)
+      → Gives {T = Printed} (result_map (left after k) r) (change_step (state_of tables k) change)
+  printed_as k (Ok count) after h = ap (λ (m : Result (Tables × ℕ) Refused). m >>= (λ changed. Ok (printed k changed))) h
+  printed_as k (Err (fail.Cause e)) after h = ap (λ (m : Result (Tables × ℕ) Refused). m >>= (λ changed. Ok (printed k changed))) h
+  printed_as k (Err fail.Memory) after h = tt
 
-  was_staged : (r : Result Staged Refused) (after : Tables) (count : ℕ) → after_staging r ≡ Ok (after, count)
-      → (s : Staged) × (r ≡ Ok s) × (after ≡ put s) × (count ≡ s.counted)
-  was_staged (Ok s) after count h = let w : (put s, s.counted) ≡ (after, count) = cc in (s, refl, sym (ap (λ (it : Tables × ℕ). it.0) w), sym (ap (λ (it : Tables × ℕ). it.1) w))
-  was_staged (Err e) after count h = absurd (cc)
+  pub step_is : (k : Catalog) (state : State) → state_of tables k ≡ state → (r : Result ℕ (Fail Refused)) (after : Tables)
+      → Gives (result_map (λ count. (after, count)) r) (applied tables change) → Gives {T = Printed} (result_map (left after k) r) (change_step state change)
+  step_is k state is r after h =
+      subst (λ (s : State). Gives {T = Printed} (result_map (left after k) r) (change_step s change)) is (printed_as k r after (changed_as r after h))
 
-  was_refused : (r : Result Staged Refused) (e : Fail Refused) → Gives {T = Tables × ℕ} (Err e) (after_staging r) → Gives {T = Staged} (Err e) r
-  was_refused (Ok s) (fail.Cause e) h = absurd (cc)
-  was_refused (Err f) (fail.Cause e) h = let q : f ≡ e = cc in ap Err q
-  was_refused r fail.Memory h = tt
+  -- ---- and the names stay
+  rows_put : (table : Table) (rows : Result Changed Refused) (after : Tables) (count : ℕ) → change_of table rows ≡ Ok (after, count) → map entry_of_table after ≡ map entry_of_table tables
+  rows_put table (Ok changed) after count h =
+      let w : done table changed ≡ (after, count) = cc in
+      ap (map entry_of_table) (sym (ap (λ (it : Tables × ℕ). it.0) w)) ∙ entries_changed tables table.name changed.0
+  rows_put table (Err e) after count h = absurd (cc)
 
-abbrev put_in : Tables → Staged → Tables
-put_in tables s = with_rows tables s.table s.rows
+  table_put : (o : Option Table) (after : Tables) (count : ℕ) → (ok_or o unknown >>= (λ table. change_of table (staged tables table change))) ≡ Ok (after, count)
+      → map entry_of_table after ≡ map entry_of_table tables
+  table_put None after count h = absurd (cc)
+  table_put (Some table) after count h = rows_put table (staged tables table change) after count h
 
-pub rows_are_put : (tables : Tables) (change : Change) (after : Tables) (count : ℕ) → applied tables change ≡ Ok (after, count) → (s : Staged) × (after ≡ put_in tables s)
-rows_are_put tables change after count h = let w = was_staged (put_in tables) (staging tables change) after count h in (w.0, w.2)
-
--- ---- the same where the state is told by its parts
-module _ (tables : Tables) (views : List View) (state : State) (is : whole tables views ≡ state) (change : Change) where
-  committed : (s : Staged) (after : Tables) (count : ℕ) → staging tables change ≡ Ok s → after ≡ with_rows tables s.table s.rows → count ≡ s.counted
-      → change_step state change ≡ counted after views count
-  committed s after count h a k =
-      subst (λ (st : State). change_step st change ≡ counted after views count) is
-      (change_done (whole tables views) change s h ∙ ap (λ (ts : Tables). counted ts views s.counted) (sym a) ∙ ap (counted after views) (sym k))
-
-  applied_as : (after : Tables) (count : ℕ) → applied tables change ≡ Ok (after, count) → change_step state change ≡ counted after views count
-  applied_as after count h = let w = was_staged (put_in tables) (staging tables change) after count h in committed w.0 after count w.1 w.2 w.3
-
-  refused_by : (e : Fail Refused) → Gives {T = Staged} (Err e) (staging tables change) → Gives {T = Printed} (Err e) (change_step state change)
-  refused_by e h = subst (λ (st : State). Gives {T = Printed} (Err e) (change_step st change)) is (change_refused (whole tables views) change e h)
-
-  refused_as : (e : Fail Refused) → Gives {T = Tables × ℕ} (Err e) (applied tables change) → Gives {T = Printed} (Err e) (change_step state change)
-  refused_as e h = refused_by e (was_refused (put_in tables) (staging tables change) e h)
-
-  -- so an applied change is the step of a session
-  pub step_is : (r : Result ℕ (Fail Refused)) (after : Tables) → Gives (result_map (λ count. (after, count)) r) (applied tables change)
-      → Gives {T = Printed} (result_map (λ count. (whole after views, Counted count ∷ [])) r) (change_step state change)
-  step_is (Ok count) after h = applied_as after count h
-  step_is (Err e) after h = refused_as e h
+  pub names_stay : (r : Result ℕ (Fail Refused)) (after : Tables) → Gives (result_map (λ count. (after, count)) r) (applied tables change) → OnErr r (after ≡ tables)
+      → map entry_of_table after ≡ map entry_of_table tables
+  names_stay (Ok count) after h e = table_put (table_at tables (table_of change)) after count (changed_as (Ok count) after h)
+  names_stay (Err cause) after h e = ap (map entry_of_table) e

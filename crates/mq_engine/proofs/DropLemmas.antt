@@ -1,43 +1,51 @@
--- What comes of dropping a table, by the entries of the catalog.
-use Rattle.std.proofs.Common.{◌≡◌, ℕ, List, [], ◌∷◌, not, map, Option, Some, None, Result, Ok, Err, sym, ap, subst, ◌∙◌}
-use Rattle.std.specs.List.{filter, find}
-use Rattle.std.specs.Option.{option_map}
+-- What comes of dropping a table.
+use Rattle.std.proofs.Common.{◌≡◌, ℕ, List, [], ◌∷◌, not, Option, Some, None, Result, Ok, Err, refl, sym, ap, subst, ◌∙◌}
+use Rattle.std.specs.List.{filter}
+use Rattle.std.specs.Option.{option_map, option_map_or}
 use Rattle.mq_values.specs.declared.faults.Refused.{Refused}
 use Rattle.mq_values.specs.declared.faults.Refused.TheVariants as refused
 use Rattle.mq_ir.specs.declared.catalog.Catalog.{Catalog}
-use Rattle.mq_ir.specs.declared.catalog.ViewEntry.{ViewEntry}
+use Rattle.mq_ir.specs.declared.catalog.Scenario.{Scenario}
+use Rattle.mq_ir.specs.declared.catalog.View.{View}
 use Rattle.mq_ir.specs.Lines.{Done}
-use Rattle.mq_ir.specs.Statement.{Printed, State, View, drop_table, first_reader, unless_refused}
+use Rattle.mq_ir.specs.Statement.{Printed, State, drop_table, first_changer, first_reader, unless_refused, use_of}
 use Rattle.mq_ir.specs.Tables.{Table, Tables, is_name}
-use Rattle.mq_engine.specs.Catalogs.{catalog_from, entry_of_view, entry_reads}
-use Rattle.mq_engine.proofs.CatalogLemmas.{in_use, unused}
-use Rattle.mq_engine.proofs.ChangeLemmas.{whole}
+use Rattle.mq_engine.specs.Catalogs.{state_of, user_of}
 
-module _ (k : Catalog) (tables : Tables) (views : List View) (state : State) (is : whole tables views ≡ state) (same : k ≡ catalog_from tables views) (table : List ℕ) where
+module _ (tables : Tables) (k : Catalog) (state : State) (is : state_of tables k ≡ state) (table : List ℕ) where
   abbrev others : Tables
   others = filter (λ (t : Table). not (is_name table t.name)) tables
 
   abbrev left : Tables → Result Printed Refused
-  left after = Ok (whole after views, Done ∷ [])
+  left after = Ok (state_of after k, Done ∷ [])
 
-  entries : k.views ≡ map entry_of_view views
-  entries = ap (λ (c : Catalog). c.views) same
+  -- the refusal has the name of what uses the table
+  use_is : use_of (state_of tables k) table ≡ option_map refused.InUse (user_of k table)
+  use_is = by (first_reader k.views table) (first_changer k.scenarios table)
+    where
+      by : (reader : Option View) (changer : Option Scenario)
+          → option_map_or (λ (view : View). Some (refused.InUse view.name)) reader (option_map (λ (s : Scenario). refused.InUse s.name) changer)
+          ≡ option_map refused.InUse (option_map_or (λ (view : View). Some view.name) reader (option_map (λ (s : Scenario). s.name) changer))
+      by (Some view) changer = refl
+      by None (Some s) = refl
+      by None None = refl
 
-  pub drop_refused : (entry : ViewEntry) → Some entry ≡ find (entry_reads table) k.views → drop_table state table ≡ Err (refused.InUse entry.name)
-  drop_refused entry h =
-      subst (λ (s : State). drop_table s table ≡ Err (refused.InUse entry.name)) is
-      (in_use views k.views entries table (left others) entry h)
+  drop_is : (user : Option (List ℕ)) → user ≡ user_of k table → drop_table state table ≡ unless_refused (option_map refused.InUse user) (left others)
+  drop_is user h =
+      subst (λ (s : State). drop_table s table ≡ unless_refused (option_map refused.InUse user) (left others)) is
+      (ap (λ (o : Option Refused). unless_refused o (left others)) (use_is ∙ ap (option_map refused.InUse) (sym h)))
 
-  pub dropped : (after : Tables) → None ≡ find (entry_reads table) k.views → after ≡ others → drop_table state table ≡ left after
-  dropped after h a =
-      subst (λ (s : State). drop_table s table ≡ left after) is
-      (unused views k.views entries table (left others) h ∙ ap left (sym a))
+  -- a table that something uses, and one that nothing uses
+  pub drop_refused : (user : List ℕ) → Some user ≡ user_of k table → drop_table state table ≡ Err (refused.InUse user)
+  drop_refused user h = drop_is (Some user) h
 
--- a table that no view reads is not refused
-pub not_refused : (state : State) (table : List ℕ) (r : Refused) → drop_table state table ≡ Err r → first_reader state.views table ≡ None → ⊥
+  pub dropped : (after : Tables) → None ≡ user_of k table → after ≡ others → drop_table state table ≡ left after
+  dropped after h a = drop_is None h ∙ ap left (sym a)
+
+-- a table that nothing uses is not refused
+pub not_refused : (state : State) (table : List ℕ) (r : Refused) → drop_table state table ≡ Err r → use_of state table ≡ None → ⊥
 not_refused state table r e none =
     let done : Printed = (record state { tables = filter (λ (t : Table). not (is_name table t.name)) state.tables }, Done ∷ []) in
-    let d : drop_table state table ≡ Ok done =
-    ap (λ (o : Option View). unless_refused (option_map (λ (view : View). refused.InUse view.name) o) (Ok done)) none in
+    let d : drop_table state table ≡ Ok done = ap (λ (o : Option Refused). unless_refused o (Ok done)) none in
     let clash : Ok done ≡ Err r = sym d ∙ e in
     absurd cc

@@ -12,3 +12,4 @@ pub mod ReadyLemmas
 pub mod RowLemmas
 pub mod StateLemmas
 pub mod TurnLemmas
+pub mod UseLemmas

@@ -1,7 +1,6 @@
 //! The calls of a session.
-ghost use Rattle.std.specs.Prelude.{◌≡◌, ◌≤◌, ◌∷◌, [], None, false, Ok, IfOk, OnOk, OnErr, IsErrOf};
+ghost use Rattle.std.specs.Prelude.{◌≡◌, ◌≤◌, ◌∷◌, [], None, false, is_some, IfOk, OnOk, OnErr, IsErrOf};
 ghost use Rattle.mq_values.specs.Answers.{Gives, result_map};
-ghost use Rattle.mq_ir.specs.declared.statement.Bound.TheVariants as bound;
 ghost use Rattle.mq_ir.specs.Answer.{answer_of};
 ghost use Rattle.mq_ir.specs.Lines.{Counted, Done};
 ghost use Rattle.mq_ir.specs.Names.{is_view};
@@ -11,11 +10,12 @@ ghost use Rattle.mq_engine.specs.Catalogs.{catalog_of};
 ghost use Rattle.mq_ir.specs.Ready.{QueryIsReady};
 ghost use Rattle.mq_engine.specs.Sessions.{nothing, view_answer};
 
-use crate::catalogs::{first_reader, table_entry, view_entry};
+use crate::catalogs::table_entry;
 use crate::queries::answer_over;
-use crate::views::{NoView, View};
+use crate::uses::user_of;
+use crate::views::NoView;
 use mq_io::Gate;
-use mq_ir::{Answer, BoundQuery, ByName, Catalog, Change, TableDef};
+use mq_ir::{Answer, BoundQuery, ByName, Catalog, Change, TableDef, View};
 use mq_tables::Tables;
 use mq_values::{Fail, Memory, Refused, Words};
 use std::alloc::Global;
@@ -24,62 +24,71 @@ use std::marker::Model;
 /// How many workers there may be.
 pub const MAX_WORKERS: u32 = 64;
 
-/// The tables and views of a session. Contracts see it as the `State` of mq_ir's `specs/Statement`: the tables with their
-/// rows and the views with their queries, each in order of creation.
+/// The tables, views and scenarios of a session. Contracts see it as the `State` of mq_ir's `specs/Statement`: the tables
+/// with their rows, the views with their queries and the scenarios with their changes, each in order of creation.
 #[derive(Drop)]
 pub struct Engine {
     tables: Tables,
-    views: ByName<View>,
     catalog: Catalog,
 }
 
 impl Model for Engine {
-    ghost use Rattle.std.specs.Prelude.{◌≡◌};
+    ghost use Rattle.std.specs.Prelude.{◌≡◌, map};
     ghost use Rattle.std.specs.Coded.{codes};
     ghost use Rattle.std.specs.List.{All};
     ghost use Rattle.mq_ir.specs.contracts.expression.Expr as expr;
     ghost use Rattle.mq_ir.specs.contracts.expression.Test as test;
-    ghost use Rattle.mq_ir.specs.Statement.{State};
-    ghost use Rattle.mq_engine.specs.Catalogs.{catalog_from};
     ghost use Rattle.mq_ir.specs.Ready.{QueryIsReady};
+    ghost use Rattle.mq_ir.specs.Statement.{State};
+    ghost use Rattle.mq_engine.specs.Catalogs.{entry_of_table, state_of};
 
     ghost Value = { State };
 
     ghost coded = { Prim.hlevel (codes, expr.the_row.coded, test.the_row.coded) };
 
-    ghost view = { λ e. record { tables = e.tables; views = e.views } };
+    ghost view = { λ e. state_of e.tables e.catalog };
 
-    ghost invariant = { λ e. (e.catalog ≡ catalog_from e.tables e.views) × All (λ v. QueryIsReady v.query) e.views };
+    ghost invariant = { λ e. (e.catalog.tables ≡ map entry_of_table e.tables) × All (λ v. QueryIsReady v.query) e.catalog.views };
 }
 
 impl Engine {
-    /// No table and no view. It takes no memory. Answers are worked out on one thread so far, whatever the number of
-    /// workers.
+    /// No table, no view and no scenario. It takes no memory. Answers are worked out on one thread so far, whatever the
+    /// number of workers.
     pub fn new(alloc: Global, _workers: u32) -> Engine
         requires { (1 ≤ _workers) × (_workers ≤ MAX_WORKERS) }
         ensures { result ≡ nothing }
     {
         Engine {
             tables: Tables::new(alloc),
-            views: ByName::new(alloc),
             catalog: Catalog {
                 tables: ByName::new(alloc),
                 views: ByName::new(alloc),
+                scenarios: ByName::new(alloc),
             },
         }
     }
 
-    /// The names of the tables and views, under which statements are bound.
+    /// The names under which statements are bound, with what they stand for.
     pub fn catalog(&self) -> &Catalog
         ensures { result.now ≡ catalog_of self.now }
     {
         &self.catalog
     }
 
+    /// Whether a block is there. So far none is: BEGIN is not done yet.
+    pub fn in_block(&self) -> bool
+        ensures there { result ≡ is_some self.now.block }
+        ensures none { self.now.block ≡ None }
+    {
+        // The proof sees what stands here where it is looked at.
+        let _ = &self.tables;
+        false
+    }
+
     /// Adds a table whose name no other has: it is the last, and has no rows. After `Memory` nothing is changed.
     pub fn create_table(&mut self, alloc: Global, t: TableDef) -> Result<(), Memory>
         requires { table_at self.old.tables t.name ≡ None }
-        ensures ok { OnOk result ((files : spec.Files) → spec.taken files self.old (bound.CreateTable t) ≡ Ok (self.new, Done ∷ [])) }
+        ensures ok { OnOk result (self.new ≡ spec.create_table self.old t) }
         ensures err { OnErr result (self.new ≡ self.old) }
     {
         let name = t.name.copy()?;
@@ -94,7 +103,7 @@ impl Engine {
         }
     }
 
-    /// Adds a view whose name no other has, and whose query is ready (`specs/Queries`): it is the last. A fault of its query
+    /// Adds a view whose name no other has, and whose query is ready (mq_ir's `specs/Ready`): it is the last. A fault of its query
     /// is no reason to refuse it, but its answer. After `Memory` nothing is changed.
     pub fn create_view<G: Gate>(
         &mut self,
@@ -105,30 +114,22 @@ impl Engine {
     ) -> Result<(), Memory>
         requires named { is_view (catalog_of self.old) name.now ≡ false }
         requires ready { QueryIsReady q }
-        ensures ok { OnOk result ((files : spec.Files) → spec.taken files self.old (bound.CreateView name.now q) ≡ Ok (self.new, Done ∷ [])) }
+        ensures ok { OnOk result (self.new ≡ spec.create_view self.old name.now q) }
         ensures err { OnErr result (self.new ≡ self.old) }
     {
-        let words = Words::new(alloc, name)?;
-        let entry = view_entry(alloc, words.copy()?, &q)?;
-        self.views.put(View::new(words, q))?;
-        match self.catalog.views.put(entry) {
-            Ok(()) => Ok(()),
-            Err(wanted) => {
-                self.views.remove(name);
-                Err(wanted)
-            }
-        }
+        let name = Words::new(alloc, name)?;
+        self.catalog.views.put(View { name, query: q })
     }
 
-    /// Drops the table of this name, or refuses it with the first view that reads it; then nothing is changed. `Memory`
-    /// comes only there, for the name of that view.
+    /// Drops the table of this name, or refuses it with the first view that reads it, or else with the first scenario that
+    /// changes it; then nothing is changed. `Memory` comes only there, for the name of that view or scenario.
     pub fn drop_table(&mut self, name: &str) -> Result<(), Fail<Refused>>
         ensures exact { Gives (result_map (λ _. (self.new, Done ∷ [])) result) (spec.drop_table self.old name.now) }
         ensures err { OnErr result (self.new ≡ self.old) }
-        ensures memory { spec.first_reader self.old.views name.now ≡ None → ¬ IsErrOf result Fail.Memory }
+        ensures memory { spec.use_of self.old name.now ≡ None → ¬ IsErrOf result Fail.Memory }
     {
-        if let Some(view) = first_reader(self.catalog.views.as_slice(), name) {
-            return Err(Fail::Cause(Refused::InUse(view.name.copy()?)));
+        if let Some(user) = user_of(&self.catalog, name) {
+            return Err(Fail::Cause(Refused::InUse(user.copy()?)));
         }
         self.tables.remove(name);
         self.catalog.tables.remove(name);
@@ -137,9 +138,8 @@ impl Engine {
 
     /// Drops the view of this name. It takes no memory.
     pub fn drop_view(&mut self, name: &str)
-        ensures { (files : spec.Files) → spec.taken files self.old (bound.DropView name.now) ≡ Ok (self.new, Done ∷ []) }
+        ensures { self.new ≡ spec.drop_view self.old name.now }
     {
-        self.views.remove(name);
         self.catalog.views.remove(name);
     }
 
@@ -168,15 +168,15 @@ impl Engine {
         ensures exact { Gives result (view_answer self.old view.now) }
         ensures same { self.new ≡ self.old }
     {
-        match self.views.get(view) {
-            Some(found) => Ok(answer_over(alloc, &self.tables, found.query())?),
+        match self.catalog.views.get(view) {
+            Some(found) => Ok(answer_over(alloc, &self.tables, &found.query)?),
             None => Err(Fail::Cause(NoView {
                 name: Words::new(alloc, view)?,
             })),
         }
     }
 
-    /// What a query that is ready (`specs/Queries`) answers over the tables as they stand (docs/MEANING.md, "Answers").
+    /// What a query that is ready (mq_ir's `specs/Ready`) answers over the tables as they stand (docs/MEANING.md, "Answers").
     /// `Memory` is the only error.
     pub fn query<G: Gate>(&self, alloc: Global, q: &BoundQuery, _gate: &G) -> Result<Answer, Memory>
         requires { QueryIsReady q.now }

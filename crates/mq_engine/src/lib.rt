@@ -1,4 +1,4 @@
-//! The tables and views of a session: bound statements go in, one after another.
+//! The tables, views and scenarios of a session: bound statements go in, one after another.
 //! Out come counts of rows, answers, or why a statement is refused.
 //! The state after each call and each answer are those of mq_ir's `specs/Statement` and `specs/Answer`.
 #![tactic(auto)]
@@ -11,8 +11,9 @@ mod models;
 mod printing;
 mod queries;
 mod results;
+mod uses;
 mod views;
 
 pub use engine::{Engine, MAX_WORKERS};
 pub use queries::answer_over;
-pub use views::{NoView, View};
+pub use views::NoView;

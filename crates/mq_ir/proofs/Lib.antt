@@ -6,6 +6,5 @@ pub mod LeftLemmas
 pub mod NameLemmas
 pub mod ReadLemmas
 pub mod RowLemmas
-pub mod StatementLemmas
 pub mod WorkedLemmas
 pub mod WorkedScriptLemmas

@@ -14,7 +14,7 @@ use Rattle.mq_ir.specs.Items.{item_rows, items_at, items_over}
 use Rattle.mq_ir.specs.Keys.{Tuple}
 use Rattle.mq_ir.specs.Printing.{printed_rows}
 use Rattle.mq_ir.specs.Results.{◌>>=◌, each, each_in_turn, marked}
-use Rattle.mq_ir.specs.Statement.{change_step, staged}
+use Rattle.mq_ir.specs.Statement.{change_of_tables, staged}
 use Rattle.mq_ir.specs.Tests.{converted}
 use Rattle.mq_ir.specs.Worked.{amount}
 use Rattle.mq_ir.specs.WorkedScript.{AnswerDownwards, RepeatedKey, doubling, query_with, row, sales_table}
@@ -42,4 +42,4 @@ pub answer_downwards : AnswerDownwards
 answer_downwards = ap (answer_from (query_with (doubling ∷ []))) items ∙ from_items
 
 pub repeated_key : RepeatedKey
-repeated_key = simp (change_step, staged, rows_changed, inserted_row, column_value, converted, each, marked, ◌>>=◌, worth_lit) refl
+repeated_key = simp (change_of_tables, staged, rows_changed, inserted_row, column_value, converted, each, marked, ◌>>=◌, worth_lit) refl

@@ -104,7 +104,8 @@ iterate_fits part = option_map_or (turns_fit part) part.iterate true
 abbrev pub model_fits : Catalog → ModelPart → Bool
 model_fits catalog part =
     nat_le part.parts MAX_PARTITION_COLUMNS && nat_le (length part.dims) MAX_DIMENSIONS && nat_le (length part.measures) MAX_MEASURES
-    && list_all kind_fits (part.dims ++ part.measures) && nat_le (length part.rules) MAX_RULES && nat_le (length part.refs) MAX_REFERENCES
+    && (length part.part_kinds == part.parts) && (length part.names == length part.measures)
+    && list_all kind_fits (part.part_kinds ++ part.dims ++ part.measures) && nat_le (length part.rules) MAX_RULES && nat_le (length part.refs) MAX_REFERENCES
     && list_all (reference_fits catalog) part.refs && list_all (plain_fits catalog) part.lists
     && list_all (rule_fits part) part.rules && iterate_fits part
 

@@ -1,5 +1,5 @@
 -- Statements that are bound under a catalog.
-use Rattle.std.specs.Prelude.{ℕ, List, [], ◌∷◌, length, Bool, true, false, ◌&&◌, ◌||◌, not, ◌==◌, nat_lt, nat_le}
+use Rattle.std.specs.Prelude.{ℕ, List, [], ◌∷◌, ◌++◌, length, Bool, true, false, ◌&&◌, ◌||◌, not, ◌==◌, nat_lt, nat_le}
 use Rattle.std.specs.List.{list_all, zip}
 use Rattle.std.specs.Option.{option_map_or}
 use Rattle.mq_values.specs.Aggregate.{is_value}
@@ -17,11 +17,13 @@ use Rattle.mq_values.specs.declared.value.Value.{Value}
 use Rattle.mq_values.specs.declared.value.Value.TheVariants as value
 use Rattle.mq_ir.specs.declared.catalog.Catalog.{Catalog}
 use Rattle.mq_ir.specs.Changes.{table_of}
-use Rattle.mq_ir.specs.Names.{is_table, is_taken, is_view, schema_of}
+use Rattle.mq_ir.specs.Names.{change_count, is_scenario, is_table, is_taken, is_view, model_of, schema_of}
 use Rattle.mq_ir.specs.Fits.{fits_if_there, query_fits, row_scope}
 use Rattle.mq_ir.specs.FitsExpression.{expression_fits, kind_fits}
-use Rattle.mq_values.specs.declared.limits.TheConstants.{MAX_COLUMNS, MAX_TABLES, MAX_VIEWS}
+use Rattle.mq_values.specs.declared.limits.TheConstants.{MAX_COLUMNS, MAX_COMPARED, MAX_SCENARIO_CHANGES, MAX_SCENARIOS, MAX_TABLES, MAX_VIEWS}
 use Rattle.mq_ir.specs.Partitions.{Tuple}
+use Rattle.mq_ir.specs.declared.query.ModelPart.{ModelPart}
+use Rattle.mq_ir.specs.declared.statement.CellAsked.{CellAsked}
 
 abbrev pub schema_fits : Schema → Bool
 schema_fits schema =
@@ -58,6 +60,22 @@ change_fits_schema schema (Delete name filter) = fits_if_there (row_scope (lengt
 abbrev pub change_fits : Catalog → Change → Bool
 change_fits catalog change = option_map_or (λ schema. change_fits_schema schema change) (schema_of catalog (table_of change)) false
 
+-- a scenario that is there may take this change in
+abbrev pub under_fits : Catalog → List ℕ → Change → Bool
+under_fits catalog scenario change =
+    is_scenario catalog scenario && change_fits catalog change && nat_lt (change_count catalog scenario) MAX_SCENARIO_CHANGES
+
+abbrev pub comparison_fits : Catalog → List ℕ → List (List ℕ) → Bool
+comparison_fits catalog view scenarios =
+    is_view catalog view && list_all (is_scenario catalog) scenarios && nat_le (length scenarios) MAX_COMPARED
+
+-- a cell of a model in automatic order: one of its measures, and a value for each column of its partition and each dimension
+abbrev pub cell_fits : CellAsked → ModelPart → Bool
+cell_fits asked part =
+    part.auto && nat_lt asked.measure (length part.measures)
+    && (length asked.part == length part.part_kinds) && (length asked.cell == length part.dims)
+    && list_all (expression_fits (row_scope [])) (asked.part ++ asked.cell)
+
 abbrev pub fits : Catalog → Bound → Bool
 fits catalog (bound.CreateTable def) =
     not (is_taken catalog def.name) && nat_lt (length catalog.tables) MAX_TABLES && schema_fits def.schema
@@ -68,3 +86,11 @@ fits catalog (bound.Change change) = change_fits catalog change
 fits catalog (bound.Load table file) = is_table catalog table
 fits catalog (bound.Show name) = true
 fits catalog (bound.Query q) = query_fits catalog q
+fits catalog bound.Begin = true
+fits catalog bound.Commit = true
+fits catalog bound.Rollback = true
+fits catalog (bound.CreateScenario name) = not (is_taken catalog name) && nat_lt (length catalog.scenarios) MAX_SCENARIOS
+fits catalog (bound.DropScenario name) = is_scenario catalog name
+fits catalog (bound.Under scenario change) = under_fits catalog scenario change
+fits catalog (bound.Compare view scenarios) = comparison_fits catalog view scenarios
+fits catalog (bound.ExplainCell asked) = option_map_or (cell_fits asked) (model_of catalog asked.view) false

@@ -58,8 +58,10 @@ abbrev pub over_years : Bool → List Rule → Model
 over_years auto rules = record {
   part = record {
     parts = 1;
+    part_kinds = kind.Text ∷ [];
     dims = kind.Int ∷ [];
     measures = kind.Decimal 2 ∷ [];
+    names = codes "S" ∷ [];
     ignore_nav = false;
     updated_only = false;
     auto = auto;
@@ -76,8 +78,10 @@ abbrev pub in_turns : Expr → List Rule → Model
 in_turns until rules = record {
   part = record {
     parts = 0;
+    part_kinds = [];
     dims = kind.Int ∷ [];
     measures = kind.Int ∷ [];
+    names = codes "S" ∷ [];
     ignore_nav = false;
     updated_only = false;
     auto = false;

@@ -16,7 +16,7 @@ use Rattle.mq_ir.specs.declared.statement.Change.TheVariants.{Insert}
 use Rattle.mq_ir.specs.Answer.{answer_of}
 use Rattle.mq_ir.specs.Expression.{whole}
 use Rattle.mq_ir.specs.Keys.{Tuple}
-use Rattle.mq_ir.specs.Statement.{change_step}
+use Rattle.mq_ir.specs.Statement.{change_of_tables}
 use Rattle.mq_ir.specs.Tables.{Tables}
 use Rattle.mq_ir.specs.Worked.{amount, before, cell, number, rule_of}
 
@@ -44,8 +44,10 @@ query_with rules = record {
   items = record { group = None; items = e.Leaf (leaf.Column 0 0) ∷ e.Leaf (leaf.Column 0 1) ∷ e.Leaf (leaf.Column 0 2) ∷ [] };
   model = Some (record {
     parts = 1;
+    part_kinds = kind.Text ∷ [];
     dims = kind.Int ∷ [];
     measures = kind.Decimal 2 ∷ [];
+    names = codes "S" ∷ [];
     ignore_nav = false;
     updated_only = false;
     auto = false;
@@ -74,6 +76,6 @@ new_row year hundredths = e.Lit (value.Text (codes "A")) ∷ number year ∷ e.L
 -- INSERT INTO SALES VALUES ('A', 2002, 1.00), ('A', 2000, 2.00)
 abbrev pub RepeatedKey : Type 0
 RepeatedKey =
-    change_step (record { tables = sales_table; views = [] })
+    change_of_tables sales_table
     (Insert (codes "SALES") (new_row 2002 100 ∷ new_row 2000 200 ∷ []))
     ≡ Err (DuplicateKey (value.Text (codes "A") ∷ whole 2000 ∷ []))

@@ -12,14 +12,13 @@ mod laws_of_reads;
 mod laws_of_results;
 mod laws_of_rows;
 mod laws_of_sorting;
-mod laws_of_statements;
 mod limit_numbers;
 mod placed_fault;
 mod query;
 mod statement;
 
 pub use by_name::{ByName, Called};
-pub use catalog::{Catalog, TableEntry, ViewEntry};
+pub use catalog::{Catalog, Scenario, TableEntry, View};
 pub use expression::{BoundArm, BoundProd, BoundSum, Expr, Leaf, RangePlace, Test, Worth};
 pub use laws_of_left_sides::{
     combinations_are_counted, last_list_turns_fastest, missing_targets_are_created,
@@ -36,17 +35,17 @@ pub use laws_of_rows::{
     values_convert_once,
 };
 pub use laws_of_sorting::stable_sorts_ascend;
-pub use laws_of_statements::refusals_alter_nothing;
 pub use limit_numbers::{
-    LIMIT_OF_COLUMNS, LIMIT_OF_DIMENSIONS, LIMIT_OF_FROM_ITEMS, LIMIT_OF_MEASURES,
-    LIMIT_OF_PARTITION_COLUMNS, LIMIT_OF_PRINTED_COLUMNS, LIMIT_OF_REFERENCES, LIMIT_OF_ROWS,
-    LIMIT_OF_RULES, LIMIT_OF_SCALE, LIMIT_OF_TABLES, LIMIT_OF_TURNS, LIMIT_OF_VALUES,
-    LIMIT_OF_VIEWS,
+    LIMIT_OF_COLUMNS, LIMIT_OF_COMPARED, LIMIT_OF_DIMENSIONS, LIMIT_OF_FROM_ITEMS,
+    LIMIT_OF_MEASURES, LIMIT_OF_PARTITION_COLUMNS, LIMIT_OF_PRINTED_COLUMNS, LIMIT_OF_REFERENCES,
+    LIMIT_OF_ROWS, LIMIT_OF_RULES, LIMIT_OF_SCALE, LIMIT_OF_SCENARIO_CHANGES, LIMIT_OF_SCENARIOS,
+    LIMIT_OF_TABLES, LIMIT_OF_TURNS, LIMIT_OF_VALUES, LIMIT_OF_VIEWS,
 };
 pub use placed_fault::{PlacedFault, kind_of, plain_fault};
 pub use query::{
-    Answer, BoundQuery, CellName, ColRef, FromPart, ItemPart, Iterate, Left, LeftItem, ListSource,
-    Look, Model, ModelPart, OutCell, PartInput, PartResult, PartShape, PlainPart, RefArray,
-    RefPart, RowList, Rule, SingleLeft, SinglePlace, Slot,
+    Answer, BoundQuery, CellName, ColRef, Compared, Derivation, DerivationStep, Explained,
+    FromPart, ItemPart, Iterate, Left, LeftItem, ListSource, Look, Model, ModelPart, OutCell,
+    PartInput, PartResult, PartShape, PlainPart, RefArray, RefPart, RowList, Rule, SingleLeft,
+    SinglePlace, Slot,
 };
-pub use statement::{Bound, Change, Column, Row, Schema, TableDef};
+pub use statement::{Bound, CellAsked, Change, Column, Row, Schema, TableDef};

@@ -27,3 +27,9 @@ pub const LIMIT_OF_TURNS: u32 = 12;
 pub const LIMIT_OF_SCALE: u32 = 13;
 
 pub const LIMIT_OF_REFERENCES: u32 = 14;
+
+pub const LIMIT_OF_SCENARIOS: u32 = 15;
+
+pub const LIMIT_OF_SCENARIO_CHANGES: u32 = 16;
+
+pub const LIMIT_OF_COMPARED: u32 = 17;

@@ -1,5 +1,5 @@
 use crate::expression::{Expr, Test};
-use mq_values::{DimTest, Items, Key, Kind, Mode, QueryFault, Value, ValueFault, Words};
+use mq_values::{DimTest, Items, Key, Kind, Mode, QueryFault, Refused, Value, ValueFault, Words};
 
 /// The FROM items of a query, each with its ON condition where it has one, and WHERE (docs/MEANING.md, "Base rows").
 #[derive(Drop)]
@@ -89,12 +89,15 @@ pub struct Rule {
 }
 
 /// A MODEL clause. The items of its query are `parts` partition columns, then its dimensions, then its measures.
-/// `lists` has its FOR subqueries in text order.
+/// `lists` has its FOR subqueries in text order. `part_kinds` has the kinds of the partition columns, and `names` the
+/// names of the measures.
 #[derive(Drop)]
 pub struct ModelPart {
     pub parts: u32,
+    pub part_kinds: Items<Kind>,
     pub dims: Items<Kind>,
     pub measures: Items<Kind>,
+    pub names: Items<Words>,
     pub ignore_nav: bool,
     pub updated_only: bool,
     pub auto: bool,
@@ -178,15 +181,16 @@ pub enum PartResult {
     Fault(QueryFault),
 }
 
-/// A measure of a cell.
-#[derive(Drop)]
+/// A measure of a cell. Names are ordered by their keys, and then by their measures.
+#[derive(Debug, Drop, PartialEq, Eq, PartialOrd, Ord)]
 pub struct CellName {
     pub key: Key,
     pub measure: u32,
 }
 
 /// What a right side looks at: a measure of a cell, or whether a cell is in the input (docs/MEANING.md, "Looks").
-#[derive(Drop)]
+/// Measures come before presences.
+#[derive(Debug, Drop, PartialEq, Eq, PartialOrd, Ord)]
 pub enum Look {
     Measure(CellName),
     Presence(Key),
@@ -199,6 +203,40 @@ pub enum Slot {
     Done(Value),
     Faulted(ValueFault),
     Poisoned,
+}
+
+/// A step of a derivation: a measure of a cell, the rule that assigns it, or `None` where none does, and what stands
+/// there.
+#[derive(Drop)]
+pub struct DerivationStep {
+    pub name: CellName,
+    pub rule: Option<u32>,
+    pub slot: Slot,
+}
+
+/// Where the value of a measure of a cell comes from, step by step; each step looks at earlier ones alone
+/// (docs/MEANING.md, "Derivations").
+#[derive(Drop)]
+pub struct Derivation {
+    pub steps: Items<DerivationStep>,
+}
+
+/// What explaining a cell gives: its derivation, the fault for which there is none, or that its partition or the cell is
+/// not there (docs/MEANING.md, "Derivations").
+#[derive(Drop)]
+pub enum Explained {
+    Steps(Derivation),
+    Fault(QueryFault),
+    NoPartition,
+    NoCell,
+}
+
+/// What a comparison says of a scenario: the answer over its tables, or the number of its first refused change and the
+/// refusal (docs/MEANING.md, "Scenarios").
+#[derive(Drop)]
+pub enum Compared {
+    Shown(Answer),
+    Stopped(u32, Refused),
 }
 
 /// What a query gives: its rows as they are printed, or its first fault (docs/MEANING.md, "Answers").

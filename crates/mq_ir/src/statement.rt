@@ -50,8 +50,18 @@ pub enum Change {
     },
 }
 
+/// A cell of a view, to be explained: the number of its measure, and the values of the columns of its partition and of
+/// its dimensions (docs/MEANING.md, "Derivations").
+#[derive(Drop)]
+pub struct CellAsked {
+    pub view: Words,
+    pub measure: u32,
+    pub part: Items<Expr>,
+    pub cell: Items<Expr>,
+}
+
 /// A statement whose names are bound under a catalog (docs/MEANING.md, "Statements"). `Load` has the table and the
-/// file.
+/// file, `Under` the scenario and the change that it takes in, `Compare` the view and the scenarios.
 #[derive(Drop)]
 pub enum Bound {
     CreateTable(TableDef),
@@ -62,4 +72,12 @@ pub enum Bound {
     Load(Words, Words),
     Show(Words),
     Query(BoundQuery),
+    Begin,
+    Commit,
+    Rollback,
+    CreateScenario(Words),
+    DropScenario(Words),
+    Under(Words, Change),
+    Compare(Words, Items<Words>),
+    ExplainCell(CellAsked),
 }

@@ -6,13 +6,13 @@ use Rattle.mq_lexer.specs.declared.sorts.Token.{Token}
 use Rattle.mq_lexer.specs.declared.keywords.Keyword.{Keyword}
 use Rattle.mq_ast.specs.declared.levels.TheConstants as level
 use Rattle.mq_ast.specs.Prelude.{EndsList, NameE, QueryE, SomeOf, Stops, Tok, Tuple, WhereE}
-use Rattle.mq_ast.specs.Laws.{Whatever, name_same, query_same, tuples_same, where_same}
+use Rattle.mq_ast.specs.Laws.{Whatever, name_same, names_same, query_same, tuples_same, where_same}
 use Rattle.mq_parse_words.specs.Names.{TextE, txt}
 use Rattle.mq_parse_words.specs.Reading.{from, Anywhere, Fails, IsRead}
 use Rattle.mq_parse_words.specs.StepLemmas.{exit, till, as_value}
-use Rattle.mq_parse_stmt.specs.Pieces.{Body, Changes, WordName}
+use Rattle.mq_parse_stmt.specs.Pieces.{Body, Changes, Spot, WordName}
 use Rattle.mq_parse_stmt.specs.Results.{Ended}
-use Rattle.mq_parse_stmt.proofs.PieceLemmas.{body_same, changes_same, word_named}
+use Rattle.mq_parse_stmt.proofs.PieceLemmas.{body_same, changes_same, spot_same, word_named}
 
 -- no tree of this part reads all of the tokens
 abbrev pub NoneOf : {A : Type 0} → (A → List Tok → List Tok → Type 0) → List Tok → Type 0
@@ -65,3 +65,9 @@ last_changes = record { same = λ a b ts to to' d e s s'. changes_same d e s s';
 
 pub last_rows : MayBeLast (SomeOf Tuple) (EndsList Whatever)
 last_rows = record { same = λ a b ts to to' d e s s'. (tuples_same d e s.1 s'.1).1; stop = (tt, λ e. cc) }
+
+pub last_names : MayBeLast (SomeOf NameE) (EndsList Anywhere)
+last_names = record { same = λ a b ts to to' d e s s'. (names_same d e s.1 s'.1).1; stop = (tt, λ e. cc) }
+
+pub last_spot : MayBeLast Spot Anywhere
+last_spot = record { same = λ a b ts to to' d e s s'. spot_same d e; stop = tt }

@@ -1,4 +1,6 @@
+pub mod ChangeLemmas
 pub mod DepthLemmas
 pub mod LastLemmas
 pub mod PieceLemmas
 pub mod StmtLemmas
+pub mod WholeLemmas

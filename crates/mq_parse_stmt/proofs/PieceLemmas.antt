@@ -13,17 +13,18 @@ use Rattle.mq_ast.specs.declared.levels.TheConstants as level
 use Rattle.mq_lexer.specs.declared.terminals.Symbol.TheVariants as sign
 use Rattle.mq_lexer.specs.declared.terminals.Terminal.TheVariants as terminal
 use Rattle.mq_lexer.specs.declared.keywords.Keyword.TheVariants as word
-use Rattle.mq_ast.specs.Prelude.{ColE, EndsCols, EndsList, Expr, KindE, MoreOf, Name, NameE, NamesE, Not, NotNullE, PrimaryE, SetE}
-use Rattle.mq_ast.specs.Prelude.{SomeOf, Stops, Text, Tok, WhereE, Word, col, comma, equal, loose, more_comma, more_end, name}
-use Rattle.mq_ast.specs.Prelude.{names, names_none, names_some, null_may, null_not, opener, primary_none, primary_some, set, some_of}
-use Rattle.mq_ast.specs.Prelude.{terminal_at}
-use Rattle.mq_ast.specs.Laws.{begin, col_same, cols_of_same, kind_same, names_of_same, names_same, primary_ends, primary_same}
-use Rattle.mq_ast.specs.Laws.{sets_same, stops_not, where_same, where_stop}
+use Rattle.mq_ast.specs.Prelude.{ColE, Ends, EndsCols, EndsList, Expr, Exprs, KindE, MoreOf, Name, NameE, NamesE, Not, NotNullE}
+use Rattle.mq_ast.specs.Prelude.{PrimaryE, SetE, SomeOf, Stops, Text, Tok, Tuple, WhereE, Word, col, comma, equal, loose}
+use Rattle.mq_ast.specs.Prelude.{more_comma, more_end, name, names, names_none, names_some, null_may, null_not, opener, part_none}
+use Rattle.mq_ast.specs.Prelude.{part_some, point, primary_none, primary_some, set, some_of, terminal_at}
+use Rattle.mq_ast.specs.Laws.{begin, col_same, cols_of_same, cut, exprs_same, kind_same, maybe_part_same, names_of_same, names_same}
+use Rattle.mq_ast.specs.Laws.{primary_ends, primary_same, sets_same, stops_not, tuple_same, where_same, where_stop}
 use Rattle.mq_parse_words.specs.Names.{TextE, txt}
 use Rattle.mq_parse_words.specs.Reading.{from, No, Anywhere, IsRead}
 use Rattle.mq_parse_words.specs.StepLemmas.{exit}
 use Rattle.mq_parse_stmt.specs.Results.{beside}
 use Rattle.mq_parse_stmt.specs.Pieces.{WordName, word_name, KeyEnd, KeyBehind, Body, body, NamesValues, Changes, changes}
+use Rattle.mq_parse_stmt.specs.Pieces.{Measure, measure, PartOpen, ValuesEnd, Spot, spot}
 
 -- a part with another before it
 pub beside_gives : {A B : Type 0} (R : A × B → List Tok → List Tok → Type 0) (S : B → List Tok → List Tok → Type 0) (Stop : List Tok → Type 0) (t : List Token) (at mid : ℕ) (a : A) (found : Result (B × ℕ) (Fail Refused)) → at ≤ mid → ((b : B) (to : List Tok) → S b (from t mid) to → R (a, b) (from t at) to) → (No S Stop (from t mid) → No R Stop (from t at)) → IsRead S Stop t mid found → IsRead R Stop t at (beside a found)
@@ -156,3 +157,49 @@ changes_no_where e r h a to (changes d w) s = let p = sets_same e d r (where_end
 
 pub changes_same : {c c' : List (List ℕ × E) × Option E} {ts to to' : List Tok} → Changes c ts to → Changes c' ts to' → Stops level.FILTERED to → Stops level.FILTERED to' → to ≡ to'
 changes_same (changes d w) (changes d' w') s s' = let p = sets_same d d' (where_ends w s) (where_ends w' s') in (where_same w (begin WhereE p.1 w') s s').1
+
+-- CELL name '.' name
+pub measured : {p : List ℕ × List ℕ} {ts to : List Tok} → Measure p ts to → ts ≡ Word word.Cell ∷ Name p.0 ∷ point ∷ Name p.1 ∷ to
+measured measure = refl
+
+pub measure_no_view : {ts : List Tok} → No (WordName word.Cell) Anywhere ts → No Measure Anywhere ts
+measure_no_view h a to measure s = h _ _ word_name tt
+
+pub measure_no_point : {n : List ℕ} {ts : List Tok} → Not (terminal.Sign sign.Point) ts → No Measure Anywhere (Word word.Cell ∷ Name n ∷ ts)
+measure_no_point n a to measure s = n refl
+
+pub measure_no_name : {n : List ℕ} {ts : List Tok} → No NameE Anywhere ts → No Measure Anywhere (Word word.Cell ∷ Name n ∷ point ∷ ts)
+measure_no_name h a to measure s = h _ _ name tt
+
+pub measure_read : {n m : List ℕ} {ts to : List Tok} → NameE m ts to → Measure (n, m) (Word word.Cell ∷ Name n ∷ point ∷ ts) to
+measure_read name = measure
+
+-- [PARTITION tuple] '['
+pub part_no_word : {ts : List Tok} → Not (terminal.Sign sign.OpenSquare) ts → Not (terminal.Word word.Partition) ts → No PartOpen Anywhere ts
+part_no_word n m a to part_none s = n refl
+part_no_word n m a to (part_some d) s = m refl
+
+pub part_no_tuple : {ts : List Tok} → No Tuple Anywhere ts → No PartOpen Anywhere (Word word.Partition ∷ ts)
+part_no_tuple h a to (part_some d) s = h _ _ d tt
+
+pub part_no_open : {xs : List E} {ts mid : List Tok} → Tuple xs ts mid → Not (terminal.Sign sign.OpenSquare) mid → No PartOpen Anywhere (Word word.Partition ∷ ts)
+part_no_open e n a to (part_some d) s = let p = tuple_same e d in n (ap terminal_at p.1)
+
+-- e {',' e} ']'
+pub values_no_first : {ts : List Tok} → No Exprs (Ends (terminal.Sign sign.Comma)) ts → No ValuesEnd Anywhere ts
+values_no_first h a to d s = h _ _ d (omega arith, λ e. cc)
+
+pub values_no_close : {xs : List E} {ts mid : List Tok} → Exprs xs ts mid → Ends (terminal.Sign sign.Comma) mid → Not (terminal.Sign sign.CloseSquare) mid → No ValuesEnd Anywhere ts
+values_no_close e r n a to d s = let p = exprs_same e d r (omega arith, λ e. cc) in n (ap terminal_at p.1)
+
+-- [PARTITION tuple] '[' e {',' e} ']'
+pub spot_no_part : {ts : List Tok} → No PartOpen Anywhere ts → No Spot Anywhere ts
+spot_no_part h a to (spot p d) s = h _ _ p tt
+
+pub spot_no_values : {ps : List E} {ts mid : List Tok} → PartOpen ps ts mid → No ValuesEnd Anywhere mid → No Spot Anywhere ts
+spot_no_values e h a to (spot p d) s = let q = maybe_part_same e p in h _ _ (begin Exprs q.1 d) tt
+
+pub spot_same : {a b : List E × List E} {ts to to' : List Tok} → Spot a ts to → Spot b ts to' → to ≡ to'
+spot_same (spot p d) (spot p' d') =
+    let q = maybe_part_same p p' in
+    cut (exprs_same d (begin Exprs q.1 d') (omega arith, λ e. cc) (omega arith, λ e. cc)).1

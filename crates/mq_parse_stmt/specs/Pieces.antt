@@ -7,8 +7,8 @@ use Rattle.mq_lexer.specs.declared.keywords.Keyword.TheVariants as word
 use Rattle.mq_lexer.specs.declared.terminals.Symbol.TheVariants as sign
 use Rattle.mq_lexer.specs.declared.terminals.Terminal.TheVariants as terminal
 use Rattle.mq_lexer.specs.declared.sorts.Token.{Token}
-use Rattle.mq_ast.specs.Prelude.{ColE, MaybeNames, Name, Not, PrimaryE, SetE, SomeOf, Tok, WhereE, Word, closer, comma, opener}
-use Rattle.mq_ast.specs.Prelude.{rest_of, terminal_at}
+use Rattle.mq_ast.specs.Prelude.{ColE, Exprs, MaybeNames, MaybePart, Name, Not, PrimaryE, SetE, SomeOf, Tok, WhereE, Word}
+use Rattle.mq_ast.specs.Prelude.{close_square, closer, comma, open_square, opener, point, rest_of, terminal_at}
 use Rattle.mq_parse_words.specs.Reading.{from, Then}
 
 -- this word and the name behind it
@@ -41,3 +41,19 @@ pub data Changes : List (List ℕ × E) × Option E → List Tok → List Tok �
 abbrev pub NextCol : List Token → ℕ → Option ℕ → Type 0
 NextCol t at (Some next) = Then comma t at next × Not (terminal.Word word.Primary) (from t next)
 NextCol t at None = terminal_at (from t at) ≡ terminal.Sign sign.Comma → terminal_at (rest_of (from t at)) ≡ terminal.Word word.Primary
+
+-- CELL name '.' name
+pub data Measure : List ℕ × List ℕ → List Tok → List Tok → Type 0 where
+  measure : {n m : List ℕ} {to : List Tok} → Measure (n, m) (Word word.Cell ∷ Name n ∷ point ∷ Name m ∷ to) to
+
+-- [PARTITION tuple] '['
+abbrev pub PartOpen : List E → List Tok → List Tok → Type 0
+PartOpen ps from to = MaybePart ps from (open_square ∷ to)
+
+-- e {',' e} ']'
+abbrev pub ValuesEnd : List E → List Tok → List Tok → Type 0
+ValuesEnd xs from to = Exprs xs from (close_square ∷ to)
+
+-- [PARTITION tuple] '[' e {',' e} ']'
+pub data Spot : List E × List E → List Tok → List Tok → Type 0 where
+  spot : {ps xs : List E} {from mid to : List Tok} → PartOpen ps from mid → ValuesEnd xs mid to → Spot (ps, xs) from to

@@ -1,4 +1,4 @@
-//! INSERT, UPDATE, DELETE and LOAD (docs/LANGUAGE.md, "Statements").
+//! INSERT, UPDATE and DELETE (docs/LANGUAGE.md, "Statements").
 
 ghost use Rattle.std.specs.Prelude.{◌≡◌, ◌≢◌, ◌≤◌, ◌<◌, List, ◌∷◌, length};
 ghost use Rattle.mq_ast.specs.declared.levels.TheConstants as level;
@@ -6,25 +6,45 @@ ghost use Rattle.mq_ast.specs.Prelude.{SetE, Stops, Word};
 ghost use Rattle.mq_ast.specs.Laws.{set_same};
 ghost use Rattle.mq_parse_words.specs.Reading.{from, Anywhere, IsRead};
 ghost use Rattle.mq_parse_stmt.specs.Pieces.{NamesValues, Changes};
-ghost use Rattle.mq_parse_stmt.specs.Parsing.{Whole};
+ghost use Rattle.mq_parse_stmt.specs.Parsing.{WholeChange};
 
 use crate::pieces::{beside, last, read_names, read_word_name};
-use mq_ast::{E, Keyword, Stmt, Symbol};
+use mq_ast::{ChangeTree, E, Keyword, Symbol};
 use mq_lexer::Token;
 use mq_parse_expr::read_expr;
 use mq_parse_query::{Listed, Row, read_list, read_where};
-use mq_parse_words::{behind_word, pass_sign, pass_word, read_name, read_text};
+use mq_parse_words::{behind_word, pass_sign, pass_word, read_name};
 use mq_values::{CmpOp, Fail, Items, Refused, Words};
 use std::alloc::Global;
 
-/// Rows put into a table, from behind INSERT on.
-pub(crate) fn read_insert(alloc: Global, t: &[Token<'_>], at: usize) -> Result<Stmt, Fail<Refused>>
-    ensures { Whole (Word Keyword.Insert ∷ from t.now at) result }
+/// A change of the rows of a table, up to the last token. SYNTAX where no change reads them all.
+pub(crate) fn read_change(
+    alloc: Global,
+    t: &[Token<'_>],
+    at: usize,
+) -> Result<ChangeTree, Fail<Refused>>
+    ensures { WholeChange (from t.now at) result }
+{
+    if let Some(behind) = behind_word(t, at, Keyword::Insert) {
+        return read_insert(alloc, t, behind);
+    }
+    if let Some(behind) = behind_word(t, at, Keyword::Update) {
+        return read_update(alloc, t, behind);
+    }
+    match behind_word(t, at, Keyword::Delete) {
+        Some(behind) => read_delete(alloc, t, behind),
+        None => Err(Fail::Cause(Refused::Syntax)),
+    }
+}
+
+// Rows put into a table, from behind INSERT on.
+fn read_insert(alloc: Global, t: &[Token<'_>], at: usize) -> Result<ChangeTree, Fail<Refused>>
+    ensures { WholeChange (Word Keyword.Insert ∷ from t.now at) result }
 {
     let (name, mid) = read_word_name(alloc, t, at, Keyword::Into)?;
     let (cols, values) = read_names_values(alloc, t, mid)?;
     let rows = last(t, read_list::<Row>(alloc, t, values))?;
-    Ok(Stmt::Insert { name, cols, rows })
+    Ok(ChangeTree::Insert { name, cols, rows })
 }
 
 // The columns of the rows between brackets, where they are named, and VALUES.
@@ -45,9 +65,9 @@ fn read_names_values(
     }
 }
 
-/// Rows changed, from behind UPDATE on.
-pub(crate) fn read_update(alloc: Global, t: &[Token<'_>], at: usize) -> Result<Stmt, Fail<Refused>>
-    ensures { Whole (Word Keyword.Update ∷ from t.now at) result }
+// Rows changed, from behind UPDATE on.
+fn read_update(alloc: Global, t: &[Token<'_>], at: usize) -> Result<ChangeTree, Fail<Refused>>
+    ensures { WholeChange (Word Keyword.Update ∷ from t.now at) result }
 {
     let (name, mid) = read_name(alloc, t, at)?;
     let set = pass_word(t, mid, Keyword::Set)?;
@@ -55,11 +75,11 @@ pub(crate) fn read_update(alloc: Global, t: &[Token<'_>], at: usize) -> Result<S
     Ok(update(name, changes))
 }
 
-fn update(name: Words, changes: (Items<(Words, E)>, Option<E>)) -> Stmt
-    ensures { result ≡ Stmt.Update name changes.0 changes.1 }
+fn update(name: Words, changes: (Items<(Words, E)>, Option<E>)) -> ChangeTree
+    ensures { result ≡ ChangeTree.Update name changes.0 changes.1 }
 {
     let (sets, filter) = changes;
-    Stmt::Update { name, sets, filter }
+    ChangeTree::Update { name, sets, filter }
 }
 
 // The new values, with commas between them, and the condition behind WHERE, where one stands there.
@@ -108,21 +128,11 @@ fn read_set(alloc: Global, t: &[Token<'_>], at: usize) -> Result<((Words, E), us
     beside(name, read_expr(alloc, t, value))
 }
 
-/// Rows taken out of a table, from behind DELETE on.
-pub(crate) fn read_delete(alloc: Global, t: &[Token<'_>], at: usize) -> Result<Stmt, Fail<Refused>>
-    ensures { Whole (Word Keyword.Delete ∷ from t.now at) result }
+// Rows taken out of a table, from behind DELETE on.
+fn read_delete(alloc: Global, t: &[Token<'_>], at: usize) -> Result<ChangeTree, Fail<Refused>>
+    ensures { WholeChange (Word Keyword.Delete ∷ from t.now at) result }
 {
     let (name, mid) = read_word_name(alloc, t, at, Keyword::From)?;
     let filter = last(t, read_where(alloc, t, mid))?;
-    Ok(Stmt::Delete { name, filter })
-}
-
-/// The rows of a file put into a table, from behind LOAD on.
-pub(crate) fn read_load(alloc: Global, t: &[Token<'_>], at: usize) -> Result<Stmt, Fail<Refused>>
-    ensures { Whole (Word Keyword.Load ∷ from t.now at) result }
-{
-    let (name, mid) = read_word_name(alloc, t, at, Keyword::Into)?;
-    let text = pass_word(t, mid, Keyword::From)?;
-    let file = last(t, read_text(alloc, t, text))?;
-    Ok(Stmt::Load { name, file })
+    Ok(ChangeTree::Delete { name, filter })
 }

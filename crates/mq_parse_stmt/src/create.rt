@@ -8,6 +8,7 @@ ghost use Rattle.mq_parse_stmt.specs.Pieces.{Body, KeyEnd, KeyBehind, NextCol};
 ghost use Rattle.mq_parse_stmt.specs.Parsing.{Whole};
 
 use crate::pieces::{beside, last, read_names, read_word_name};
+use crate::scenarios::{read_create_scenario, read_drop_scenario};
 use mq_ast::{ColDef, Keyword, Stmt, Symbol, Terminal, levels};
 use mq_lexer::Token;
 use mq_parse_query::read_query;
@@ -21,8 +22,11 @@ use std::alloc::Global;
 pub(crate) fn read_create(alloc: Global, t: &[Token<'_>], at: usize) -> Result<Stmt, Fail<Refused>>
     ensures { Whole (Word Keyword.Create ∷ from t.now at) result }
 {
-    match behind_word(t, at, Keyword::Table) {
-        Some(table) => read_table(alloc, t, table),
+    if let Some(table) = behind_word(t, at, Keyword::Table) {
+        return read_table(alloc, t, table);
+    }
+    match behind_word(t, at, Keyword::Scenario) {
+        Some(scenario) => read_create_scenario(alloc, t, scenario),
         None => read_view(alloc, t, at),
     }
 }
@@ -45,7 +49,8 @@ fn table(name: Words, body: (Items<ColDef>, Items<Words>)) -> Stmt
 
 // A new view, from behind CREATE on.
 fn read_view(alloc: Global, t: &[Token<'_>], at: usize) -> Result<Stmt, Fail<Refused>>
-    requires { Not (Terminal.Word Keyword.Table) (from t.now at) }
+    requires table { Not (Terminal.Word Keyword.Table) (from t.now at) }
+    requires scenario { Not (Terminal.Word Keyword.Scenario) (from t.now at) }
     ensures { Whole (Word Keyword.Create ∷ from t.now at) result }
 {
     let (name, mid) = read_word_name(alloc, t, at, Keyword::View)?;
@@ -58,8 +63,11 @@ fn read_view(alloc: Global, t: &[Token<'_>], at: usize) -> Result<Stmt, Fail<Ref
 pub(crate) fn read_drop(alloc: Global, t: &[Token<'_>], at: usize) -> Result<Stmt, Fail<Refused>>
     ensures { Whole (Word Keyword.Drop ∷ from t.now at) result }
 {
-    match behind_word(t, at, Keyword::Table) {
-        Some(table) => read_drop_table(alloc, t, table),
+    if let Some(table) = behind_word(t, at, Keyword::Table) {
+        return read_drop_table(alloc, t, table);
+    }
+    match behind_word(t, at, Keyword::Scenario) {
+        Some(scenario) => read_drop_scenario(alloc, t, scenario),
         None => read_drop_view(alloc, t, at),
     }
 }
@@ -74,7 +82,8 @@ fn read_drop_table(alloc: Global, t: &[Token<'_>], at: usize) -> Result<Stmt, Fa
 
 // A view dropped, from behind DROP on.
 fn read_drop_view(alloc: Global, t: &[Token<'_>], at: usize) -> Result<Stmt, Fail<Refused>>
-    requires { Not (Terminal.Word Keyword.Table) (from t.now at) }
+    requires table { Not (Terminal.Word Keyword.Table) (from t.now at) }
+    requires scenario { Not (Terminal.Word Keyword.Scenario) (from t.now at) }
     ensures { Whole (Word Keyword.Drop ∷ from t.now at) result }
 {
     let name = last(t, read_word_name(alloc, t, at, Keyword::View))?;

@@ -3,10 +3,13 @@
 //! `specs/Parsing.antt` says when each comes, over the grammar of mq_ast's `specs/`.
 #![tactic(auto)]
 
+mod blocks;
 mod change;
 mod create;
 mod depth;
+mod explain;
 mod pieces;
+mod scenarios;
 mod statement;
 
 pub use statement::parse;

@@ -1,8 +1,8 @@
 //! Parts that several statements share.
 
-ghost use Rattle.std.specs.Prelude.{◌≡◌};
+ghost use Rattle.std.specs.Prelude.{◌≡◌, ◌≢◌, [], MatchResult};
 ghost use Rattle.mq_ast.specs.Prelude.{NamesE};
-ghost use Rattle.mq_parse_words.specs.Reading.{Anywhere, IsRead};
+ghost use Rattle.mq_parse_words.specs.Reading.{from, Anywhere, Fails, IsRead};
 ghost use Rattle.mq_parse_stmt.specs.Pieces.{WordName};
 ghost use Rattle.mq_parse_stmt.specs.Results.{Ended, beside as spec_beside};
 
@@ -64,4 +64,14 @@ pub(crate) fn beside<A: Drop, B: Drop>(
 {
     let (second, to) = found?;
     Ok(((first, second), to))
+}
+
+/// Nothing, where no token stands at a place; SYNTAX where one does.
+pub(crate) fn ended(t: &[Token<'_>], at: usize) -> Result<(), Fail<Refused>>
+    ensures { MatchResult result (λ _. from t.now at ≡ []) (λ f. Fails f (from t.now at ≢ [])) }
+{
+    match token_at(t, at) {
+        Some(_) => Err(Fail::Cause(Refused::Syntax)),
+        None => Ok(()),
+    }
 }

@@ -1,46 +1,55 @@
 -- What a statement is bound to may run, and the laws, each as its contract has it.
-use Rattle.std.proofs.Common.{◌≡◌, ℕ, List, length, Bool, false, Option, Result, Ok, subst}
+use Rattle.std.proofs.Common.{◌≡◌, List, length, Bool, false, Result, Ok, subst}
 use Rattle.std.specs.Prelude.{nat_le, nat_lt, not}
 use Rattle.mq_lexer.specs.Words.{folded}
 use Rattle.mq_values.specs.declared.faults.Refused.{Refused}
-use Rattle.mq_values.specs.declared.limits.TheConstants.{MAX_COLUMNS, MAX_TABLES, MAX_VIEWS}
-use Rattle.mq_ast.specs.declared.expressions.E.{E}
+use Rattle.mq_values.specs.declared.limits.TheConstants.{MAX_COLUMNS, MAX_SCENARIO_CHANGES, MAX_SCENARIOS, MAX_TABLES, MAX_VIEWS}
 use Rattle.mq_ast.specs.declared.queries.Query.{Query}
+use Rattle.mq_ast.specs.declared.statements.ChangeTree.{ChangeTree}
 use Rattle.mq_ast.specs.declared.statements.ColDef.{ColDef}
 use Rattle.mq_ast.specs.declared.statements.Stmt.{Stmt}
 use Rattle.mq_ast.specs.declared.statements.Stmt.TheVariants as stmt
 use Rattle.mq_ir.specs.declared.catalog.Catalog.{Catalog}
-use Rattle.mq_ir.specs.declared.expression.Expr.{Expr}
-use Rattle.mq_ir.specs.declared.limit_numbers.TheConstants.{LIMIT_OF_COLUMNS, LIMIT_OF_TABLES, LIMIT_OF_VIEWS}
+use Rattle.mq_ir.specs.declared.limit_numbers.TheConstants.{LIMIT_OF_COLUMNS, LIMIT_OF_SCENARIO_CHANGES, LIMIT_OF_SCENARIOS, LIMIT_OF_TABLES, LIMIT_OF_VIEWS}
 use Rattle.mq_ir.specs.declared.query.BoundQuery.{BoundQuery}
 use Rattle.mq_ir.specs.declared.statement.Bound.{Bound}
 use Rattle.mq_ir.specs.declared.statement.Bound.TheVariants as bound
-use Rattle.mq_ir.specs.declared.statement.Change.TheVariants as change
 use Rattle.mq_ir.specs.declared.statement.Column.{Column}
 use Rattle.mq_ir.specs.declared.statement.TableDef.{TableDef}
-use Rattle.mq_ir.specs.Names.{is_table, is_taken, is_view}
-use Rattle.mq_ir.specs.Results.{◌>>=◌}
-use Rattle.mq_bind_scopes.specs.declared.scopes.Part.TheVariants as part
-use Rattle.mq_bind_expr.specs.ExpressionWalk.{bound_filter}
-use Rattle.mq_bind_scopes.specs.Names.{Name}
-use Rattle.mq_bind_scopes.specs.Positions.{standing}
-use Rattle.mq_bind_scopes.specs.Refusals.{duplicate_name, limit, refused_where, unknown_name}
-use Rattle.mq_binder.specs.ChangeWalk.{change_scope, rows_bound, sets_bound}
-use Rattle.mq_binder.specs.FromWalk.{table_called}
-use Rattle.mq_binder.specs.QueryWalk.{query_bound}
-use Rattle.mq_binder.specs.StatementWalk.{delete_bound, insert_bound, statement_bound, update_bound, update_over, view_bound}
-use Rattle.mq_binder.specs.TableWalk.{columns_named, columns_of, schema_with, table_bound}
+use Rattle.mq_ir.specs.Names.{change_count, is_scenario, is_table, is_taken, is_view}
 use Rattle.mq_ir.specs.Ready.{QueryIsReady}
+use Rattle.mq_ir.specs.Results.{◌>>=◌}
+use Rattle.mq_bind_scopes.specs.Names.{Name}
+use Rattle.mq_bind_scopes.specs.Refusals.{duplicate_name, limit, refused_where, unknown_name}
+use Rattle.mq_binder.specs.CellWalk.{cell_bound}
+use Rattle.mq_binder.specs.ChangeWalk.{change_bound}
+use Rattle.mq_binder.specs.QueryWalk.{query_bound}
+use Rattle.mq_binder.specs.ScenarioWalk.{comparison_bound, scenario_created, scenarios_named, taken_in, under_bound}
+use Rattle.mq_binder.specs.StatementWalk.{statement_bound, view_bound}
+use Rattle.mq_binder.specs.TableWalk.{columns_named, columns_of, schema_with, table_bound}
 use Rattle.mq_ready_laws.specs.ReadyLaws.{BoundQueryIsReady, BoundViewIsReady, CreatedTableIsNew, CreatedViewIsNew}
 use Rattle.mq_ready_laws.proofs.QueryLemmas.{query_ready}
 use Rattle.mq_ready_laws.proofs.StepLemmas.{ok_is, passed, went}
 
 -- what is known of what a statement is bound to
-abbrev Stands : Catalog → Stmt → Bound → Type 0
-Stands catalog s (bound.CreateTable def) = is_taken catalog def.name ≡ false
-Stands catalog s (bound.CreateView name q) = (is_taken catalog name ≡ false) × QueryIsReady q
-Stands catalog s (bound.Query q) = QueryIsReady q
-Stands catalog s _ = Unit {0}
+abbrev Stands : Catalog → Bound → Type 0
+Stands catalog (bound.CreateTable def) = is_taken catalog def.name ≡ false
+Stands catalog (bound.CreateView name q) = (is_taken catalog name ≡ false) × QueryIsReady q
+Stands catalog (bound.Query q) = QueryIsReady q
+Stands catalog _ = Unit {0}
+
+-- what is made at once, behind a test, and of what a step gives
+made_stands : (catalog : Catalog) (made b : Bound) → ◌≡◌ {A = Result Bound Refused} (Ok made) (Ok b) → Stands catalog made → Stands catalog b
+made_stands catalog made b h stands = subst (Stands catalog) (ok_is made b h) stands
+
+tested_stands : (catalog : Catalog) (test : Bool) (refusal : Refused) (made b : Bound) → refused_where test refusal (Ok made) ≡ Ok b → Stands catalog made → Stands catalog b
+tested_stands catalog test refusal made b h stands = made_stands catalog made b (passed test refusal (Ok made) b h).after stands
+
+step_stands : {A : Type 0} (catalog : Catalog) (r : Result A Refused) (made : A → Bound) (b : Bound) → (r >>= (λ x. Ok (made x))) ≡ Ok b
+    → ((x : A) → r ≡ Ok x → Stands catalog (made x)) → Stands catalog b
+step_stands catalog r made b h stands =
+    let w = went r (λ x. Ok (made x)) b h in
+    made_stands catalog (made w.value) b w.after (stands w.value w.first)
 
 -- ---- CREATE TABLE
 table_is_named : (catalog : Catalog) (name : Name) (cols : List ColDef) (key : List Name) (def : TableDef) → table_bound catalog name cols key ≡ Ok def → is_taken catalog def.name ≡ false
@@ -58,62 +67,58 @@ table_is_named catalog name cols key def h =
     subst (λ (d : TableDef). is_taken catalog d.name ≡ false) {x = whole} (ok_is whole def k.after) new.holds_not
 
 -- ---- CREATE VIEW
-view_stands : (catalog : Catalog) (s : Stmt) (name : Name) (q : Query) (b : Bound) → view_bound catalog name q ≡ Ok b → Stands catalog s b
-view_stands catalog s name q b h =
+view_stands : (catalog : Catalog) (name : Name) (q : Query) (b : Bound) → view_bound catalog name q ≡ Ok b → Stands catalog b
+view_stands catalog name q b h =
     let rest : Result Bound Refused = query_bound catalog q >>= (λ b. Ok (bound.CreateView name b)) in
     let p = passed (is_taken catalog name) (duplicate_name name) (refused_where (nat_le MAX_VIEWS (length catalog.views)) (limit LIMIT_OF_VIEWS) rest) b h in
     let r = passed (nat_le MAX_VIEWS (length catalog.views)) (limit LIMIT_OF_VIEWS) rest b p.after in
-    let w = went (query_bound catalog q) (λ b. Ok (bound.CreateView name b)) b r.after in
-    subst (Stands catalog s) (ok_is (bound.CreateView name w.value) b w.after) (p.holds_not, query_ready catalog q w.value w.first)
+    step_stands catalog (query_bound catalog q) (λ b. bound.CreateView name b) b r.after (λ bq is. (p.holds_not, query_ready catalog q bq is))
 
--- ---- names of tables and views
-named_stands : (catalog : Catalog) (s : Stmt) (test : Bool) (name : Name) (made b : Bound) → refused_where test (unknown_name name) (Ok made) ≡ Ok b → Stands catalog s made → Stands catalog s b
-named_stands catalog s test name made b h stands =
-    let p = passed test (unknown_name name) (Ok made) b h in
-    subst (Stands catalog s) (ok_is made b p.after) stands
+-- ---- scenarios
+created_stands : (catalog : Catalog) (name : Name) (b : Bound) → scenario_created catalog name ≡ Ok b → Stands catalog b
+created_stands catalog name b h =
+    let full = nat_le MAX_SCENARIOS (length catalog.scenarios) in
+    let made = bound.CreateScenario name in
+    let p = passed (is_taken catalog name) (duplicate_name name) (refused_where full (limit LIMIT_OF_SCENARIOS) (Ok made)) b h in
+    tested_stands catalog full (limit LIMIT_OF_SCENARIOS) made b p.after tt
 
--- ---- changes
-insert_stands : (catalog : Catalog) (s : Stmt) (name : Name) (cols : Option (List Name)) (rows : List (List E)) (b : Bound) → insert_bound catalog name cols rows ≡ Ok b → Stands catalog s b
-insert_stands catalog s name cols rows b h =
-    let w = went (table_called catalog name) (λ schema. rows_bound schema cols rows >>= (λ es. Ok (bound.Change (change.Insert name es)))) b h in
-    let v = went (rows_bound w.value cols rows) (λ es. Ok (bound.Change (change.Insert name es))) b w.after in
-    subst (Stands catalog s) (ok_is (bound.Change (change.Insert name v.value)) b v.after) tt
+under_stands : (catalog : Catalog) (scenario : Name) (tree : ChangeTree) (b : Bound) → under_bound catalog scenario tree ≡ Ok b → Stands catalog b
+under_stands catalog scenario tree b h =
+    let full = nat_le MAX_SCENARIO_CHANGES (change_count catalog scenario) in
+    let p = passed (not (is_scenario catalog scenario)) (unknown_name scenario) (change_bound catalog tree >>= taken_in catalog scenario) b h in
+    let w = went (change_bound catalog tree) (taken_in catalog scenario) b p.after in
+    tested_stands catalog full (limit LIMIT_OF_SCENARIO_CHANGES) (bound.Under scenario w.value) b w.after tt
 
-update_stands : (catalog : Catalog) (s : Stmt) (name : Name) (sets : List (Name × E)) (filter : Option E) (b : Bound) → update_bound catalog name sets filter ≡ Ok b → Stands catalog s b
-update_stands catalog s name sets filter b h =
-    let w = went (table_called catalog name) (λ schema. update_over name schema sets filter (change_scope name schema)) b h in
-    let scope = change_scope name w.value in
-    let last : List (ℕ × Expr) → Option Expr → Bound = λ es condition. bound.Change (change.Update name es condition) in
-    let v = went (sets_bound w.value scope sets) (λ es. bound_filter scope (standing part.Row) filter >>= (λ condition. Ok (last es condition))) b w.after in
-    let u = went (bound_filter scope (standing part.Row) filter) (λ condition. Ok (last v.value condition)) b v.after in
-    subst (Stands catalog s) (ok_is (last v.value u.value) b u.after) tt
-
-delete_stands : (catalog : Catalog) (s : Stmt) (name : Name) (filter : Option E) (b : Bound) → delete_bound catalog name filter ≡ Ok b → Stands catalog s b
-delete_stands catalog s name filter b h =
-    let last : Option Expr → Bound = λ condition. bound.Change (change.Delete name condition) in
-    let w = went (table_called catalog name) (λ schema. bound_filter (change_scope name schema) (standing part.Row) filter >>= (λ condition. Ok (last condition))) b h in
-    let v = went (bound_filter (change_scope name w.value) (standing part.Row) filter) (λ condition. Ok (last condition)) b w.after in
-    subst (Stands catalog s) (ok_is (last v.value) b v.after) tt
+comparison_stands : (catalog : Catalog) (view : Name) (names : List Name) (b : Bound) → comparison_bound catalog view names ≡ Ok b → Stands catalog b
+comparison_stands catalog view names b h =
+    let made : List Name → Bound = λ scenarios. bound.Compare view scenarios in
+    let p = passed (not (is_view catalog view)) (unknown_name view) (scenarios_named catalog names >>= (λ scenarios. Ok (made scenarios))) b h in
+    step_stands catalog (scenarios_named catalog names) made b p.after (λ scenarios is. tt)
 
 -- ---- all statements
-statement_stands : (catalog : Catalog) (s : Stmt) (b : Bound) → statement_bound catalog s ≡ Ok b → Stands catalog s b
+statement_stands : (catalog : Catalog) (s : Stmt) (b : Bound) → statement_bound catalog s ≡ Ok b → Stands catalog b
 statement_stands catalog (stmt.CreateTable name cols key) b h =
-    let w = went (table_bound catalog (folded name) cols key) (λ def. Ok (bound.CreateTable def)) b h in
-    subst (Stands catalog (stmt.CreateTable name cols key)) (ok_is (bound.CreateTable w.value) b w.after) (table_is_named catalog (folded name) cols key w.value w.first)
+    step_stands catalog (table_bound catalog (folded name) cols key) (λ def. bound.CreateTable def) b h (table_is_named catalog (folded name) cols key)
 statement_stands catalog (stmt.DropTable name) b h =
-    named_stands catalog (stmt.DropTable name) (not (is_table catalog (folded name))) (folded name) (bound.DropTable (folded name)) b h tt
-statement_stands catalog (stmt.CreateView name q) b h = view_stands catalog (stmt.CreateView name q) (folded name) q b h
+    tested_stands catalog (not (is_table catalog (folded name))) (unknown_name (folded name)) (bound.DropTable (folded name)) b h tt
+statement_stands catalog (stmt.CreateView name q) b h = view_stands catalog (folded name) q b h
 statement_stands catalog (stmt.DropView name) b h =
-    named_stands catalog (stmt.DropView name) (not (is_view catalog (folded name))) (folded name) (bound.DropView (folded name)) b h tt
-statement_stands catalog (stmt.Insert name cols rows) b h = insert_stands catalog (stmt.Insert name cols rows) (folded name) cols rows b h
-statement_stands catalog (stmt.Update name sets filter) b h = update_stands catalog (stmt.Update name sets filter) (folded name) sets filter b h
-statement_stands catalog (stmt.Delete name filter) b h = delete_stands catalog (stmt.Delete name filter) (folded name) filter b h
+    tested_stands catalog (not (is_view catalog (folded name))) (unknown_name (folded name)) (bound.DropView (folded name)) b h tt
+statement_stands catalog (stmt.Change tree) b h = step_stands catalog (change_bound catalog tree) (λ c. bound.Change c) b h (λ c is. tt)
 statement_stands catalog (stmt.Load name file) b h =
-    named_stands catalog (stmt.Load name file) (not (is_table catalog (folded name))) (folded name) (bound.Load (folded name) file) b h tt
-statement_stands catalog (stmt.Show name) b h = subst (Stands catalog (stmt.Show name)) (ok_is (bound.Show (folded name)) b h) tt
-statement_stands catalog (stmt.Query q) b h =
-    let w = went (query_bound catalog q) (λ b. Ok (bound.Query b)) b h in
-    subst (Stands catalog (stmt.Query q)) (ok_is (bound.Query w.value) b w.after) (query_ready catalog q w.value w.first)
+    tested_stands catalog (not (is_table catalog (folded name))) (unknown_name (folded name)) (bound.Load (folded name) file) b h tt
+statement_stands catalog (stmt.Show name) b h = made_stands catalog (bound.Show (folded name)) b h tt
+statement_stands catalog (stmt.Query q) b h = step_stands catalog (query_bound catalog q) (λ b. bound.Query b) b h (query_ready catalog q)
+statement_stands catalog stmt.Begin b h = made_stands catalog bound.Begin b h tt
+statement_stands catalog stmt.Commit b h = made_stands catalog bound.Commit b h tt
+statement_stands catalog stmt.Rollback b h = made_stands catalog bound.Rollback b h tt
+statement_stands catalog (stmt.CreateScenario name) b h = created_stands catalog (folded name) b h
+statement_stands catalog (stmt.DropScenario name) b h =
+    tested_stands catalog (not (is_scenario catalog (folded name))) (unknown_name (folded name)) (bound.DropScenario (folded name)) b h tt
+statement_stands catalog (stmt.Under scenario tree) b h = under_stands catalog (folded scenario) tree b h
+statement_stands catalog (stmt.Compare view scenarios) b h = comparison_stands catalog (folded view) scenarios b h
+statement_stands catalog (stmt.ExplainCell view measure part cell) b h =
+    step_stands catalog (cell_bound catalog (folded view) (folded measure) part cell) (λ asked. bound.ExplainCell asked) b h (λ asked is. tt)
 
 -- ---- the laws
 pub table_is_new : (catalog : Catalog) (s : Stmt) (def : TableDef) → CreatedTableIsNew catalog s def

@@ -5,7 +5,7 @@ ghost use Rattle.mq_ir.specs.declared.statement.TableDef.{TableDef};
 ghost use Rattle.mq_bind_scopes.specs.Names.{Name};
 ghost use Rattle.mq_ready_laws.specs.ReadyLaws.{BoundQueryIsReady, BoundViewIsReady, CreatedTableIsNew, CreatedViewIsNew};
 
-/// A table that may be created has a name that no table and no view has.
+/// A table that may be created has a name that no table, no view and no scenario has.
 pub fn created_tables_are_new()
     ensures { (catalog : Catalog) (s : Stmt) (def : TableDef) → CreatedTableIsNew catalog s def }
 {}

@@ -4,7 +4,7 @@ ghost use Rattle.mq_ir.specs.Lines.{Counted, Done, FaultLine, RowCount, RowLine,
 ghost use Rattle.mq_ir.specs.Statement.{answer_lines};
 ghost use Rattle.mq_render.specs.Pieces.{BeginsWith, counted};
 
-use crate::names::fault_name;
+use crate::names::kind_name;
 use crate::pieces::{Piece, push_pieces};
 use mq_ir::{Answer, Row};
 use mq_values::{Memory, QueryFault};
@@ -49,8 +49,9 @@ pub fn answer_text(answer: &Answer, out: &mut Vec<u8>) -> Result<(), Memory>
     }
 }
 
+/// Appends the lines of an answer, or a front of their text where memory runs out.
 #[tactic(auto, using(crate::proofs::PieceLemmas::fronts))]
-fn push_answer(answer: &Answer, out: &mut Vec<u8>) -> Result<(), Memory>
+pub fn push_answer(answer: &Answer, out: &mut Vec<u8>) -> Result<(), Memory>
     ensures ok { OnOk result (out.new.items ≡ out.old.items ++ text_of (answer_lines answer.now)) }
     ensures front { BeginsWith out.new.items out.old.items }
 {
@@ -85,9 +86,9 @@ fn push_row_lines(rows: &[Row], out: &mut Vec<u8>) -> Result<(), Memory>
     Ok(())
 }
 
-// A word and a number as a line.
+/// Appends a word and a number as a line, or a front of it where memory runs out.
 #[tactic(auto, using(crate::proofs::PieceLemmas::fronts))]
-fn push_count(word: &str, count: usize, out: &mut Vec<u8>) -> Result<(), Memory>
+pub fn push_count(word: &str, count: usize, out: &mut Vec<u8>) -> Result<(), Memory>
     ensures ok { OnOk result (out.new.items ≡ out.old.items ++ counted word.now count) }
     ensures front { BeginsWith out.new.items out.old.items }
 {
@@ -105,7 +106,7 @@ fn push_fault(fault: &QueryFault, out: &mut Vec<u8>) -> Result<(), Memory>
     push_pieces(
         &[
             Piece::Words("fault "),
-            Piece::Words(fault_name(fault.kind)),
+            Piece::Words(kind_name(fault.kind)),
             Piece::Words(" rule "),
             Piece::Number(fault.rule as usize),
             Piece::Words(" partition ("),

@@ -1,12 +1,21 @@
 //! The printed names of faults.
 ghost use Rattle.std.specs.Prelude.{◌≡◌};
-ghost use Rattle.mq_ir.specs.Lines.{fault_name as name_of_fault};
+ghost use Rattle.mq_ir.specs.Lines as spec;
+ghost use Rattle.mq_ir.specs.Placed.{kind_of as kind_of_fault};
 
-use mq_values::FaultKind;
+use mq_ir::kind_of;
+use mq_values::{FaultKind, ValueFault};
 
-/// The printed name of a fault (docs/LANGUAGE.md, "Faults").
-pub fn fault_name(kind: FaultKind) -> &'static str
-    ensures { result.now ≡ name_of_fault kind }
+/// The printed name of a value's fault (docs/LANGUAGE.md, "Faults").
+pub fn fault_name(fault: &ValueFault) -> &'static str
+    ensures { result.now ≡ spec.fault_name (kind_of_fault fault.now) }
+{
+    kind_name(kind_of(*fault))
+}
+
+/// The printed name of a fault's kind (docs/LANGUAGE.md, "Faults").
+pub fn kind_name(kind: FaultKind) -> &'static str
+    ensures { result.now ≡ spec.fault_name kind }
 {
     match kind {
         FaultKind::NotUnique => "NOT_UNIQUE",

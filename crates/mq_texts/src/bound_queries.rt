@@ -62,8 +62,10 @@ impl Written for ModelPart {
     fn write(&self, out: &mut Notation) {
         out.open("model");
         out.show(&self.parts);
+        out.node("parts", self.part_kinds.as_slice());
         out.node("dims", self.dims.as_slice());
         out.node("measures", self.measures.as_slice());
+        out.node("names", self.names.as_slice());
         out.flag(self.ignore_nav, "ignore");
         out.flag(self.updated_only, "updated");
         out.flag(self.auto, "automatic");

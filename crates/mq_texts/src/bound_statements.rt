@@ -1,7 +1,7 @@
 //! Bound statements.
 
 use crate::notation::{Notation, Written};
-use mq_ir::{Bound, Change, Column, Expr, TableDef};
+use mq_ir::{Bound, CellAsked, Change, Column, Expr, TableDef};
 
 impl Written for Bound {
     fn write(&self, out: &mut Notation) {
@@ -14,7 +14,31 @@ impl Written for Bound {
             Bound::Load(name, file) => out.pair("load", name, file),
             Bound::Show(name) => out.pair("show", name, &()),
             Bound::Query(query) => query.write(out),
+            Bound::Begin => out.word("begin"),
+            Bound::Commit => out.word("commit"),
+            Bound::Rollback => out.word("rollback"),
+            Bound::CreateScenario(name) => out.pair("scenario", name, &()),
+            Bound::DropScenario(name) => out.pair("drop-scenario", name, &()),
+            Bound::Under(scenario, change) => out.pair("under", scenario, change),
+            Bound::Compare(view, scenarios) => {
+                out.open("compare");
+                view.write(out);
+                out.all(scenarios.as_slice());
+                out.close();
+            }
+            Bound::ExplainCell(asked) => asked.write(out),
         }
+    }
+}
+
+impl Written for CellAsked {
+    fn write(&self, out: &mut Notation) {
+        out.open("explain");
+        self.view.write(out);
+        out.show(&self.measure);
+        out.node("partition", self.part.as_slice());
+        out.all(self.cell.as_slice());
+        out.close();
     }
 }
 

@@ -24,6 +24,7 @@ fn main(rt: HostRuntime) -> io::Result<()> {
     let mut known = Catalog {
         tables: ByName::new(rt.alloc()),
         views: ByName::new(rt.alloc()),
+        scenarios: ByName::new(rt.alloc()),
     };
     for line in rt.lines(rt.alloc()) {
         let mut answer = Notation::new(rt.alloc());

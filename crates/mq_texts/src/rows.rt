@@ -2,7 +2,7 @@
 
 use crate::notation::Notation;
 use crate::readers::{bound, read, whole};
-use mq_ir::{Bound, Catalog, TableDef, TableEntry, ViewEntry};
+use mq_ir::{Bound, Catalog, Change, Scenario, TableDef, TableEntry, View};
 use mq_lexer::{Token, tokens};
 use mq_values::{Items, Memory, Words};
 use std::alloc::Global;
@@ -13,12 +13,26 @@ pub(crate) fn answer(known: &mut Catalog, row: &str, out: &mut Notation) {
     if let Some((asked, text)) = row.split_once('\t') {
         out.add("\t");
         let done = match asked.split_once(' ') {
-            Some((asked, count)) => counted(known, asked, count, text, out),
+            Some((asked, count)) => repeatedly(known, asked, count, text, out),
             None => told(known, asked, text, out),
         };
         out.note(done);
     }
     out.add("\n");
+}
+
+// What is asked with a count behind it.
+fn repeatedly(
+    known: &mut Catalog,
+    asked: &str,
+    count: &str,
+    text: &str,
+    out: &mut Notation,
+) -> Result<(), Memory> {
+    match asked {
+        "known" => add_changes(known, count, text, out),
+        _ => counted(known, asked, count, text, out),
+    }
 }
 
 // Of a text that repeats pieces only the words of its tree are counted.
@@ -60,8 +74,7 @@ fn repeated(alloc: Global, count: &str, pieces: &str) -> Result<String, Memory> 
 fn told(known: &mut Catalog, asked: &str, text: &str, out: &mut Notation) -> Result<(), Memory> {
     let found = tokens(out.alloc, text)?;
     match asked {
-        "view" => add_view(out.alloc, known, text),
-        "table" => add_table(known, &found, out),
+        "known" => add(known, &found, out),
         "both" => {
             read("statement", known, &found, out);
             out.add("\t");
@@ -76,22 +89,15 @@ fn told(known: &mut Catalog, asked: &str, text: &str, out: &mut Notation) -> Res
     }
 }
 
-// A view of this name, which reads nothing, is there from now on.
-fn add_view(alloc: Global, known: &mut Catalog, name: &str) -> Result<(), Memory> {
-    if known.views.has(name) {
-        return Ok(());
-    }
-    let name = Words::new(alloc, name)?;
-    known.views.put(ViewEntry {
-        name,
-        reads: Items::new(alloc),
-    })
-}
-
-// The table of a CREATE TABLE is there from now on.
-fn add_table(known: &mut Catalog, t: &[Token<'_>], out: &mut Notation) -> Result<(), Memory> {
+// What a CREATE makes is there from now on.
+fn add(known: &mut Catalog, t: &[Token<'_>], out: &mut Notation) -> Result<(), Memory> {
     match bound(out.alloc, known, t) {
         Ok(Bound::CreateTable(def)) => put_table(known, def),
+        Ok(Bound::CreateView(name, query)) => put_view(known, View { name, query }),
+        Ok(Bound::CreateScenario(name)) => {
+            let changes = Items::new(out.alloc);
+            put_scenario(known, Scenario { name, changes })
+        }
         other => {
             whole(other, out);
             Ok(())
@@ -105,4 +111,53 @@ fn put_table(known: &mut Catalog, def: TableDef) -> Result<(), Memory> {
         return Ok(());
     }
     known.tables.put(TableEntry { name, schema })
+}
+
+fn put_view(known: &mut Catalog, view: View) -> Result<(), Memory> {
+    if known.views.has(view.name.as_str()) {
+        return Ok(());
+    }
+    known.views.put(view)
+}
+
+fn put_scenario(known: &mut Catalog, scenario: Scenario) -> Result<(), Memory> {
+    if known.scenarios.has(scenario.name.as_str()) {
+        return Ok(());
+    }
+    known.scenarios.put(scenario)
+}
+
+// The scenario of an UNDER has its change as often as the count says from now on, and no others.
+fn add_changes(
+    known: &mut Catalog,
+    count: &str,
+    text: &str,
+    out: &mut Notation,
+) -> Result<(), Memory> {
+    let found = tokens(out.alloc, text)?;
+    let mut changes = Items::new(out.alloc);
+    for _ in 1..count.parse::<usize>().unwrap_or(1) {
+        if let Some((_, change)) = taken_in(out.alloc, known, &found) {
+            changes.push(change)?;
+        }
+    }
+    match taken_in(out.alloc, known, &found) {
+        Some((name, change)) => {
+            changes.push(change)?;
+            known.scenarios.remove(name.as_str());
+            put_scenario(known, Scenario { name, changes })
+        }
+        None => {
+            out.add("unknown");
+            Ok(())
+        }
+    }
+}
+
+// The scenario of an UNDER, and its change.
+fn taken_in(alloc: Global, known: &Catalog, t: &[Token<'_>]) -> Option<(Words, Change)> {
+    match bound(alloc, known, t) {
+        Ok(Bound::Under(name, change)) => Some((name, change)),
+        _ => None,
+    }
 }

@@ -1,7 +1,7 @@
 //! Statements as they are read.
 
 use crate::notation::{Notation, Written};
-use mq_ast::{ColDef, E, Stmt};
+use mq_ast::{ChangeTree, ColDef, E, Stmt};
 use mq_values::Words;
 
 impl Written for Stmt {
@@ -20,36 +20,70 @@ impl Written for Stmt {
             Stmt::Show { name } => out.pair("show", name, &()),
             Stmt::Load { name, file } => out.pair("load", name, file),
             Stmt::Query(query) => query.write(out),
-            _ => write_change(self, out),
+            Stmt::Change(change) => change.write(out),
+            Stmt::Begin => out.word("begin"),
+            Stmt::Commit => out.word("commit"),
+            Stmt::Rollback => out.word("rollback"),
+            _ => write_scenario(self, out),
         }
     }
 }
 
-fn write_change(statement: &Stmt, out: &mut Notation) {
+// What scenarios are for, and a cell that is explained.
+fn write_scenario(statement: &Stmt, out: &mut Notation) {
     match statement {
-        Stmt::Insert { name, cols, rows } => {
-            out.open("insert");
-            name.write(out);
-            if let Some(columns) = cols {
-                out.node("columns", columns.as_slice());
-            }
-            out.all(rows.as_slice());
+        Stmt::CreateScenario { name } => out.pair("scenario", name, &()),
+        Stmt::DropScenario { name } => out.pair("drop-scenario", name, &()),
+        Stmt::Under { scenario, change } => out.pair("under", scenario, change),
+        Stmt::Compare { view, scenarios } => {
+            out.open("compare");
+            view.write(out);
+            out.all(scenarios.as_slice());
             out.close();
         }
-        Stmt::Update { name, sets, filter } => {
-            out.open("update");
-            name.write(out);
-            out.all(sets.as_slice());
-            out.some("where", filter);
-            out.close();
-        }
-        Stmt::Delete { name, filter } => {
-            out.open("delete");
-            name.write(out);
-            out.some("where", filter);
+        Stmt::ExplainCell {
+            view,
+            measure,
+            part,
+            cell,
+        } => {
+            out.open("explain");
+            view.write(out);
+            measure.write(out);
+            out.node("partition", part.as_slice());
+            out.all(cell.as_slice());
             out.close();
         }
         _ => {}
+    }
+}
+
+impl Written for ChangeTree {
+    fn write(&self, out: &mut Notation) {
+        match self {
+            ChangeTree::Insert { name, cols, rows } => {
+                out.open("insert");
+                name.write(out);
+                if let Some(columns) = cols {
+                    out.node("columns", columns.as_slice());
+                }
+                out.all(rows.as_slice());
+                out.close();
+            }
+            ChangeTree::Update { name, sets, filter } => {
+                out.open("update");
+                name.write(out);
+                out.all(sets.as_slice());
+                out.some("where", filter);
+                out.close();
+            }
+            ChangeTree::Delete { name, filter } => {
+                out.open("delete");
+                name.write(out);
+                out.some("where", filter);
+                out.close();
+            }
+        }
     }
 }
 

@@ -4,7 +4,7 @@ use Rattle.std.specs.List.{list_any}
 use Rattle.std.proofs.lemmas.Cmp.{nat_list_eq_equiv}
 use Rattle.mq_ir.specs.declared.catalog.Catalog.{Catalog}
 use Rattle.mq_ir.specs.declared.catalog.TableEntry.{TableEntry}
-use Rattle.mq_ir.specs.Names.{is_table, is_taken, is_view}
+use Rattle.mq_ir.specs.Names.{is_scenario, is_table, is_taken, is_view}
 use Rattle.mq_ir.specs.Statement.{State}
 use Rattle.mq_ir.specs.Tables.{Tables, is_name, table_at}
 use Rattle.mq_engine.specs.Catalogs.{catalog_of, entry_of_table}
@@ -29,10 +29,15 @@ none_named (t ∷ ts) name h =
     by true k g = absurd cc
     by false k g = k g
 
+no_table : (catalog : Catalog) (name : List ℕ) → is_taken catalog name ≡ false → is_table catalog name ≡ false
+no_table catalog name h =
+    neither (is_table catalog name) (is_view catalog name) (neither (is_table catalog name || is_view catalog name) (is_scenario catalog name) h)
+
 -- a name that is not taken is the name of no table
 pub not_there : (state : State) (name : List ℕ) → is_taken (catalog_of state) name ≡ false → table_at state.tables name ≡ None
-not_there state name h = none_named state.tables name (neither (is_table (catalog_of state) name) (is_view (catalog_of state) name) h)
+not_there state name h = none_named state.tables name (no_table (catalog_of state) name h)
 
 -- or of no view
 pub no_view : (catalog : Catalog) (name : List ℕ) → is_taken catalog name ≡ false → is_view catalog name ≡ false
-no_view catalog name h = either (is_table catalog name) (is_view catalog name) h
+no_view catalog name h =
+    either (is_table catalog name) (is_view catalog name) (neither (is_table catalog name || is_view catalog name) (is_scenario catalog name) h)

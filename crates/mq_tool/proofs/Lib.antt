@@ -1,3 +1,4 @@
+pub mod BoundLemmas
 pub mod CatalogLemmas
 pub mod CommandLemmas
 pub mod FindLemmas

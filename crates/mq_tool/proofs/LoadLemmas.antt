@@ -8,18 +8,19 @@ use Rattle.mq_values.specs.declared.faults.Refused.TheVariants as refused
 use Rattle.mq_values.specs.declared.memory.Fail.{Fail}
 use Rattle.mq_ir.specs.declared.catalog.TableEntry.{TableEntry}
 use Rattle.mq_ir.specs.declared.statement.Bound.TheVariants as bound
+use Rattle.mq_ir.specs.declared.statement.Change.{Change}
 use Rattle.mq_ir.specs.declared.statement.Change.TheVariants.{Append}
 use Rattle.mq_ir.specs.declared.statement.Schema.{Schema}
 use Rattle.mq_ir.specs.Partitions.{Tuple}
 use Rattle.mq_ir.specs.Results.{◌>>=◌}
-use Rattle.mq_ir.specs.Statement.{Printed, State, change_step, file_bytes, load_step, taken}
+use Rattle.mq_ir.specs.Statement.{Printed, State, change_step}
 use Rattle.mq_ir.specs.Tables.{Table, Tables, is_name, table_at}
 use Rattle.mq_csvload.specs.Loading.{rows_in}
 use Rattle.mq_engine.specs.Catalogs.{catalog_of, entry_of_table}
 use Rattle.mq_tool.specs.declared.stops.Stop.{Stop}
 use Rattle.mq_tool.specs.declared.stops.Stop.TheVariants as stop
-use Rattle.mq_tool.specs.Loads.{Found, rows_of_file}
-use Rattle.mq_tool.specs.Script.{FileMap, seen_files}
+use Rattle.mq_tool.specs.Loads.{FileMap, Found, file_bytes, load_change, rows_of_file}
+use Rattle.mq_tool.specs.Statements.{outside}
 use Rattle.mq_tool.specs.Steps.{Ends, Takes}
 
 -- the columns of a table of the catalog are those of the table
@@ -40,14 +41,9 @@ schema_found (t ∷ ts) name =
     by true h = refl
     by false h = h
 
--- three steps in a row
-steps_join : {A B C E : Type 0} (r : Result A E) (f : A → Result B E) (g : B → Result C E) → (r >>= f) >>= g ≡ r >>= (λ x. f x >>= g)
-steps_join (Ok x) f g = refl
-steps_join (Err e) f g = refl
-
--- a LOAD finds its rows first, and then appends them
+-- the change of a LOAD is that of the rows that are found
 load_parts : (files : FileMap) (state : State) (table file : List ℕ)
-    → load_step (seen_files files) state table file ≡ rows_of_file files (catalog_of state) table file >>= (λ rows. change_step state (Append table rows))
+    → (load_change files state.tables table file >>= change_step state) ≡ rows_of_file files (catalog_of state) table file >>= (λ rows. change_step state (Append table rows))
 load_parts files state table file =
     by (table_at state.tables table)
     ∙ ap (λ (s : Option Schema). (ok_or s (refused.UnknownName table) >>= rows_by) >>= append) (sym (schema_found state.tables table))
@@ -56,27 +52,39 @@ load_parts files state table file =
     append rows = change_step state (Append table rows)
 
     rows_by : Schema → Result (List Tuple) Refused
-    rows_by schema = file_bytes (seen_files files) file >>= (λ bytes. rows_in bytes schema)
+    rows_by schema = file_bytes files file >>= (λ bytes. rows_in bytes schema)
+
+    change_by : Schema → List ℕ → Result Change Refused
+    change_by schema bytes = rows_in bytes schema >>= (λ rows. Ok (Append table rows))
+
+    rows_first : (r : Result (List Tuple) Refused) → ((r >>= (λ rows. Ok (Append table rows))) >>= change_step state) ≡ (r >>= append)
+    rows_first (Ok rows) = refl
+    rows_first (Err e) = refl
+
+    bytes_first : (schema : Schema) (r : Result (List ℕ) Refused)
+        → ((r >>= change_by schema) >>= change_step state) ≡ ((r >>= (λ bytes. rows_in bytes schema)) >>= append)
+    bytes_first schema (Ok bytes) = rows_first (rows_in bytes schema)
+    bytes_first schema (Err e) = refl
 
     by : (o : Option Table)
-        → ok_or o (refused.UnknownName table) >>= (λ t. file_bytes (seen_files files) file >>= (λ bytes. rows_in bytes t.schema >>= append))
+        → ((ok_or o (refused.UnknownName table) >>= (λ t. file_bytes files file >>= change_by t.schema)) >>= change_step state)
         ≡ (ok_or (option_map (λ (t : Table). t.schema) o) (refused.UnknownName table) >>= rows_by) >>= append
     by None = refl
-    by (Some t) = sym (steps_join (file_bytes (seen_files files) file) (λ bytes. rows_in bytes t.schema) append)
+    by (Some t) = bytes_first t.schema (file_bytes files file)
 
 -- rows that were found are appended
-pub loads : (files : FileMap) (old new : State) (table file : List ℕ) (rows : List Tuple) (before after : List ℕ) (result : Result Bool (Fail Refused))
+pub loads : (files : FileMap) (line : ℕ) (old new : State) (table file : List ℕ) (rows : List Tuple) (before after : List ℕ) (result : Result Bool (Fail Refused))
     → Found (Ok rows) (rows_of_file files (catalog_of old) table file) → Takes (change_step old (Append table rows)) old new before after result
-    → Takes (taken (seen_files files) old (bound.Load table file)) old new before after result
-loads files old new table file rows before after result found takes =
-    let meant : change_step old (Append table rows) ≡ load_step (seen_files files) old table file =
+    → Takes (outside files old line (bound.Load table file)) old new before after result
+loads files line old new table file rows before after result found takes =
+    let meant : change_step old (Append table rows) ≡ outside files old line (bound.Load table file) =
     sym (load_parts files old table file ∙ ap (λ (r : Result (List Tuple) Refused). r >>= (λ rows. change_step old (Append table rows))) found) in
     subst (λ (m : Result Printed Refused). Takes m old new before after result) meant takes
 
 -- where none were found the refusal is the statement's
-pub loads_none : (files : FileMap) (old : State) (table file : List ℕ) (before : List ℕ) (e : Stop) → Found (Err e) (rows_of_file files (catalog_of old) table file)
-    → Ends (taken (seen_files files) old (bound.Load table file)) old old before before (Err e)
-loads_none files old table file before (stop.Refused r) found =
+pub loads_none : (files : FileMap) (line : ℕ) (old : State) (table file : List ℕ) (before : List ℕ) (e : Stop) → Found (Err e) (rows_of_file files (catalog_of old) table file)
+    → Ends (outside files old line (bound.Load table file)) old old before before (Err e)
+loads_none files line old table file before (stop.Refused r) found =
     (load_parts files old table file ∙ ap (λ (r : Result (List Tuple) Refused). r >>= (λ rows. change_step old (Append table rows))) found, refl, refl)
-loads_none files old table file before stop.NotFetched found = tt
-loads_none files old table file before stop.Memory found = tt
+loads_none files line old table file before stop.NotFetched found = tt
+loads_none files line old table file before stop.Memory found = tt

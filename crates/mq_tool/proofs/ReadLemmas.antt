@@ -5,7 +5,8 @@ use Rattle.mq_lexer.specs.Statements.{Statement}
 use Rattle.mq_ast.specs.Laws.OneStatementLemmas.{stmt_same}
 use Rattle.mq_ir.specs.Lines.{Line}
 use Rattle.mq_engine.specs.Sessions.{nothing}
-use Rattle.mq_tool.specs.Script.{AreReadAs, ArePrinted, Deep, FileMap, IsReadAs, NoTree, Read, Tree, lines_from, seen}
+use Rattle.mq_tool.specs.Loads.{FileMap}
+use Rattle.mq_tool.specs.Script.{ArePrinted, AreReadAs, Deep, IsReadAs, NoTree, Read, Tree, lines_from, seen}
 
 pub one_read : (tokens : List Lexeme) (a b : Read) → IsReadAs tokens a → IsReadAs tokens b → a ≡ b
 one_read tokens Deep Deep p q = refl

@@ -11,7 +11,8 @@ use Rattle.mq_tool.specs.declared.commands.Command.TheVariants.{Generated}
 use Rattle.mq_tool.specs.declared.generated.Summary.{Summary}
 use Rattle.mq_tool.specs.declared.statuses.TheConstants.{DONE, FLAWED}
 use Rattle.mq_tool.specs.Script.{IsOutput, status_of}
-use Rattle.mq_tool.specs.Summary.{IsSummaryOf, no_files, summary_text}
+use Rattle.mq_tool.specs.Loads.{no_files}
+use Rattle.mq_tool.specs.Summary.{IsSummaryOf, summary_text}
 use Rattle.mq_tool.proofs.ReadLemmas.{one_printed}
 
 module _ (number size : ℕ) (s : Summary) (before after : Option (List ℕ)) (is : IsSummaryOf (script_of number size) s) where

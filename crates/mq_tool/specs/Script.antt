@@ -1,5 +1,5 @@
 -- What a script prints.
-use Rattle.std.specs.Prelude.{◌≡◌, ◌⊎◌, ◌≤◌, ⊤, ℕ, List, [], ◌∷◌, ◌++◌, length, map, Option, Result, Ok, Err, IsUtf8, if◌then◌else◌}
+use Rattle.std.specs.Prelude.{◌≡◌, ◌⊎◌, ◌≤◌, ⊤, ℕ, List, [], ◌∷◌, ◌++◌, length, map, Bool, true, false, Option, Result, Ok, Err, IsUtf8, if◌then◌else◌}
 use Rattle.std.specs.List.{list_any}
 use Rattle.std.specs.Io.KnownBytes.{Appends}
 use Rattle.mq_values.specs.declared.faults.Refused.{Refused}
@@ -9,16 +9,18 @@ use Rattle.mq_lexer.specs.Lexemes.{Lexeme}
 use Rattle.mq_lexer.specs.Statements.{Statement, statements}
 use Rattle.mq_lexer.specs.Tokens as lexer
 use Rattle.mq_ast.specs.declared.statements.Stmt.{Stmt}
+use Rattle.mq_ast.specs.declared.statements.Stmt.TheVariants as stmt
 use Rattle.mq_ast.specs.Prelude.{StmtE, Tok, tok}
 use Rattle.mq_parse_stmt.specs.Depth.{TooDeep}
 use Rattle.mq_ir.specs.declared.statement.Bound.TheVariants as bound
 use Rattle.mq_ir.specs.Lines.{Line, RefusalLine, is_flaw, text_of}
 use Rattle.mq_ir.specs.Results.{◌>>=◌}
-use Rattle.mq_ir.specs.Statement.{Files, Printed, State, taken}
+use Rattle.mq_ir.specs.Statement.{Printed, State}
 use Rattle.mq_binder.specs.StatementWalk.{statement_bound}
-use Rattle.mq_csvload.specs.Loading.{rows_in}
 use Rattle.mq_engine.specs.Catalogs.{catalog_of}
 use Rattle.mq_engine.specs.Sessions.{nothing}
+use Rattle.mq_tool.specs.Loads.{FileMap}
+use Rattle.mq_tool.specs.Statements.{after_refusal, taken}
 use Rattle.mq_tool.specs.declared.statuses.TheConstants.{DONE, FLAWED, NOT_UTF8}
 
 -- What the tokens of a statement are read as: they nest too deep, or no statement reads them, or this one does.
@@ -42,41 +44,55 @@ AreReadAs [] [] = ⊤
 AreReadAs (s ∷ ss) (r ∷ rs) = (r.0 ≡ s.line) × IsReadAs s.tokens r.1 × AreReadAs ss rs
 AreReadAs _ _ = ⊥
 
+-- a statement that is done already: those of blocks, scenarios and explained cells are not yet
+abbrev pub is_built : Stmt → Bool
+is_built stmt.Begin = false
+is_built stmt.Commit = false
+is_built stmt.Rollback = false
+is_built (stmt.CreateScenario name) = false
+is_built (stmt.DropScenario name) = false
+is_built (stmt.Under scenario change) = false
+is_built (stmt.Compare view scenarios) = false
+is_built (stmt.ExplainCell view measure part cell) = false
+is_built _ = true
+
+-- what the program takes tokens as: a statement that it does not do yet is none
+abbrev pub built : Read → Read
+built Deep = Deep
+built NoTree = NoTree
+built (Tree s) = if is_built s then Tree s else NoTree
+
 -- the tree, or why there is none
 abbrev pub tree_of : Read → Result Stmt Refused
 tree_of Deep = Err refused.TooDeep
 tree_of NoTree = Err refused.Syntax
 tree_of (Tree s) = Ok s
 
--- the bytes of files, by their names
-abbrev pub FileMap : Type 0
-FileMap = List ℕ → Option (List ℕ)
+-- what a statement on this line does and prints: it is bound under the names that stand, and then taken
+abbrev pub meaning : FileMap → State → ℕ × Read → Result Printed Refused
+meaning files state r = tree_of r.1 >>= (λ s. statement_bound (catalog_of state) s >>= taken files state r.0)
 
--- what a LOAD sees of them: the bytes, and the rows of a table that bytes hold as CSV
-abbrev pub seen_files : FileMap → Files
-seen_files files = record { bytes_of = files; rows_in = rows_in }
-
--- what a statement does and prints where it is not refused: it is bound under the names that stand, and then taken
-abbrev pub meaning : FileMap → State → Read → Result Printed Refused
-meaning files state read = tree_of read >>= (λ s. statement_bound (catalog_of state) s >>= taken (seen_files files) state)
-
--- a refused statement alters nothing, and prints its refusal with its line
+-- a refused statement prints its refusal with its line
 abbrev pub or_refusal : State → ℕ → Result Printed Refused → Printed
 or_refusal state line (Ok printed) = printed
-or_refusal state line (Err refusal) = (state, RefusalLine line refusal ∷ [])
+or_refusal state line (Err refusal) = (after_refusal state line refusal, RefusalLine line refusal ∷ [])
 
--- the state after a statement that starts on this line, and what it prints
+-- the statement step: the state after a statement that starts on this line, and what it prints
 abbrev pub statement_step : FileMap → State → ℕ × Read → Printed
-statement_step files state r = or_refusal state r.0 (meaning files state r.1)
+statement_step files state r = or_refusal state r.0 (meaning files state r)
+
+-- the step that the program takes
+abbrev pub program_step : FileMap → State → ℕ × Read → Printed
+program_step files state r = statement_step files state (r.0, built r.1)
 
 -- the state after statements, one after another, from this state on, and their lines
 abbrev pub state_from : FileMap → State → List (ℕ × Read) → State
 state_from files state [] = state
-state_from files state (r ∷ rs) = state_from files (statement_step files state r).0 rs
+state_from files state (r ∷ rs) = state_from files (program_step files state r).0 rs
 
 abbrev pub lines_from : FileMap → State → List (ℕ × Read) → List Line
 lines_from files state [] = []
-lines_from files state (r ∷ rs) = (statement_step files state r).1 ++ lines_from files (statement_step files state r).0 rs
+lines_from files state (r ∷ rs) = (program_step files state r).1 ++ lines_from files (program_step files state r).0 rs
 
 -- bytes that are a script: not too many, and UTF-8
 abbrev pub IsScript : List ℕ → Type 0

@@ -1,5 +1,5 @@
 -- The run of a generated script, of which a summary is written.
-use Rattle.std.specs.Prelude.{◌≡◌, ℕ, List, length, None}
+use Rattle.std.specs.Prelude.{◌≡◌, ℕ, List, length}
 use Rattle.std.specs.List.{list_any}
 use Rattle.mq_lexer.specs.Statements.{statements}
 use Rattle.mq_lexer.specs.Tokens as lexer
@@ -7,11 +7,8 @@ use Rattle.mq_ir.specs.Lines.{Line, is_flaw, text_of}
 use Rattle.mq_generate.specs.Script.{script_of}
 use Rattle.mq_generate.specs.Summary.{summary_of}
 use Rattle.mq_tool.specs.declared.generated.Summary.{Summary}
-use Rattle.mq_tool.specs.Script.{FileMap, IsOutput}
-
--- no file has any name
-abbrev pub no_files : FileMap
-no_files name = None
+use Rattle.mq_tool.specs.Loads.{no_files}
+use Rattle.mq_tool.specs.Script.{IsOutput}
 
 -- the summary of these lines, the output of the script that a number and a size generate
 abbrev pub summary_text : ℕ → ℕ → List Line → List ℕ

@@ -7,7 +7,8 @@ ghost use Rattle.mq_io.specs.Progress.{AppendsFront};
 ghost use Rattle.mq_ir.specs.Lines.{Line};
 ghost use Rattle.mq_generate.specs.Script.{script_of};
 ghost use Rattle.mq_tool.specs.Script.{IsOutput, IsWhole, status_of};
-ghost use Rattle.mq_tool.specs.Summary.{IsSummaryOf, no_files, summary_text};
+ghost use Rattle.mq_tool.specs.Loads.{no_files};
+ghost use Rattle.mq_tool.specs.Summary.{IsSummaryOf, summary_text};
 
 use crate::commands::DEFAULT_WORKERS;
 use crate::scripts::run_statements;

@@ -3,7 +3,8 @@
 ghost use Rattle.std.specs.Prelude.{◌≡◌, ℕ, List};
 ghost use Rattle.mq_lexer.specs.Lexemes.{Lexeme};
 ghost use Rattle.mq_ir.specs.Lines.{Line};
-ghost use Rattle.mq_tool.specs.Script.{FileMap, IsOutput, IsReadAs, Read};
+ghost use Rattle.mq_tool.specs.Loads.{FileMap};
+ghost use Rattle.mq_tool.specs.Script.{IsOutput, IsReadAs, Read};
 
 /// The tokens of a statement are read in one way only, and so a script has one output.
 pub fn one_output()

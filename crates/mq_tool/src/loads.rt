@@ -1,13 +1,13 @@
 //! LOAD: a file is fetched from the shelf, and its records become rows of a table.
 
-ghost use Rattle.std.specs.Prelude.{◌≡◌, ◌≤◌, Some, IsErrOf};
+ghost use Rattle.std.specs.Prelude.{◌≡◌, ◌≤◌, ℕ, Some, IsErrOf};
 ghost use Rattle.mq_values.specs.Answers.{result_map};
 ghost use Rattle.mq_io.specs.Causes.{Rose};
 ghost use Rattle.mq_ir.specs.declared.statement.Bound.TheVariants as bound;
 ghost use Rattle.mq_ir.specs.declared.statement.Change.TheVariants.{Append};
-ghost use Rattle.mq_ir.specs.Statement.{change_step, file_bytes, taken};
-ghost use Rattle.mq_tool.specs.Loads.{Found, rows_of_file};
-ghost use Rattle.mq_tool.specs.Script.{FileMap, seen_files};
+ghost use Rattle.mq_ir.specs.Statement.{change_step};
+ghost use Rattle.mq_tool.specs.Loads.{FileMap, Found, file_bytes, rows_of_file};
+ghost use Rattle.mq_tool.specs.Statements.{outside};
 ghost use Rattle.mq_tool.specs.Steps.{Ends, Takes};
 
 use crate::stops::Stop;
@@ -30,8 +30,8 @@ pub(crate) fn load<F: Shelf, G: Gate>(
     out: &mut Vec<u8>,
     gate: &G,
 ) -> Result<bool, Stop>
-    ensures done { (told : FileMap) → F.files files.old ≡ Some told
-        → Ends (taken (seen_files told) engine.old (bound.Load table file.now)) engine.old engine.new out.old.items out.new.items result }
+    ensures done { (told : FileMap) (line : ℕ) → F.files files.old ≡ Some told
+        → Ends (outside told engine.old line (bound.Load table file.now)) engine.old engine.new out.old.items out.new.items result }
     ensures files { F.files files.new ≡ F.files files.old }
     ensures later { F.faults files.old ≤ F.faults files.new }
     ensures not_fetched { IsErrOf result Stop.NotFetched → (engine.new ≡ engine.old) × (out.new ≡ out.old) }
@@ -85,7 +85,7 @@ fn file_rows<F: Shelf>(
 // The bytes of the file.
 fn fetched<F: Shelf>(file: &Words, files: &mut F) -> Result<Vec<u8>, Stop>
     ensures exact { (told : FileMap) → F.files files.old ≡ Some told
-        → Found (result_map (λ bytes. bytes.items) result) (file_bytes (seen_files told) file.now) }
+        → Found (result_map (λ bytes. bytes.items) result) (file_bytes told file.now) }
     ensures files { F.files files.new ≡ F.files files.old }
     ensures later { F.faults files.old ≤ F.faults files.new }
     ensures failed { IsErrOf result Stop.NotFetched → Rose (F.faults files.old) (F.faults files.new) }

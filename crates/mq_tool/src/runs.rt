@@ -9,7 +9,8 @@ ghost use Rattle.mq_generate.specs.Script.{script_of};
 ghost use Rattle.mq_tool.specs.declared.commands.Command.TheVariants as command;
 ghost use Rattle.mq_tool.specs.Commands.{RunsScript, command_of as asked};
 ghost use Rattle.mq_tool.specs.Script.{IsOutput, IsScript, IsStatus, IsWhole, StopsAtLoad, status_of};
-ghost use Rattle.mq_tool.specs.Summary.{no_files, summary_text};
+ghost use Rattle.mq_tool.specs.Loads.{no_files};
+ghost use Rattle.mq_tool.specs.Summary.{summary_text};
 
 use crate::commands::{Command, command_of};
 use crate::generated::run_generated;

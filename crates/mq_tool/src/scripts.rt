@@ -9,7 +9,8 @@ ghost use Rattle.mq_lexer.specs.Tokens as scanner;
 ghost use Rattle.mq_ir.specs.Lines.{Line, text_of};
 ghost use Rattle.mq_engine.specs.declared.engine.TheConstants.{MAX_WORKERS};
 ghost use Rattle.mq_tool.specs.declared.statuses.TheConstants.{BAD_WORDS};
-ghost use Rattle.mq_tool.specs.Script.{FileMap, IsOutput, IsScript, IsStatus, IsWhole, StoppedAtLoad, StopsAtLoad, status_of};
+ghost use Rattle.mq_tool.specs.Loads.{FileMap};
+ghost use Rattle.mq_tool.specs.Script.{IsOutput, IsScript, IsStatus, IsWhole, StoppedAtLoad, StopsAtLoad, status_of};
 ghost use Rattle.mq_tool.specs.Steps.{CutShort, IsLoadAt, Writes, WritesAll, WritesFront};
 
 use crate::statuses::{DONE, FLAWED, NO_MEMORY, NOT_UTF8, READ_FAILED, TOO_LONG, WRITE_FAILED};

@@ -1,11 +1,11 @@
 //! One statement: it is read, bound and done, and its lines are written into a buffer.
 
-ghost use Rattle.std.specs.Prelude.{◌≡◌, ◌≤◌, Some, IfOk, IsErrOf, map};
+ghost use Rattle.std.specs.Prelude.{◌≡◌, ◌≤◌, ℕ, None, Some, IfOk, IsErrOf, map};
 ghost use Rattle.mq_io.specs.Causes.{Rose};
 ghost use Rattle.mq_lexer.specs.Lexemes.{lexeme};
 ghost use Rattle.mq_lexer.specs.Statements as lexer;
-ghost use Rattle.mq_ir.specs.Statement.{taken};
-ghost use Rattle.mq_tool.specs.Script.{FileMap, seen_files};
+ghost use Rattle.mq_tool.specs.Loads.{FileMap};
+ghost use Rattle.mq_tool.specs.Statements.{outside};
 ghost use Rattle.mq_tool.specs.Steps.{CanRun, Does, Ends, IsLoadAt, IsLoadBound, Tries};
 
 use crate::loads::load;
@@ -36,6 +36,8 @@ pub fn do_statement<F: Shelf, G: Gate>(
     ensures load { IsErrOf result IoFault.Failed → IsLoadAt (lexer.statement statement.now) engine.old }
     ensures failed { IsErrOf result IoFault.Failed → Rose (F.faults files.old) (F.faults files.new) }
 {
+    // That no block is there is known from here on.
+    let _ = engine.in_block();
     match try_statement(alloc, engine, statement.tokens, files, out, gate) {
         Ok(flaw) => Ok(flaw),
         Err(Stop::Refused(refused)) => match refusal_text(statement.line, &refused, out) {
@@ -56,6 +58,7 @@ fn try_statement<F: Shelf, G: Gate>(
     out: &mut Vec<u8>,
     gate: &G,
 ) -> Result<bool, Stop>
+    requires { engine.old.block ≡ None }
     ensures done { Tries (map lexeme tokens.now) (F.files files.old) engine.old engine.new out.old.items out.new.items result }
     ensures files { F.files files.new ≡ F.files files.old }
     ensures later { F.faults files.old ≤ F.faults files.new }
@@ -66,7 +69,7 @@ fn try_statement<F: Shelf, G: Gate>(
     do_bound(alloc, engine, bound, files, out, gate)
 }
 
-// Does a bound statement, or answers why it is not done, and then nothing is changed or appended.
+// Does a bound statement where no block is there, or answers why it is not done, and then nothing is changed or appended.
 fn do_bound<F: Shelf, G: Gate>(
     alloc: Global,
     engine: &mut Engine,
@@ -76,8 +79,8 @@ fn do_bound<F: Shelf, G: Gate>(
     gate: &G,
 ) -> Result<bool, Stop>
     requires { CanRun engine.old bound }
-    ensures done { (told : FileMap) → F.files files.old ≡ Some told
-        → Ends (taken (seen_files told) engine.old bound) engine.old engine.new out.old.items out.new.items result }
+    ensures done { (told : FileMap) (line : ℕ) → F.files files.old ≡ Some told
+        → Ends (outside told engine.old line bound) engine.old engine.new out.old.items out.new.items result }
     ensures files { F.files files.new ≡ F.files files.old }
     ensures later { F.faults files.old ≤ F.faults files.new }
     ensures load { IsErrOf result Stop.NotFetched → IsLoadBound bound }

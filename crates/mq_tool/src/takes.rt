@@ -1,6 +1,6 @@
 //! What a bound statement does, and the lines that it prints.
 
-ghost use Rattle.std.specs.Prelude.{◌≡◌, None, false};
+ghost use Rattle.std.specs.Prelude.{◌≡◌, ℕ, None, false};
 ghost use Rattle.std.specs.List.{list_any};
 ghost use Rattle.mq_ir.specs.Lines.{is_flaw};
 ghost use Rattle.mq_ir.specs.Names.{is_view};
@@ -8,6 +8,8 @@ ghost use Rattle.mq_ir.specs.Statement as spec;
 ghost use Rattle.mq_ir.specs.Tables.{table_at};
 ghost use Rattle.mq_ir.specs.Ready.{QueryIsReady};
 ghost use Rattle.mq_engine.specs.Catalogs.{catalog_of};
+ghost use Rattle.mq_tool.specs.Loads.{FileMap};
+ghost use Rattle.mq_tool.specs.Statements.{outside};
 ghost use Rattle.mq_tool.specs.Steps.{CanLend, CanTake, Takes};
 
 use mq_engine::Engine;
@@ -17,8 +19,9 @@ use mq_render::{answer_text, count_text, done_text};
 use mq_values::{Fail, Refused, Words};
 use std::alloc::Global;
 
-/// Does a bound statement that is no LOAD, appends its lines to `out`, and answers whether one of them is an error or a
-/// fault; or why it is refused, and then nothing is changed or appended (docs/MEANING.md, "Statements").
+/// Does a bound statement that is no LOAD, where no block is there, appends its lines to `out`, and answers whether one of
+/// them is an error or a fault; or why it is refused, and then nothing is changed or appended (docs/MEANING.md,
+/// "Statements").
 pub fn take<G: Gate>(
     alloc: Global,
     engine: &mut Engine,
@@ -27,7 +30,7 @@ pub fn take<G: Gate>(
     gate: &G,
 ) -> Result<bool, Fail<Refused>>
     requires { CanTake engine.old bound }
-    ensures { (files : spec.Files) → Takes (spec.taken files engine.old bound) engine.old engine.new out.old.items out.new.items result }
+    ensures { (files : FileMap) (line : ℕ) → Takes (outside files engine.old line bound) engine.old engine.new out.old.items out.new.items result }
 {
     match bound {
         Bound::CreateTable(def) => create_table(alloc, engine, def, out),
@@ -45,7 +48,7 @@ fn take_lent<G: Gate>(
     gate: &G,
 ) -> Result<bool, Fail<Refused>>
     requires { CanLend engine.old bound.now }
-    ensures { (files : spec.Files) → Takes (spec.taken files engine.old bound.now) engine.old engine.new out.old.items out.new.items result }
+    ensures { (files : FileMap) (line : ℕ) → Takes (outside files engine.old line bound.now) engine.old engine.new out.old.items out.new.items result }
 {
     match bound {
         Bound::DropTable(name) => drop_table(engine, name, out),
@@ -53,7 +56,7 @@ fn take_lent<G: Gate>(
         Bound::Change(change) => apply(alloc, engine, change, out, gate),
         Bound::Show(name) => show(alloc, engine, name, out, gate),
         Bound::Query(query) => ask(alloc, engine, query, out, gate),
-        // Those of which it keeps a part, and LOAD, do not come.
+        // Those of which it keeps a part, LOAD, and those that are not done yet do not come.
         _ => Err(Fail::Cause(Refused::Syntax)),
     }
 }
@@ -65,7 +68,7 @@ fn create_table(
     out: &mut Vec<u8>,
 ) -> Result<bool, Fail<Refused>>
     requires { table_at engine.old.tables def.name ≡ None }
-    ensures { (files : spec.Files) → Takes (spec.taken files engine.old (Bound.CreateTable def)) engine.old engine.new out.old.items out.new.items result }
+    ensures { (files : FileMap) (line : ℕ) → Takes (outside files engine.old line (Bound.CreateTable def)) engine.old engine.new out.old.items out.new.items result }
 {
     engine.create_table(alloc, def)?;
     done_text(out)?;
@@ -73,7 +76,7 @@ fn create_table(
 }
 
 fn drop_table(engine: &mut Engine, name: &Words, out: &mut Vec<u8>) -> Result<bool, Fail<Refused>>
-    ensures { (files : spec.Files) → Takes (spec.taken files engine.old (Bound.DropTable name.now)) engine.old engine.new out.old.items out.new.items result }
+    ensures { (files : FileMap) (line : ℕ) → Takes (outside files engine.old line (Bound.DropTable name.now)) engine.old engine.new out.old.items out.new.items result }
 {
     engine.drop_table(name.as_str())?;
     done_text(out)?;
@@ -90,7 +93,7 @@ fn create_view<G: Gate>(
 ) -> Result<bool, Fail<Refused>>
     requires named { is_view (catalog_of engine.old) name.now ≡ false }
     requires ready { QueryIsReady query }
-    ensures { (files : spec.Files) → Takes (spec.taken files engine.old (Bound.CreateView name.now query)) engine.old engine.new out.old.items out.new.items result }
+    ensures { (files : FileMap) (line : ℕ) → Takes (outside files engine.old line (Bound.CreateView name.now query)) engine.old engine.new out.old.items out.new.items result }
 {
     engine.create_view(alloc, name.as_str(), query, gate)?;
     done_text(out)?;
@@ -98,7 +101,7 @@ fn create_view<G: Gate>(
 }
 
 fn drop_view(engine: &mut Engine, name: &Words, out: &mut Vec<u8>) -> Result<bool, Fail<Refused>>
-    ensures { (files : spec.Files) → Takes (spec.taken files engine.old (Bound.DropView name.now)) engine.old engine.new out.old.items out.new.items result }
+    ensures { (files : FileMap) (line : ℕ) → Takes (outside files engine.old line (Bound.DropView name.now)) engine.old engine.new out.old.items out.new.items result }
 {
     engine.drop_view(name.as_str());
     done_text(out)?;
@@ -112,7 +115,7 @@ fn apply<G: Gate>(
     out: &mut Vec<u8>,
     gate: &G,
 ) -> Result<bool, Fail<Refused>>
-    ensures { (files : spec.Files) → Takes (spec.taken files engine.old (Bound.Change change.now)) engine.old engine.new out.old.items out.new.items result }
+    ensures { (files : FileMap) (line : ℕ) → Takes (outside files engine.old line (Bound.Change change.now)) engine.old engine.new out.old.items out.new.items result }
 {
     let count = engine.apply(alloc, change, gate)?;
     count_text(count as usize, out)?;
@@ -126,7 +129,7 @@ fn show<G: Gate>(
     out: &mut Vec<u8>,
     gate: &G,
 ) -> Result<bool, Fail<Refused>>
-    ensures { (files : spec.Files) → Takes (spec.taken files engine.old (Bound.Show name.now)) engine.old engine.new out.old.items out.new.items result }
+    ensures { (files : FileMap) (line : ℕ) → Takes (outside files engine.old line (Bound.Show name.now)) engine.old engine.new out.old.items out.new.items result }
 {
     match engine.answer(alloc, name.as_str(), gate) {
         Ok(answer) => {
@@ -146,7 +149,7 @@ fn ask<G: Gate>(
     gate: &G,
 ) -> Result<bool, Fail<Refused>>
     requires { QueryIsReady query.now }
-    ensures { (files : spec.Files) → Takes (spec.taken files engine.now (Bound.Query query.now)) engine.now engine.now out.old.items out.new.items result }
+    ensures { (files : FileMap) (line : ℕ) → Takes (outside files engine.now line (Bound.Query query.now)) engine.now engine.now out.old.items out.new.items result }
 {
     let answer = engine.query(alloc, query, gate)?;
     answer_text(&answer, out)?;

@@ -58,4 +58,15 @@ pub enum Refused {
     ChangeValue(u32, ValueFault),
     NotNull(Words),
     DuplicateKey(Key),
+    /// BEGIN in a block, with the line of its BEGIN.
+    BlockOpen(u32),
+    /// What may not stand in a block, with the line of its BEGIN.
+    InBlock(u32),
+    NoBlock,
+    /// COMMIT of a block in which a statement was refused, with the line of the first.
+    BlockBroken(u32),
+    /// A view has no partition of this key.
+    NoPartition(Key),
+    /// A partition has no cell of this key.
+    NoCell(Key),
 }

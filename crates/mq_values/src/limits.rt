@@ -15,6 +15,15 @@ pub const MAX_VALUES: usize = 4_000_000;
 /// How many views there may be.
 pub const MAX_VIEWS: usize = 8;
 
+/// How many scenarios there may be.
+pub const MAX_SCENARIOS: usize = 4;
+
+/// How many changes a scenario may have.
+pub const MAX_SCENARIO_CHANGES: usize = 1_000;
+
+/// How many scenarios a COMPARE may name.
+pub const MAX_COMPARED: usize = 4;
+
 /// How many items may stand in FROM.
 pub const MAX_FROM_ITEMS: usize = 4;
 

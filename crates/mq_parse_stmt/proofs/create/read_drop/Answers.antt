@@ -1,9 +1,9 @@
 use Rattle.std.proofs.Common.{◌∷◌, ap}
 use Rattle.mq_lexer.specs.declared.keywords.Keyword.TheVariants as word
-use Rattle.mq_ast.specs.Prelude.{Word}
-use Rattle.mq_parse_stmt.proofs.StmtLemmas.{whole_at}
+use Rattle.mq_ast.specs.Prelude.{StmtE, Word}
+use Rattle.mq_parse_stmt.proofs.WholeLemmas.{whole_at}
 use Rattle.mq_parse_stmt.proofs.create.read_drop.Goals as goal
 
 pub returns-in-Some : goal.returns-in-Some
 returns-in-Some c =
-    whole_at (ap (λ r. Word word.Drop ∷ r) c.in-Some.ensures.2) c.read_drop_table.result c.read_drop_table.ensures
+    whole_at StmtE (ap (λ r. Word word.Drop ∷ r) c.in-Some.ensures.2) c.read_drop_table.result c.read_drop_table.ensures

@@ -1,15 +1,16 @@
 use Rattle.std.proofs.Common.{◌∷◌, Ok, Err, refl, ap}
 use Rattle.mq_lexer.specs.declared.keywords.Keyword.TheVariants as word
-use Rattle.mq_ast.specs.Prelude.{Word, stmt_drop_view}
+use Rattle.mq_ast.specs.Prelude.{StmtE, Word, stmt_drop_view}
 use Rattle.mq_parse_stmt.proofs.PieceLemmas.{word_named}
 use Rattle.mq_parse_stmt.proofs.LastLemmas.{read_all, last_word_name}
-use Rattle.mq_parse_stmt.proofs.StmtLemmas.{leave, stmt_at, drop_view_no_name}
+use Rattle.mq_parse_stmt.proofs.WholeLemmas.{leave, tree_at}
+use Rattle.mq_parse_stmt.proofs.StmtLemmas.{drop_view_no_name}
 use Rattle.mq_parse_stmt.proofs.create.read_drop_view.Goals as goal
 
 pub returns-in_err-name : goal.returns-in_err-name
 returns-in_err-name c =
-    leave c.from_residual.result c.in_err-name.field-0.0 c.from_residual.ensures.1 refl (read_all (last_word_name word.View) c.args.t.now c.args.at c.read_word_name.result (Err c.in_err-name.field-0.0) c.read_word_name.ensures c.in_err-name.ensures) (drop_view_no_name c.requires)
+    leave StmtE c.from_residual.result c.in_err-name.field-0.0 c.from_residual.ensures.1 refl (read_all (last_word_name word.View) c.args.t.now c.args.at c.read_word_name.result (Err c.in_err-name.field-0.0) c.read_word_name.ensures c.in_err-name.ensures) (drop_view_no_name c.requires.table c.requires.scenario)
 
 pub returns : goal.returns
 returns c =
-    stmt_at refl (ap (λ r. Word word.Drop ∷ r) (word_named (read_all (last_word_name word.View) c.args.t.now c.args.at c.read_word_name.result (Ok c.in_ok-name.name) c.read_word_name.ensures c.in_ok-name.ensures))) stmt_drop_view
+    tree_at StmtE refl (ap (λ r. Word word.Drop ∷ r) (word_named (read_all (last_word_name word.View) c.args.t.now c.args.at c.read_word_name.result (Ok c.in_ok-name.name) c.read_word_name.ensures c.in_ok-name.ensures))) stmt_drop_view

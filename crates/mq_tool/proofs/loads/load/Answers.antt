@@ -12,7 +12,7 @@ returns-in_err-rows-clause-done g c =
     let p = err_from_is_err_and r.result r.ensures.1 in
     let old = c.args.engine.now in
     let e = c.in_err-rows.field-0.0 in
-    λ told is. rw (p.1, p.2) (loads_none told old c.args.table c.args.file.now c.args.out.now.items e
+    λ told line is. rw (p.1, p.2) (loads_none told line old c.args.table c.args.file.now c.args.out.now.items e
     (subst (λ (k : Catalog). Found (Err e) (rows_of_file told k c.args.table c.args.file.now)) c.catalog.ensures (c.in_err-rows.ensures.exact told is)))
 
 pub returns-in_err-append-clause-done : goal.returns-in_err-append-clause-done
@@ -22,8 +22,8 @@ returns-in_err-append-clause-done g c =
     let old = c.args.engine.now in
     let rows = c.in_ok-rows.rows.items in
     let e = c.in_err-append.field-0.0 in
-    λ told is. rw (p.1, p.2) (stops _ old c.append.new.engine c.args.out.now.items c.append.new.out.items e
-    (loads told old c.append.new.engine c.args.table c.args.file.now rows c.args.out.now.items c.append.new.out.items (Err e)
+    λ told line is. rw (p.1, p.2) (stops _ old c.append.new.engine c.args.out.now.items c.append.new.out.items e
+    (loads told line old c.append.new.engine c.args.table c.args.file.now rows c.args.out.now.items c.append.new.out.items (Err e)
     (subst (λ (k : Catalog). Found (Ok rows) (rows_of_file told k c.args.table c.args.file.now)) c.catalog.ensures (c.in_ok-rows.ensures.exact told is)) c.in_err-append.ensures))
 
 pub returns-clause-done : goal.returns-clause-done
@@ -31,5 +31,5 @@ returns-clause-done g c =
     let old = c.args.engine.now in
     let rows = c.in_ok-rows.rows.items in
     let flaw = c.in_ok-append.field-0 in
-    λ told is. loads told old c.append.new.engine c.args.table c.args.file.now rows c.args.out.now.items c.append.new.out.items (Ok flaw)
+    λ told line is. loads told line old c.append.new.engine c.args.table c.args.file.now rows c.args.out.now.items c.append.new.out.items (Ok flaw)
     (subst (λ (k : Catalog). Found (Ok rows) (rows_of_file told k c.args.table c.args.file.now)) c.catalog.ensures (c.in_ok-rows.ensures.exact told is)) c.in_ok-append.ensures

@@ -17,14 +17,14 @@ returns-clause-can_run c =
     let tree = c.args.tree.now in
     let names = catalog_of state in
     let given : Gives c.bind.result (statement_bound names tree) =
-    subst (λ (k : Catalog). Gives c.bind.result (statement_bound k tree)) c.catalog.ensures c.bind.ensures in
+    subst (λ (k : Catalog). Gives c.bind.result (statement_bound k tree)) c.catalog.ensures c.bind.ensures.exact in
     by c.bind.result given
   where
     by : (r : Result Bound (Fail Refused)) → Gives r (statement_bound (catalog_of c.args.engine.now) c.args.tree.now) → IfOk r (CanRun c.args.engine.now)
     by (Ok b) g =
         let names = catalog_of c.args.engine.now in
         let tree = c.args.tree.now in
-        can_run c.args.engine.now tree b g (c.created_tables_are_new.ensures names tree) (c.created_views_are_new.ensures names tree)
+        can_run c.args.engine.now tree b c.requires g (c.created_tables_are_new.ensures names tree) (c.created_views_are_new.ensures names tree)
         (c.queries_are_ready.ensures names tree)
         (c.views_are_ready.ensures names tree)
     by (Err e) g = tt

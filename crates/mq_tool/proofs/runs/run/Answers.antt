@@ -4,7 +4,8 @@ use Rattle.mq_io.specs.Progress.{AppendsFront}
 use Rattle.mq_ir.specs.Lines.{Line}
 use Rattle.mq_generate.specs.Script.{script_of}
 use Rattle.mq_tool.specs.Script.{IsOutput, status_of}
-use Rattle.mq_tool.specs.Summary.{no_files, summary_text}
+use Rattle.mq_tool.specs.Loads.{no_files}
+use Rattle.mq_tool.specs.Summary.{summary_text}
 use Rattle.mq_tool.proofs.SummaryLemmas.{same_script}
 use Rattle.mq_tool.proofs.runs.run.Goals as goal
 

@@ -4,7 +4,8 @@ use Rattle.mq_io.specs.Progress.{AppendsFront}
 use Rattle.mq_lexer.specs.Statements.{statements}
 use Rattle.mq_lexer.specs.Tokens.{tokens}
 use Rattle.mq_ir.specs.Lines.{Line, text_of}
-use Rattle.mq_tool.specs.Script.{FileMap, IsOutput, StopsAtLoad, status_of}
+use Rattle.mq_tool.specs.Loads.{FileMap}
+use Rattle.mq_tool.specs.Script.{IsOutput, StopsAtLoad, status_of}
 use Rattle.mq_tool.specs.Steps.{WritesAll}
 use Rattle.mq_tool.proofs.RunLemmas.{status_by}
 use Rattle.mq_tool.proofs.scripts.run_bytes.Goals as goal

@@ -3,7 +3,8 @@ use Rattle.std.specs.Io.KnownBytes.{Appends}
 use Rattle.std.specs.Option.{IfSome}
 use Rattle.mq_io.specs.Progress.{AppendsFront}
 use Rattle.mq_ir.specs.Lines.{Line, text_of}
-use Rattle.mq_tool.specs.Script.{FileMap, IsOutput, StopsAtLoad, status_of}
+use Rattle.mq_tool.specs.Loads.{FileMap}
+use Rattle.mq_tool.specs.Script.{IsOutput, StopsAtLoad, status_of}
 use Rattle.mq_tool.proofs.RunLemmas.{if_told, told_whole}
 use Rattle.mq_tool.proofs.scripts.run_script.Goals as goal
 

@@ -2,7 +2,8 @@ use Rattle.std.proofs.Common.{◌≡◌, Bool, false, map, drop, ◌+◌, Some, 
 use Rattle.std.proofs.lemmas.Result.{err_from_is_err_and}
 use Rattle.mq_lexer.specs.Statements.{statement}
 use Rattle.mq_ir.specs.Statement.{State}
-use Rattle.mq_tool.specs.Script.{FileMap, StoppedAtLoad}
+use Rattle.mq_tool.specs.Loads.{FileMap}
+use Rattle.mq_tool.specs.Script.{StoppedAtLoad}
 use Rattle.mq_tool.proofs.RunLemmas.{RunSoFar, run_starts, run_ends_at, run_goes_on_at, run_cut_at, run_stops_at}
 use Rattle.mq_tool.proofs.scripts.run_statements.Goals as goal
 

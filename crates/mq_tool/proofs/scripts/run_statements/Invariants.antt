@@ -1,6 +1,6 @@
 use Rattle.std.proofs.Common.{◌≡◌, ◌≤◌, Some, map, drop}
 use Rattle.mq_lexer.specs.Statements as lexer
-use Rattle.mq_tool.specs.Script.{FileMap}
+use Rattle.mq_tool.specs.Loads.{FileMap}
 use Rattle.mq_tool.proofs.RunLemmas.{RunSoFar}
 use Rattle.mq_tool.proofs.scripts.run_statements.Given as goal
 

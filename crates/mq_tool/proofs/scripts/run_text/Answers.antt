@@ -4,7 +4,8 @@ use Rattle.mq_lexer.specs.Lexemes.{lexeme}
 use Rattle.mq_lexer.specs.Statements.{Statement, statement, statements}
 use Rattle.mq_lexer.specs.Tokens.{tokens}
 use Rattle.mq_tool.specs.declared.stops.Halt.TheVariants as halt
-use Rattle.mq_tool.specs.Script.{FileMap, StoppedAtLoad}
+use Rattle.mq_tool.specs.Loads.{FileMap}
+use Rattle.mq_tool.specs.Script.{StoppedAtLoad}
 use Rattle.mq_tool.specs.Steps.{WritesAll, WritesFront}
 use Rattle.mq_tool.proofs.scripts.run_text.Goals as goal
 

@@ -24,6 +24,6 @@ returns-in_err-bound-clause-done g c =
 pub returns-clause-done : goal.returns-clause-done
 returns-clause-done g c =
     tried (map lexeme c.args.tokens.now) (g.F.Shelf.files c.args.files.now) c.args.engine.now c.do_bound.new.engine c.args.out.now.items c.do_bound.new.out.items c.in_ok-tree.tree
-    c.in_ok-bound.bound c.do_bound.result c.in_ok-tree.ensures
+    c.in_ok-bound.bound c.do_bound.result c.requires c.in_ok-tree.ensures
     (subst (λ (s : Stmt). statement_bound (catalog_of c.args.engine.now) s ≡ Ok c.in_ok-bound.bound) c.get.ensures c.in_ok-bound.ensures.exact) c.do_bound.ensures.done
     c.do_bound.ensures.load (λ h. let kept = c.do_bound.ensures.not_fetched h in (kept.0, ap (λ out. out.items) kept.1))

@@ -1,5 +1,5 @@
-use Rattle.std.proofs.Common.{Bool, sym, ap, ◌∙◌}
-use Rattle.mq_ir.specs.Statement.{View}
+use Rattle.std.proofs.Common.{Bool, sym}
+use Rattle.mq_ir.specs.declared.catalog.View.{View}
 use Rattle.mq_ir.specs.Tables.{is_name}
 use Rattle.mq_ir.specs.Ready.{QueryIsReady}
 use Rattle.mq_engine.proofs.ListLemmas.{all_found}
@@ -8,5 +8,4 @@ use Rattle.mq_engine.proofs.engine.Engine.answer.Goals as goal
 pub answer_over-requires : goal.answer_over-requires
 answer_over-requires g c =
     let is_wanted : View → Bool = λ v. is_name v.name c.args.view.now in
-    rw c.query.ensures
-    (all_found is_wanted (λ (v : View). QueryIsReady v.query) c.self.inside.views c.in-Some.found.now c.self.invariant.1 (sym c.in-Some.ensures))
+    all_found is_wanted (λ (v : View). QueryIsReady v.query) c.self.inside.catalog.views c.in-Some.found.now c.self.invariant.1 (sym c.in-Some.ensures)

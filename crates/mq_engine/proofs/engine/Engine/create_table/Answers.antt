@@ -2,7 +2,7 @@ use Rattle.std.proofs.Common.{[], ap, ◌∙◌}
 use Rattle.mq_ir.specs.declared.catalog.TableEntry.{TableEntry}
 use Rattle.mq_ir.specs.Statement.{State}
 use Rattle.mq_ir.specs.Tables.{Table, Tables, table_at}
-use Rattle.mq_engine.proofs.ChangeLemmas.{whole}
+use Rattle.mq_engine.specs.Catalogs.{state_of}
 use Rattle.mq_engine.proofs.StateLemmas.{names_back, new_table_entry, tables_back}
 use Rattle.mq_engine.proofs.engine.Engine.create_table.Goals as goal
 
@@ -12,26 +12,24 @@ add-requires c = ap (λ (s : State). table_at s.tables c.args.t.name) c.self.vie
 pub put-requires : goal.put-requires
 put-requires c =
     let absent = ap (λ (s : State). table_at s.tables c.args.t.name) c.self.view_is ∙ c.requires in
-    new_table_entry c.self.inside.catalog c.self.inside.tables c.self.inside.views c.self.invariant.0 c.args.t.name c.in_ok-entry.entry
+    new_table_entry c.self.inside.catalog.tables c.self.inside.tables c.self.invariant.0 c.args.t.name c.in_ok-entry.entry
     (ap (λ (entry : TableEntry). entry.name) c.in_ok-entry.ensures ∙ c.in_ok-copy.ensures) absent
 
 -- the table is taken away again
 pub invariant_of-self-in-Err : goal.invariant_of-self-in-Err
 invariant_of-self-in-Err c =
-    let k = c.self.inside.catalog in
+    let entries = c.self.inside.catalog.tables in
     let tables = c.self.inside.tables in
-    let views = c.self.inside.views in
     let t : Table = record { name = c.args.t.name; schema = c.args.t.schema; rows = [] } in
     let absent = ap (λ (s : State). table_at s.tables t.name) c.self.view_is ∙ c.requires in
-    let back = tables_back k tables views c.self.invariant.0 t c.as_str.result.now c.add.new.self c.remove.new.self c.in_ok-add.ensures.ok (c.as_str.ensures ∙ c.in_ok-name.ensures) absent c.remove.ensures.others in
-    (names_back k tables views c.self.invariant.0 c.remove.new.self c.put.new.self back c.in-Err.ensures.err, c.self.invariant.1)
+    let back = tables_back entries tables c.self.invariant.0 t c.as_str.result.now c.add.new.self c.remove.new.self c.in_ok-add.ensures.ok (c.as_str.ensures ∙ c.in_ok-name.ensures) absent c.remove.ensures.others in
+    (names_back entries tables c.self.invariant.0 c.remove.new.self c.put.new.self back c.in-Err.ensures.err, c.self.invariant.1)
 
 pub returns-clause-err : goal.returns-clause-err
 returns-clause-err c =
-    let k = c.self.inside.catalog in
+    let entries = c.self.inside.catalog.tables in
     let tables = c.self.inside.tables in
-    let views = c.self.inside.views in
     let t : Table = record { name = c.args.t.name; schema = c.args.t.schema; rows = [] } in
     let absent = ap (λ (s : State). table_at s.tables t.name) c.self.view_is ∙ c.requires in
-    let back = tables_back k tables views c.self.invariant.0 t c.as_str.result.now c.add.new.self c.remove.new.self c.in_ok-add.ensures.ok (c.as_str.ensures ∙ c.in_ok-name.ensures) absent c.remove.ensures.others in
-    ap (λ (ts : Tables). whole ts views) back ∙ c.self.view_is
+    let back = tables_back entries tables c.self.invariant.0 t c.as_str.result.now c.add.new.self c.remove.new.self c.in_ok-add.ensures.ok (c.as_str.ensures ∙ c.in_ok-name.ensures) absent c.remove.ensures.others in
+    ap (λ (ts : Tables). state_of ts c.self.inside.catalog) back ∙ c.self.view_is

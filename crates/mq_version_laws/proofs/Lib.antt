@@ -1,0 +1,14 @@
+pub mod CellLemmas
+pub mod FlatLemmas
+pub mod HistoryLemmas
+pub mod KeepLemmas
+pub mod KeptLemmas
+pub mod LeafLemmas
+pub mod NameLemmas
+pub mod ReachedLemmas
+pub mod ResolveLemmas
+pub mod RunLemmas
+pub mod SoundLemmas
+pub mod StandLemmas
+pub mod WorkedLemmas
+pub mod WorthLemmas
