@@ -193,6 +193,45 @@ module _ (input : CellInput) (results : Results) where
         ∙ first_given (own_fault slots) test own_is (ascending cmp_by_rule assigned)
         ∙ ap (option_and_then (own_fault slots)) (sym least_is)
 
+  passed : (p : ℕ × Assignment → Bool) (es : List (ℕ × Assignment)) → AllPlaced (λ e. p e ≡ true) (filter p es)
+  passed p [] = tt
+  passed p (e ∷ es) = by (p e) refl (passed p es)
+    where
+      by : (b : Bool) → p e ≡ b → AllPlaced (λ e. p e ≡ true) (filter p es) → AllPlaced (λ e. p e ≡ true) (cond b (e ∷ filter p es) (filter p es))
+      by true h r = (h, r)
+      by false h r = r
+
+  -- at the place of the first fault stands an assignment with one
+  pub record HasFault (assigned : List Assignment) (at : ℕ) : Type 0 where
+    pub item : Assignment
+    pub there : slice_get assigned at ≡ Some item
+    pub faulted : is_faulted (results (name_assigned item)) ≡ true
+
+  pub first_place : (assigned : List Assignment) (at : ℕ) → first_faulted results assigned ≡ Some at → HasFault assigned at
+  first_place assigned at h = by (least assigned) refl h
+    where
+      by : (o : Option (ℕ × Assignment)) → least assigned ≡ o → option_map (λ e. e.0) o ≡ Some at → HasFault assigned at
+      by None e g = cc
+      by (Some e) f g =
+          let same : e.0 ≡ at = ap (λ o. option_map_or (λ x. x) o at) g in
+          record {
+            item = e.1;
+            there = ap (slice_get assigned) (sym same) ∙ least_place assigned e f;
+            faulted =
+                placed_first (λ e. is_faulted (results (name_assigned e.1)) ≡ true) (ascending (order assigned) (faulted_from 0 results assigned)) e
+                (placed_ascending (λ e. is_faulted (results (name_assigned e.1)) ≡ true) (order assigned) (faulted_from 0 results assigned)
+                (passed (λ e. is_faulted (results (name_assigned e.1))) (enumerate_from 0 assigned))) f;
+          }
+
+  pub faulted_slot : (a : Assignment) → is_faulted (results (name_assigned a)) ≡ true → is_faulted (Some (slots (name_assigned a))) ≡ true
+  faulted_slot a = by (results (name_assigned a))
+    where
+      by : (o : Option Slot) → is_faulted o ≡ true → is_faulted (Some (unwrap_or o (Done (input_value input (name_assigned a))))) ≡ true
+      by None h = cc
+      by (Some (Done v)) h = cc
+      by (Some (Faulted f)) h = refl
+      by (Some Poisoned) h = cc
+
   -- the fault at the least assignment that faulted is the result
   pub fault_is : (model : Model) (key : Tuple) (shape : PartShape) (at : ℕ) (r : PartResult) → Some at ≡ first_faulted results shape.assigned → Some r ≡ faulted_at key slots (slice_get shape.assigned at)
       → r ≡ result_with model key shape slots

@@ -24,7 +24,8 @@ use Rattle.mq_ir.specs.Placed.{Placed, at_partition, placed_fault}
 use Rattle.mq_ir.specs.Results.{◌>>=◌, marked}
 use Rattle.mq_ir.specs.Shape.{bare_shape}
 use Rattle.mq_ir.specs.Unfolding.{Model}
-use Rattle.mq_levels.specs.declared.dealing.Leveled.{Leveled}
+use Rattle.mq_auto_shape.specs.declared.indexed.IndexedShape.{IndexedShape}
+use Rattle.mq_auto_shape.specs.Indexed.{IsIndexed}
 use Rattle.mq_auto_shape.specs.Conditions.{AreReady}
 use Rattle.mq_auto_shape.specs.Found.{AreRoundsOf, IsShapeOf, shape_meant}
 use Rattle.mq_auto.specs.declared.verdict.Verdict.TheVariants.{Done, Broken}
@@ -81,16 +82,27 @@ module _ (model : Model) (p : PartInput) (none : None ≡ option_map (at_partiti
   found_is : shape_found model p ≡ levelled_shape model (keys_of p.cells)
   found_is = ap (λ (o : Option Placed). option_map_or Err o (levelled_shape model (keys_of p.cells))) (no_fault p.key (input_fault p) none)
 
-  pub shape_judged : (shape : PartShape) (leveled : Leveled) → Ok shape ≡ shape_meant model (keys_of p.cells) → IsShapeOf model (keys_of p.cells) shape → AreRoundsOf model shape leveled.rounds → IsJudged model p (Ok (shape, leveled))
-  shape_judged shape leveled is of rounds =
-      record { exact = by (levelled_shape model (keys_of p.cells)) refl is; rounds = record { exact = own (levelled_shape model (keys_of p.cells)) is ∙ sym (ap (levelled_shape model) of.base); ascend = of.ascend; own = of.own; rounds = rounds } }
+  pub shape_judged : (found : IndexedShape) → Ok found.shape ≡ shape_meant model (keys_of p.cells) → IsShapeOf model (keys_of p.cells) found.shape → AreRoundsOf model found.shape found.leveled.rounds
+      → IsIndexed found → IsJudged model p (Ok found)
+  shape_judged found is of rounds indexed =
+      record {
+        exact = by (levelled_shape model (keys_of p.cells)) refl is;
+        rounds = record {
+          exact = own (levelled_shape model (keys_of p.cells)) is ∙ sym (ap (levelled_shape model) of.base);
+          own = of.own;
+          ruled = of.ruled;
+          few = of.few;
+          rounds = rounds;
+          indexed = indexed;
+        };
+      }
     where
-      by : (r : Result PartShape Placed) → levelled_shape model (keys_of p.cells) ≡ r → Ok shape ≡ marked (at_partition []) r → Ok shape ≡ marked (at_partition p.key) (shape_found model p)
+      by : (r : Result PartShape Placed) → levelled_shape model (keys_of p.cells) ≡ r → Ok found.shape ≡ marked (at_partition []) r → Ok found.shape ≡ marked (at_partition p.key) (shape_found model p)
       by (Ok s) e h = h ∙ sym (ap (marked (at_partition p.key)) (found_is ∙ e))
       by (Err f) e h = cc
 
-      own : (r : Result PartShape Placed) → Ok shape ≡ marked (at_partition []) r → Ok shape ≡ r
-      own (Ok s) h = let e : shape ≡ s = cc in ap Ok e
+      own : (r : Result PartShape Placed) → Ok found.shape ≡ marked (at_partition []) r → Ok found.shape ≡ r
+      own (Ok s) h = let e : found.shape ≡ s = cc in ap Ok e
       own (Err f) h = cc
 
   pub fault_judged : (fault : QueryFault) (key : Tuple) → key ≡ p.key → Err fault ≡ shape_meant model (keys_of p.cells)

@@ -1,5 +1,6 @@
 mod FaultLemmas
 mod JudgeLemmas
+mod LentLemmas
 mod ListedLemmas
 mod NodeLemmas
 mod RowLemmas

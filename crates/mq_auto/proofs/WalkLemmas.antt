@@ -4,7 +4,7 @@ use Rattle.std.specs.Prelude.{slice_get, unwrap_or}
 use Rattle.std.specs.List.{All, AllWithin, filter, find, range_with_len}
 use Rattle.std.specs.Option.{option_and_then, option_map, option_map_or}
 use Rattle.std.proofs.lemmas.Bool.{and_parts}
-use Rattle.std.proofs.lemmas.List.Elements.{All-cons, All-from_all_within, All-get_or, All-head, All-nil, All-tail, AllWithin-more, AllWithin-none, AllWithin-upto, at_read, filter_passes}
+use Rattle.std.proofs.lemmas.List.Elements.{All-cons, All-filter, All-weaker, All-from_all_within, All-get_or, All-head, All-nil, All-tail, AllWithin-more, AllWithin-none, AllWithin-upto, at_read, filter_passes}
 use Rattle.std.proofs.lemmas.List.FromFn.{get_or-range_with_len, length-range_with_len}
 use Rattle.std.proofs.lemmas.Option.{get_or_from_slice_get, slice_get_within}
 use Rattle.mq_ir.specs.declared.query.CellName.{CellName}
@@ -127,6 +127,24 @@ module _ (model : Model) (shape : PartShape) where
       let P : ℕ → Type 0 = IsRightAt model shape input after in
       (so.0, All-from_all_within P places (AllWithin-upto P places 0 i (length places) h so.1))
 
+  in_rounds : (xs : List (List ℕ)) (n : ℕ) (d : List ℕ) → n < length xs → get_or xs n d ≡ get_or xs n []
+  in_rounds [] n d h = absurd (omega (arith, h))
+  in_rounds (x ∷ xs) zero d h = refl
+  in_rounds (x ∷ xs) (suc n) d h = in_rounds xs n d (omega (arith, h))
+
+  range_below : (a n : ℕ) → All (λ p. p < a + n) (range_with_len a n)
+  range_below a zero = All-nil (λ p. p < a + zero)
+  range_below a (suc n) =
+      All-cons (λ p. p < a + suc n) a (range_with_len (a + 1) n) (omega arith)
+      (All-weaker (λ p. p < a + 1 + n) (λ p. p < a + suc n) (λ p h. omega (arith, h)) (range_with_len (a + 1) n) (range_below (a + 1) n))
+
+  -- what comes in a round is at places of assignments
+  pub round_there : (rounds : List (List ℕ)) (n : ℕ) (round : List ℕ) → AreRoundsOf model shape rounds → n < length rounds → round ≡ get_or rounds n round → All (λ p. p < length shape.assigned) round
+  round_there rounds n round are lt is =
+      subst (All (λ p. p < length shape.assigned)) (sym (is ∙ in_rounds rounds n round lt ∙ are.each n))
+      (All-filter (place_comes_in model shape n) (λ p. p < length shape.assigned) (range_with_len 0 (length shape.assigned))
+      (All-weaker (λ p. p < 0 + length shape.assigned) (λ p. p < length shape.assigned) (λ p h. omega (arith, h)) (range_with_len 0 (length shape.assigned)) (range_below 0 (length shape.assigned))))
+
   -- after a round all that is levelled behind it has the right slots
   module _ (input : Cells) where
     pub right_start : (results : Results) → results ≡ no_results → AreRightWithin model shape input 0 results
@@ -165,15 +183,10 @@ module _ (model : Model) (shape : PartShape) where
     pub right_round : (rounds : List (List ℕ)) (n : ℕ) (round : List ℕ) (given : CellInput) (before after : Results) → AreRoundsOf model shape rounds → n < length rounds → round ≡ get_or rounds n round
         → given ≡ cell_at input → AreFoundAt model shape given before after round → AreRightWithin model shape input n before → AreRightWithin model shape input (suc n) after
     right_round rounds n round given before after are lt is from found right =
-        let same : round ≡ round_of model shape n = is ∙ in_range rounds n round lt ∙ are.each n in
+        let same : round ≡ round_of model shape n = is ∙ in_rounds rounds n round lt ∙ are.each n in
         let passes = filter_passes (place_comes_in model shape n) (range_with_len 0 (length shape.assigned)) in
         let so = found input n from (subst (All (λ place. place_comes_in model shape n place ≡ true)) (sym same) passes) right in
         right_next n before after so.0 (subst (All (IsRightAt model shape input after)) same so.1) right
-      where
-        in_range : (xs : List (List ℕ)) (n : ℕ) (d : List ℕ) → n < length xs → get_or xs n d ≡ get_or xs n []
-        in_range [] n d h = absurd (omega (arith, h))
-        in_range (x ∷ xs) zero d h = refl
-        in_range (x ∷ xs) (suc n) d h = in_range xs n d (omega (arith, h))
 
     -- behind the last round every right slot stands
     pub right_end : (rounds : List (List ℕ)) (n : ℕ) (results : Results) → AreRoundsOf model shape rounds → length rounds ≤ n → n ≤ length rounds → AreRightWithin model shape input n results

@@ -12,7 +12,8 @@ use Rattle.mq_ir.specs.Shape.{Assignment, assigns}
 use Rattle.mq_ir.specs.Slots.{cell_slot}
 use Rattle.mq_ir.specs.Unfolding.{Model, model_of}
 use Rattle.mq_cells.specs.Stores.{CellInput, DiffersAt, Results, name_assigned, slot_at}
-use Rattle.mq_auto_shape.specs.Found.{place_comes_in}
+use Rattle.mq_auto_shape.specs.Found.{IsRuled, place_comes_in}
+use Rattle.mq_refs.specs.Orders.{IsOrderOf}
 use Rattle.mq_auto.specs.declared.work.Work.{Work}
 use Rattle.mq_auto.specs.Meaning.{result_at}
 
@@ -23,6 +24,16 @@ model_in work = model_of work.model.now
 -- no measure of a cell is assigned twice: the assignment that is found first is this one
 abbrev pub AreOwn : PartShape → Type 0
 AreOwn shape = All (λ a. find (assigns a.1 a.0) shape.assigned ≡ Some a) shape.assigned
+
+-- each assignment is by a rule of the model
+abbrev pub AreRuled : Model → PartShape → Type 0
+AreRuled model shape = All (IsRuled model) shape.assigned
+
+-- its keys are those of the shape, and what is said of the references holds
+pub record IsAtWork (work : Work) : Type 0 where
+  pub base : work.keys.base.now ≡ work.shape.now.base
+  pub cells : work.keys.cells.now ≡ work.shape.now.cells
+  pub refs : IsOrderOf work.refs work.model.now
 
 -- at the measure of an assignment stands what its rule makes of the cell over what stood before, and nothing else changed
 abbrev pub IsPut : Model → PartShape → CellInput → Results → Results → Assignment → Rule → Type 0

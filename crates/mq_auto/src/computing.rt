@@ -6,12 +6,13 @@ ghost use Rattle.mq_cells.specs.Columns.{no_results};
 ghost use Rattle.mq_ir.specs.Ready.{IsReady};
 ghost use Rattle.mq_auto.specs.Meaning.{HoldsValues, IfDone, verdict_on};
 
+use crate::finding::ByReads;
 use crate::judging::judge;
 use crate::verdict::Verdict;
 use crate::walking::walk_rounds;
 use mq_cells::Cells;
 use mq_ir::{Model, PartInput};
-use mq_refs::arrays_ascend;
+use mq_refs::refs_order;
 use mq_values::Memory;
 use std::alloc::Global;
 
@@ -34,17 +35,9 @@ pub fn compute<C: Cells>(
 {
     let judged = judge(alloc, m, p)?;
     match judged {
-        Ok((shape, leveled)) => {
-            let refs_ascend = arrays_ascend(m.refs);
-            walk_rounds(
-                alloc,
-                m,
-                &shape,
-                leveled.rounds.as_slice(),
-                refs_ascend,
-                cells,
-            )?;
-            Ok(Verdict::Done(shape))
+        Ok(found) => {
+            walk_rounds(alloc, m, &found, refs_order(m), &ByReads, cells)?;
+            Ok(Verdict::Done(found.shape))
         }
         Err(fault) => Ok(Verdict::Broken(fault)),
     }

@@ -10,18 +10,17 @@ ghost use Rattle.mq_ir.specs.Ready.{IsReady};
 ghost use Rattle.mq_auto.specs.Findings.{IsJudged, IsLevelled};
 
 use crate::input_keys::keys_of;
-use mq_auto_shape::shape_of;
+use mq_auto_shape::{IndexedShape, indexed_shape_of};
 use mq_ir::{Model, PartInput, PartShape, PlacedFault};
-use mq_levels::Leveled;
 use mq_values::{FaultKind, Key, MAX_CELLS_OF_PARTITION, Memory, QueryFault};
 use std::alloc::Global;
 
-/// The shape of a partition with the rounds of its assignments, or the first fault of the input or the shape, or CYCLE.
+/// The shape of a partition with the rounds of its assignments and its indexes, or the first fault of the input or the shape, or CYCLE.
 pub fn judge(
     alloc: Global,
     m: &Model<'_>,
     p: &PartInput,
-) -> Result<Result<(PartShape, Leveled), QueryFault>, Memory>
+) -> Result<Result<IndexedShape, QueryFault>, Memory>
     requires ready { IsReady m.now.part.now p.now }
     ensures { IfOk result (IsJudged (model_of m.now) p.now) }
 {
@@ -30,7 +29,7 @@ pub fn judge(
         None => {}
     }
     let keys = keys_of(alloc, p.cells.as_slice())?;
-    let shape = shape_of(alloc, m, keys.as_slice())?;
+    let shape = indexed_shape_of(alloc, m, keys.as_slice())?;
     let key = p.key.copy()?;
     match shape {
         Ok(found) => Ok(Ok(found)),
@@ -44,14 +43,14 @@ pub fn judge_after(
     alloc: Global,
     m: &Model<'_>,
     p: &PartInput,
-    last: Option<(PartShape, Leveled)>,
-) -> Result<Result<(PartShape, Leveled), QueryFault>, Memory>
+    last: Option<IndexedShape>,
+) -> Result<Result<IndexedShape, QueryFault>, Memory>
     requires ready { IsReady m.now.part.now p.now }
     requires last { IfSome last (IsLevelled (model_of m.now)) }
     ensures { IfOk result (IsJudged (model_of m.now) p.now) }
 {
     if let Some(found) = last {
-        if serves(p, &found.0) {
+        if serves(p, &found.shape) {
             return Ok(Ok(found));
         }
     }

@@ -4,12 +4,14 @@
 #![tactic(auto)]
 
 mod computing;
+mod finding;
 mod input_keys;
 mod judging;
 mod outcomes;
 mod results;
 mod rows;
 mod runner;
+mod stored;
 mod verdict;
 mod walking;
 mod work;

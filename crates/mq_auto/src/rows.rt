@@ -12,7 +12,8 @@ use mq_ir::{Model, OutCell, PartShape, Slot};
 use mq_values::{Items, Key, KeySet, Memory, Value};
 use std::alloc::Global;
 
-/// The cells of a shape with the values that stand in `cells`; where no value stands, with null.
+/// The cells of a shape with the values that stand in `cells`; where no value stands, with null. `Memory` comes too where
+/// there are more measures than a `u32` can number.
 pub fn rows<C: Cells>(
     alloc: Global,
     m: &Model<'_>,
@@ -25,10 +26,8 @@ pub fn rows<C: Cells>(
 {
     let updated = updated_keys(alloc, s.assigned.as_slice())?;
     let mut rows = Items::with_room(alloc, s.cells.len());
-    // Cells come in the order of the input's, so most are found beside the last one.
-    let mut near = 0;
     'listing: for key in s.cells.as_slice() {
-        let cell = out_cell(alloc, m, s, &updated, key, &mut near, cells)?;
+        let cell = out_cell(alloc, m, s, &updated, key, cells)?;
         rows.push(cell)?;
     }
     Ok(rows)
@@ -41,7 +40,6 @@ fn out_cell<C: Cells>(
     s: &PartShape,
     updated: &KeySet,
     key: &Key,
-    near: &mut usize,
     cells: &mut C,
 ) -> Result<OutCell, Memory>
     requires { AreUpdated s.now.assigned updated.now }
@@ -49,8 +47,9 @@ fn out_cell<C: Cells>(
     ensures same_input { C.input cells.new ≡ C.input cells.old }
     ensures same_results { C.results cells.new ≡ C.results cells.old }
 {
+    let count = measure_count(m)?;
     let updated = updated.has(key);
-    let measures = measures_of(alloc, m.part.measures.len(), key, updated, near, cells)?;
+    let measures = measures_of(alloc, count, key, cells)?;
     Ok(OutCell {
         key: key.copy()?,
         measures,
@@ -58,34 +57,18 @@ fn out_cell<C: Cells>(
     })
 }
 
-// The tuple of so many measures of the cell at `key`. Where none is assigned, that of the input mostly serves as it is.
-fn measures_of<C: Cells>(
-    alloc: Global,
-    count: usize,
-    key: &Key,
-    is_assigned: bool,
-    near: &mut usize,
-    cells: &mut C,
-) -> Result<Key, Memory>
-    ensures exact { IfOk result (λ values. values
-        ≡ map (λ n. spec.done_value (slot_at (C.input cells.old) (C.results cells.old) (cell_name key.now n))) (range_with_len 0 count)) }
-    ensures same_input { C.input cells.new ≡ C.input cells.old }
-    ensures same_results { C.results cells.new ≡ C.results cells.old }
+/// How many measures a model has. `Memory` comes where a `u32` can't number them.
+pub fn measure_count(m: &Model<'_>) -> Result<u32, Memory>
+    ensures { IfOk result (λ count. count ≡ length (model_of m.now).part.measures) }
 {
-    let Ok(count) = u32::try_from(count) else {
-        return Err(Memory);
-    };
-    if !is_assigned {
-        if let Some(measures) = cells.whole(key, count, near) {
-            let copy = measures.copy()?;
-            return Ok(copy);
-        }
+    match u32::try_from(m.part.measures.len()) {
+        Ok(count) => Ok(count),
+        Err(_) => Err(Memory),
     }
-    made_of(alloc, count, key, cells)
 }
 
 // A new tuple of so many measures of the cell at `key`.
-fn made_of<C: Cells>(alloc: Global, count: u32, key: &Key, cells: &mut C) -> Result<Key, Memory>
+fn measures_of<C: Cells>(alloc: Global, count: u32, key: &Key, cells: &mut C) -> Result<Key, Memory>
     ensures exact { IfOk result (λ values. values
         ≡ map (λ n. spec.done_value (slot_at (C.input cells.old) (C.results cells.old) (cell_name key.now n))) (range_with_len 0 count)) }
     ensures same_input { C.input cells.new ≡ C.input cells.old }
@@ -128,8 +111,8 @@ fn done_value(slot: Slot) -> Value
     }
 }
 
-// The cells of which a measure is assigned.
-fn updated_keys(alloc: Global, assigned: &[(Key, u32, u32)]) -> Result<KeySet, Memory>
+/// The cells of which a measure is assigned.
+pub fn updated_keys(alloc: Global, assigned: &[(Key, u32, u32)]) -> Result<KeySet, Memory>
     ensures { IfOk result (λ set. AreUpdated assigned.now set) }
 {
     let mut set = KeySet::new(alloc);

@@ -1,41 +1,43 @@
 //! A model that runs over one partition after another.
-ghost use Rattle.std.specs.Prelude.{◌≡◌, true, IfOk};
+ghost use Rattle.std.specs.Prelude.{◌≡◌, IfOk};
 ghost use Rattle.mq_ir.specs.Automatic.{automatic, slots_in};
-ghost use Rattle.mq_ir.specs.Unfolding.{model_of};
-ghost use Rattle.mq_refs.specs.Orders.{ArraysAscend, KeysAscend};
-ghost use Rattle.mq_auto_shape.specs.Found.{AreRoundsOf};
 ghost use Rattle.mq_ir.specs.Ready.{IsReady};
+ghost use Rattle.mq_ir.specs.Unfolding.{model_of};
+ghost use Rattle.mq_cells.specs.IndexedStores.{input_in, results_of};
+ghost use Rattle.mq_refs.specs.Orders.{IsOrderOf};
+ghost use Rattle.mq_auto.specs.Findings.{IsLevelled};
 ghost use Rattle.mq_auto.specs.Meaning.{result_with};
-ghost use Rattle.mq_auto.specs.Walks.{AreOwn};
 
+use crate::finding::ByLending;
 use crate::judging::judge_after;
-use crate::results::result_of;
+use crate::stored::stored_result;
 use crate::walking::walk_rounds;
-use mq_cells::GridCells;
-use mq_ir::{Model as Lent, PartInput, PartResult, PartShape};
-use mq_levels::Leveled;
-use mq_refs::arrays_ascend;
-use mq_values::{Items, Memory};
+use mq_auto_shape::IndexedShape;
+use mq_cells::IndexedCells;
+use mq_dim_index::DimIndex;
+use mq_ir::{Model as Lent, PartInput, PartResult};
+use mq_refs::{RefsOrder, refs_order};
+use mq_values::{Key, Memory};
 use std::alloc::Global;
 use std::marker::Model;
 
 /// A model in automatic order that runs over one partition after another. Whether the cells of the references ascend is found
-/// once. The last shape is kept with its rounds: a shape sees no value of a cell, so it serves again where the next partition
-/// has cells at the same keys. Contracts see the runner as its model (docs/MEANING.md, "Automatic order").
+/// once. The last shape is kept with its rounds and its indexes: a shape sees no value of a cell, so it serves again where the
+/// next partition has cells at the same keys. Contracts see the runner as its model (docs/MEANING.md, "Automatic order").
 #[derive(Drop)]
 pub struct AutoRunner<'a> {
     model: &'a Lent<'a>,
-    refs_ascend: bool,
-    last: Option<(PartShape, Leveled)>,
+    refs: RefsOrder,
+    last: Option<IndexedShape>,
 }
 
 impl<'a> Model for AutoRunner<'a> {
-    ghost use Rattle.std.specs.Prelude.{◌≡◌, true, IfSome};
+    ghost use Rattle.std.specs.Prelude.{IfSome};
     ghost use Rattle.std.specs.Coded.{codes};
     ghost use Rattle.mq_ir.specs.contracts.expression.Expr as expr;
     ghost use Rattle.mq_ir.specs.contracts.expression.Test as test;
     ghost use Rattle.mq_ir.specs.Unfolding.{Model as Seen, model_of};
-    ghost use Rattle.mq_refs.specs.Orders.{ArraysAscend};
+    ghost use Rattle.mq_refs.specs.Orders.{IsOrderOf};
     ghost use Rattle.mq_auto.specs.Findings.{IsLevelled};
 
     ghost Value = { Seen };
@@ -44,7 +46,7 @@ impl<'a> Model for AutoRunner<'a> {
 
     ghost view = { λ r. model_of r.model.now };
 
-    ghost invariant = { λ r. IfSome r.last (IsLevelled (model_of r.model.now)) × (r.refs_ascend ≡ true → ArraysAscend r.model.now.refs.now) };
+    ghost invariant = { λ r. IfSome r.last (IsLevelled (model_of r.model.now)) × IsOrderOf r.refs r.model.now };
 }
 
 impl<'a> AutoRunner<'a> {
@@ -54,7 +56,7 @@ impl<'a> AutoRunner<'a> {
     {
         AutoRunner {
             model,
-            refs_ascend: arrays_ascend(model.refs),
+            refs: refs_order(model),
             last: None,
         }
     }
@@ -67,18 +69,11 @@ impl<'a> AutoRunner<'a> {
         ensures same { self.new ≡ self.old }
     {
         let model = self.model;
-        let refs_ascend = self.refs_ascend;
+        let refs = self.refs;
         let last = self.last.take();
         match judge_after(alloc, model, p, last)? {
             Ok(found) => {
-                let result = result_over(
-                    alloc,
-                    model,
-                    p,
-                    &found.0,
-                    found.1.rounds.as_slice(),
-                    refs_ascend,
-                )?;
+                let result = result_over(alloc, model, p, &found, refs)?;
                 self.last = Some(found);
                 Ok(result)
             }
@@ -87,22 +82,54 @@ impl<'a> AutoRunner<'a> {
     }
 }
 
-// What the rules make of a partition of this shape, whose assignments come in these rounds.
+// What the rules make of a partition of this shape.
 fn result_over(
     alloc: Global,
     m: &Lent<'_>,
     p: &PartInput,
-    shape: &PartShape,
-    rounds: &[Items<u32>],
-    refs_ascend: bool,
+    found: &IndexedShape,
+    refs: RefsOrder,
 ) -> Result<PartResult, Memory>
-    requires own { AreOwn shape.now }
-    requires ascend { KeysAscend shape.now.cells }
-    requires refs { refs_ascend ≡ true → ArraysAscend m.now.refs.now }
-    requires rounds { AreRoundsOf (model_of m.now) shape.now rounds.now }
-    ensures { IfOk result (λ r. r ≡ result_with (model_of m.now) p.now.key shape.now (slots_in (model_of m.now) shape.now p.now.cells)) }
+    requires levelled { IsLevelled (model_of m.now) found.now }
+    requires refs { IsOrderOf refs m.now }
+    ensures { IfOk result (λ r. r ≡ result_with (model_of m.now) p.now.key found.now.shape (slots_in (model_of m.now) found.now.shape p.now.cells)) }
 {
-    let mut cells = GridCells::new(alloc, p, shape.cells.as_slice());
-    walk_rounds(alloc, m, shape, rounds, refs_ascend, &mut cells)?;
-    result_of(alloc, m, &p.key, shape, &mut cells)
+    let mut cells = IndexedCells::new(alloc, p)?;
+    add_created(found, &mut cells)?;
+    walk_rounds(alloc, m, found, refs, &ByLending, &mut cells)?;
+    stored_result(alloc, m, p, &found.shape, &mut cells)
+}
+
+// Adds the cells of a shape that its input does not have, so that the places of the store's cells are those of the shape's.
+fn add_created(found: &IndexedShape, cells: &mut IndexedCells) -> Result<(), Memory>
+    ensures same_input { input_in cells.new ≡ input_in cells.old }
+    ensures same_results { results_of cells.new ≡ results_of cells.old }
+{
+    if found.base.len() == found.cells.len() {
+        return Ok(());
+    }
+    let mut near = 0;
+    'adding: for key in found.cells.keys() {
+        add_if_absent(&found.base, key, &mut near, cells)?;
+    }
+    Ok(())
+}
+
+// Adds a cell where it is not among those of the input.
+fn add_if_absent(
+    base: &DimIndex,
+    key: &Key,
+    near: &mut u32,
+    cells: &mut IndexedCells,
+) -> Result<(), Memory>
+    ensures same_input { input_in cells.new ≡ input_in cells.old }
+    ensures same_results { results_of cells.new ≡ results_of cells.old }
+{
+    match base.place_near(key.as_slice(), *near) {
+        Some(place) => {
+            *near = place;
+            Ok(())
+        }
+        None => cells.add(key.copy()?),
+    }
 }

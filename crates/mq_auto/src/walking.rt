@@ -1,122 +1,115 @@
 //! The values of assignments, round by round.
-ghost use Rattle.std.specs.Prelude.{◌≡◌, ◌-◌, ℕ, true, Some, slice_get, OnOk};
-ghost use Rattle.std.specs.Option.{option_copied};
+ghost use Rattle.std.specs.Prelude.{◌≡◌, ◌<◌, ◌-◌, ℕ, Some, length, slice_get, OnOk};
+ghost use Rattle.std.specs.List.{All};
 ghost use Rattle.mq_ir.specs.declared.query.Rule.{Rule};
 ghost use Rattle.mq_ir.specs.declared.query.CellName.{CellName};
 ghost use Rattle.mq_ir.specs.Partitions.{Cells, cell_at};
 ghost use Rattle.mq_ir.specs.Unfolding.{model_of};
 ghost use Rattle.mq_cells.specs.Columns.{no_results};
-ghost use Rattle.mq_refs.specs.Orders.{ArraysAscend, IsInOrder, KeysAscend};
-ghost use Rattle.mq_auto_shape.specs.Found.{AreRoundsOf};
+ghost use Rattle.mq_refs.specs.Orders.{IsOrderOf};
+ghost use Rattle.mq_auto_shape.specs.Found.{IsRuled};
+ghost use Rattle.mq_auto.specs.Findings.{IsLevelled};
 ghost use Rattle.mq_auto.specs.Meaning.{result_at};
-ghost use Rattle.mq_auto.specs.Walks.{AreFoundAt, AreOwn, IsFoundAt, IsPut, model_in};
+ghost use Rattle.mq_auto.specs.Walks.{AreFoundAt, AreOwn, AreRuled, IsAtWork, IsFoundAt, IsPut, model_in};
 
+use crate::finding::Finder;
 use crate::work::Work;
+use mq_auto_shape::{IndexedShape, rule_numbered};
 use mq_cells::Cells;
-use mq_ir::{Model, PartShape, Rule, steps_read_their_looks};
-use mq_refs::{InOrder, eval_cell_lent, keys_ascend};
-use mq_values::{Items, Key, Memory};
+use mq_ir::{Model, steps_read_their_looks};
+use mq_refs::{RefsOrder, ShapeKeys};
+use mq_values::{Key, Memory};
 use std::alloc::Global;
 
-/// Finds the slots of all assignments of `s`, round by round: each looks at none but those of earlier rounds and at the
-/// input. `refs_ascend` says whether the cells of the references are known to ascend.
-pub fn walk_rounds<C: Cells>(
+/// Finds the slots of all assignments of a shape, round by round: each looks at none but those of earlier rounds and at the
+/// input. `refs` says whether the cells of the references are known to ascend.
+pub fn walk_rounds<C: Cells, F: Finder<C>>(
     alloc: Global,
     m: &Model<'_>,
-    s: &PartShape,
-    rounds: &[Items<u32>],
-    refs_ascend: bool,
+    found: &IndexedShape,
+    refs: RefsOrder,
+    finder: &F,
     cells: &mut C,
 ) -> Result<(), Memory>
-    requires own { AreOwn s.now }
-    requires ascend { KeysAscend s.now.cells }
-    requires refs { refs_ascend ≡ true → ArraysAscend m.now.refs.now }
-    requires rounds { AreRoundsOf (model_of m.now) s.now rounds.now }
+    requires levelled { IsLevelled (model_of m.now) found.now }
+    requires refs { IsOrderOf refs m.now }
     ensures values { OnOk result ((input : Cells) → C.input cells.old ≡ cell_at input → C.results cells.old ≡ no_results
-        → (c : CellName) → C.results cells.new c ≡ result_at (model_of m.now) s.now input c) }
+        → (c : CellName) → C.results cells.new c ≡ result_at (model_of m.now) found.now.shape input c) }
     ensures same_input { C.input cells.new ≡ C.input cells.old }
 {
     let work = Work {
         model: m,
-        shape: s,
-        order: InOrder {
-            base: keys_ascend(s.base.as_slice()),
-            refs: refs_ascend,
-            cells: true,
+        shape: &found.shape,
+        keys: ShapeKeys {
+            base: &found.base,
+            cells: &found.cells,
         },
+        refs,
     };
+    let rounds = found.leveled.rounds.as_slice();
     'rounds: for round in rounds {
-        walk_round(alloc, &work, round.as_slice(), cells)?;
+        walk_round(alloc, &work, round.as_slice(), finder, cells)?;
     }
     Ok(())
 }
 
 // The slots of the assignments at these places, which come in one round.
-fn walk_round<C: Cells>(
+fn walk_round<C: Cells, F: Finder<C>>(
     alloc: Global,
     work: &Work<'_>,
     round: &[u32],
+    finder: &F,
     cells: &mut C,
 ) -> Result<(), Memory>
-    requires order { IsInOrder work.now.order work.now.model.now work.now.shape.now }
+    requires work { IsAtWork work.now }
     requires own { AreOwn work.now.shape.now }
+    requires ruled { AreRuled (model_in work.now) work.now.shape.now }
+    requires there { All (λ place. place < length work.now.shape.now.assigned) round.now }
     ensures found { OnOk result (AreFoundAt (model_in work.now) work.now.shape.now (C.input cells.old) (C.results cells.old) (C.results cells.new) round.now) }
     ensures same_input { C.input cells.new ≡ C.input cells.old }
 {
     'places: for place in round {
-        visit(alloc, work, *place, cells)?;
+        visit(alloc, work, *place, finder, cells)?;
     }
     Ok(())
 }
 
 // The slot of the assignment at a place.
-fn visit<C: Cells>(alloc: Global, work: &Work<'_>, place: u32, cells: &mut C) -> Result<(), Memory>
-    requires order { IsInOrder work.now.order work.now.model.now work.now.shape.now }
+fn visit<C: Cells, F: Finder<C>>(
+    alloc: Global,
+    work: &Work<'_>,
+    place: u32,
+    finder: &F,
+    cells: &mut C,
+) -> Result<(), Memory>
+    requires work { IsAtWork work.now }
     requires own { AreOwn work.now.shape.now }
+    requires ruled { AreRuled (model_in work.now) work.now.shape.now }
+    requires there { place < length work.now.shape.now.assigned }
     ensures found { OnOk result (IsFoundAt (model_in work.now) work.now.shape.now (C.input cells.old) (C.results cells.old) (C.results cells.new) place) }
     ensures same_input { C.input cells.new ≡ C.input cells.old }
 {
     steps_read_their_looks();
-    // Each place of a round has an assignment.
-    let Some(assignment) = work.shape.assigned.get(place as usize) else {
-        return Err(Memory);
-    };
-    assign(alloc, work, assignment, cells)
+    let assigned = work.shape.assigned.as_slice();
+    let assignment = &assigned[place as usize];
+    assign(alloc, work, assignment, finder, cells)
 }
 
 // Puts at the measure of an assignment what its rule makes of the cell.
-fn assign<C: Cells>(
+fn assign<C: Cells, F: Finder<C>>(
     alloc: Global,
     work: &Work<'_>,
     assignment: &(Key, u32, u32),
+    finder: &F,
     cells: &mut C,
 ) -> Result<(), Memory>
-    requires order { IsInOrder work.now.order work.now.model.now work.now.shape.now }
+    requires work { IsAtWork work.now }
+    requires ruled { IsRuled (model_in work.now) assignment.now }
     ensures put { OnOk result ((rule : Rule) → slice_get (model_in work.now).part.rules (assignment.now.2 - 1) ≡ Some rule
         → IsPut (model_in work.now) work.now.shape.now (C.input cells.old) (C.results cells.old) (C.results cells.new) assignment.now rule) }
     ensures same_input { C.input cells.new ≡ C.input cells.old }
 {
-    // Each assignment has the number of a rule.
-    let Some(rule) = rule_numbered(work.model, assignment.2) else {
-        return Err(Memory);
-    };
-    let slot = eval_cell_lent(
-        alloc,
-        rule,
-        work.model,
-        &assignment.0,
-        0,
-        work.shape,
-        work.order,
-        cells,
-    )?;
+    let rule = rule_numbered(work.model, assignment.2);
+    let slot = finder.slot(alloc, work, rule, &assignment.0, cells)?;
     cells.put(&assignment.0, assignment.1, slot)
-}
-
-// The rule with this number, counted from 1.
-fn rule_numbered<'a>(m: &Model<'a>, number: u32) -> Option<&'a Rule>
-    ensures { option_copied result ≡ slice_get m.now.part.now.rules (number - 1) }
-{
-    let part = m.part;
-    part.rules.get(number.saturating_sub(1) as usize)
 }

@@ -1,11 +1,13 @@
 //! A model at work on a partition.
 use mq_ir::{Model, PartShape};
-use mq_refs::InOrder;
+use mq_refs::{RefsOrder, ShapeKeys};
 
-/// A model at work on the shape of a partition, and which keys are known to be in order.
+/// A model at work on the shape of a partition, with the keys of the shape, and whether the cells of its references are known
+/// to ascend.
 #[derive(Clone, Copy)]
 pub struct Work<'a> {
     pub model: &'a Model<'a>,
     pub shape: &'a PartShape,
-    pub order: InOrder,
+    pub keys: ShapeKeys<'a>,
+    pub refs: RefsOrder,
 }

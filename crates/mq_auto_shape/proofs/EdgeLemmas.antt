@@ -1,5 +1,5 @@
 -- The places of assignments, and which of them an assignment looks at.
-use Rattle.std.proofs.Common.{◌≡◌, ℕ, zero, suc, ◌+◌, ◌<◌, ◌≤◌, Bool, true, false, cond, List, [], ◌∷◌, ◌++◌, drop, length, get_or, map, Option, Some, None, slice_get, refl, sym, ap, subst, arith, ◌∙◌, eqb}
+use Rattle.std.proofs.Common.{◌≡◌, ℕ, zero, suc, ◌+◌, ◌<◌, Bool, true, false, cond, List, [], ◌∷◌, ◌++◌, drop, length, get_or, map, Option, Some, None, slice_get, refl, sym, ap, subst, arith, ◌∙◌, eqb}
 use Rattle.std.specs.Prelude.{slice_index_or}
 use Rattle.std.specs.List.{All, cons_option, filter_map, find, position_from}
 use Rattle.std.specs.Ordering.{is_eq}
@@ -18,7 +18,7 @@ use Rattle.mq_ir.specs.Keys.{Tuple, is_same}
 use Rattle.mq_ir.specs.Shape.{Assignment, assigns}
 use Rattle.mq_ir.specs.Unfolding.{Model}
 use Rattle.mq_levels.specs.Levels.{ReadsNodes}
-use Rattle.mq_cells.specs.Grids.{Grid, ItemDiffers, item_at}
+use Rattle.mq_auto_shape.specs.Numbers.{NumberDiffers, Numbered, number_at}
 use Rattle.mq_auto_shape.specs.Edges.{PlacesAre, looks_by, number_looked, place_looked, reads_of}
 use Rattle.mq_auto_shape.proofs.NodeLemmas.{turned}
 use Rattle.mq_ir.specs.StepLaws.{next_item}
@@ -88,25 +88,25 @@ missed test i (x ∷ xs) h = by (test x) h (λ g. missed test (i + 1) xs g)
     by true g rest = absurd (cc)
     by false g rest = rest g
 
--- ---- grids that have places as their items
-pub places_next : (before after : Grid ℕ) (assigned : List Assignment) (n at : ℕ) (x : Assignment) → n + 1 ≡ at → n < length assigned → x ≡ get_or assigned n x
-    → ((key : Tuple) (m : ℕ) → item_at before key m ≡ position_from (assigns m key) at (drop at assigned))
-    → ItemDiffers before after x.0 x.1 (Some n)
-    → (key : Tuple) (m : ℕ) → item_at after key m ≡ position_from (assigns m key) n (drop n assigned)
+-- ---- numbers that are places
+pub places_next : (before after : Numbered) (assigned : List Assignment) (n at : ℕ) (x : Assignment) → n + 1 ≡ at → n < length assigned → x ≡ get_or assigned n x
+    → ((key : Tuple) (m : ℕ) → number_at before key m ≡ position_from (assigns m key) at (drop at assigned))
+    → NumberDiffers before after x.0 x.1 (Some n)
+    → (key : Tuple) (m : ℕ) → number_at after key m ≡ position_from (assigns m key) n (drop n assigned)
 places_next before after assigned n at x e lt is h g key m =
-    g.items key m
+    g key m
     ∙ (λ i. cond (turned (x.0, x.1) (key, m) i) (Some n) (h key m i))
     ∙ ap (λ k. cond (assigns m key x) (Some n) (position_from (assigns m key) k (drop at assigned))) (sym e)
     ∙ sym (ap (position_from (assigns m key) n) (item_before assigned n at x e lt is))
 
 -- ---- looks
-same_looked : (grid : Grid ℕ) (assigned : List Assignment) → PlacesAre grid assigned → (look : Look) → number_looked grid look ≡ place_looked assigned look
-same_looked grid assigned h (Measure c) = h c.key c.measure
-same_looked grid assigned h (Presence key) = refl
+same_looked : (numbers : Numbered) (assigned : List Assignment) → PlacesAre numbers assigned → (look : Look) → number_looked numbers look ≡ place_looked assigned look
+same_looked numbers assigned h (Measure c) = h c.key c.measure
+same_looked numbers assigned h (Presence key) = refl
 
-pub looked : (grid : Grid ℕ) (assigned : List Assignment) → PlacesAre grid assigned → (looks : List Look)
-    → filter_map (number_looked grid) looks ≡ filter_map (place_looked assigned) looks
-looked grid assigned h looks = λ i. filter_map (λ look. same_looked grid assigned h look i) looks
+pub looked : (numbers : Numbered) (assigned : List Assignment) → PlacesAre numbers assigned → (looks : List Look)
+    → filter_map (number_looked numbers) looks ≡ filter_map (place_looked assigned) looks
+looked numbers assigned h looks = λ i. filter_map (λ look. same_looked numbers assigned h look i) looks
 
 equal_is : (o : Ordering) → is_eq o ≡ true → o ≡ Equal
 equal_is Less h = cc

@@ -1,5 +1,5 @@
 -- One single left side: whether it may assign its targets, and what has grown behind it.
-use Rattle.std.proofs.Common.{◌≡◌, ℕ, List, ◌++◌, length, map, Option, Some, None, Ok, Err, sym, ap, ◌∙◌}
+use Rattle.std.proofs.Common.{◌≡◌, ℕ, List, ◌++◌, length, map, Option, Some, None, Ok, Err, refl, sym, ap, ◌∙◌}
 use Rattle.std.specs.List.{filter, list_any}
 use Rattle.std.specs.Option.{option_map_or}
 use Rattle.mq_values.specs.Order.{cmp_key}
@@ -11,6 +11,11 @@ use Rattle.mq_ir.specs.Placed.{Placed}
 use Rattle.mq_ir.specs.Shape.{Growing, assigns, cmp_assignment, least_of, shape_fault}
 use Rattle.mq_ir.specs.Targets.{Targets, targets}
 use Rattle.mq_auto_shape.specs.Walk.{assigned_by, fault_in, left_grown, placed_all}
+
+-- where no fault is found, none is assigned again
+pub none_again : (number : ℕ) (again : Option Tuple) (count : ℕ) → None ≡ fault_in number again count → None ≡ again
+none_again number None count h = refl
+none_again number (Some key) count h = cc
 
 module _ (number : ℕ) (rule : Rule) (left : SingleLeft) (g : Growing) where
   abbrev found : Targets

@@ -4,6 +4,7 @@ use Rattle.std.specs.List.{All, cons_option, filter, filter_map, find, list_all,
 use Rattle.std.specs.Option.{option_and_then, option_map, option_map_or}
 use Rattle.std.specs.Prelude.{is_none, slice_index_or}
 use Rattle.std.proofs.lemmas.List.{drop_all}
+use Rattle.std.proofs.lemmas.List.Elements.{All-cons, All-filter, All-nil, All-weaker}
 use Rattle.mq_ir.specs.declared.query.CellName.{CellName}
 use Rattle.mq_ir.specs.declared.query.Look.{Look}
 use Rattle.mq_ir.specs.declared.query.Look.TheVariants.{Measure, Presence}
@@ -32,6 +33,19 @@ filter_alike f g a zero h = refl
 filter_alike f g a (suc n) h =
     (λ i. cond (h a (omega arith) (omega arith) i) (a ∷ filter f (range_with_len (a + 1) n)) (filter f (range_with_len (a + 1) n)))
     ∙ ap (λ l. cond (g a) (a ∷ l) l) (filter_alike f g (a + 1) n (λ p l u. h p (omega (arith, l)) (omega (arith, u))))
+
+range_below : (a n : ℕ) → All (λ p. p < a + n) (range_with_len a n)
+range_below a zero = All-nil (λ p. p < a + zero)
+range_below a (suc n) =
+    All-cons (λ p. p < a + suc n) a (range_with_len (a + 1) n) (omega arith)
+    (All-weaker (λ p. p < a + 1 + n) (λ p. p < a + suc n) (λ p h. omega (arith, h)) (range_with_len (a + 1) n) (range_below (a + 1) n))
+
+-- what is left is at places of assignments
+pub rest_there : (assigned : List Assignment) (reads : List (List ℕ)) (rest : List ℕ) → length reads ≡ length assigned → rest ≡ rest_of reads → All (λ p. p < length assigned) rest
+rest_there assigned reads rest same left =
+    subst (λ (l : List ℕ). All (λ p. p < length assigned) l) (sym left)
+    (All-filter (λ node. not (levelled reads (length reads) node)) (λ p. p < length assigned) (range_with_len 0 (length reads))
+    (All-weaker (λ p. p < 0 + length reads) (λ p. p < length assigned) (λ p h. omega (arith, h, same)) (range_with_len 0 (length reads)) (range_below 0 (length reads))))
 
 read_at : {X : Type 0} (xs : List X) (p : ℕ) (d a : X) → slice_get xs p ≡ Some a → slice_index_or xs p d ≡ a
 read_at [] p d a h = absurd (cc)

@@ -1,9 +1,12 @@
 mod CycleLemmas
 mod EdgeLemmas
+mod FreshLemmas
 mod GrowthLemmas
 mod LeftLemmas
 mod LevelLemmas
 mod MeaningLemmas
 mod NodeLemmas
+mod NumberLemmas
 mod OutcomeLemmas
 mod StepLemmas
+mod WalkLemmas

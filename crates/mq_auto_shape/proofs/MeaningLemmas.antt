@@ -28,7 +28,7 @@ either true false c = refl
 either false true c = refl
 either false false c = refl
 
-any_placed : {K : Type 0} (cmp : K → K → Ordering) (p : K → Bool) (x : K) (ys : List K) → list_any p (placed cmp x ys) ≡ (p x || list_any p ys)
+pub any_placed : {K : Type 0} (cmp : K → K → Ordering) (p : K → Bool) (x : K) (ys : List K) → list_any p (placed cmp x ys) ≡ (p x || list_any p ys)
 any_placed cmp p x [] = refl
 any_placed cmp p x (y ∷ ys) = by (is_gt (cmp x y)) (any_placed cmp p x ys)
   where
@@ -36,7 +36,7 @@ any_placed cmp p x (y ∷ ys) = by (is_gt (cmp x y)) (any_placed cmp p x ys)
     by true h = ap (λ c. p y || c) h ∙ either (p y) (p x) (list_any p ys)
     by false h = refl
 
-any_ascending : {K : Type 0} (cmp : K → K → Ordering) (p : K → Bool) (xs : List K) → list_any p (ascending cmp xs) ≡ list_any p xs
+pub any_ascending : {K : Type 0} (cmp : K → K → Ordering) (p : K → Bool) (xs : List K) → list_any p (ascending cmp xs) ≡ list_any p xs
 any_ascending cmp p [] = refl
 any_ascending cmp p (x ∷ xs) = any_placed cmp p x (ascending cmp xs) ∙ ap (λ c. p x || c) (any_ascending cmp p xs)
 

@@ -55,16 +55,17 @@ put_new (e ∷ es) key m number h = by (cmp_key key e.0.0) (nat_cmp m e.0.1) (na
     by Equal Greater t h rest = ap (λ l. node_in e ∷ l) (rest h)
     by Greater s t h rest = ap (λ l. node_in e ∷ l) (rest h)
 
-not_had : (old found : Option ℕ) → is_some old ≡ false → old ≡ found → None ≡ found
-not_had None found h e = e
-not_had (Some n) found h e = absurd (cc)
+not_had : (had : Option ℕ) → is_some had ≡ false → None ≡ had
+not_had None h = refl
+not_had (Some n) h = absurd (cc)
 
--- a node that had no number, put into the map
-pub put_kept : (es fs : List (Node × ℕ)) (now : List Assignment) (key : Tuple) (m number : ℕ) (old : Option ℕ) → is_some old ≡ false
-    → old ≡ lookup (is_at (cmp_node (key, m))) es → fs ≡ insert_entry cmp_node es (key, m) number → map node_in es ≡ now
-    → map node_in fs ≡ placed cmp_assignment (key, m, number) now
-put_kept es fs now key m number old h o f v =
-    ap (map node_in) f ∙ put_new es key m number (not_had old (lookup (is_at (cmp_node (key, m))) es) h o) ∙ ap (placed cmp_assignment (key, m, number)) v
+-- a node that has no number, put into the map
+pub put_kept : (es fs : List (Node × ℕ)) (now : List Assignment) (key : Tuple) (m number : ℕ) → list_any (assigns m key) now ≡ false
+    → fs ≡ insert_entry cmp_node es (key, m) number → map node_in es ≡ now → map node_in fs ≡ placed cmp_assignment (key, m, number) now
+put_kept es fs now key m number h f v =
+    let had = lookup (is_at (cmp_node (key, m))) es in
+    let none : None ≡ had = not_had had (found_any es key m ∙ ap (λ (l : List Assignment). list_any (assigns m key) l) v ∙ h) in
+    ap (map node_in) f ∙ put_new es key m number none ∙ ap (placed cmp_assignment (key, m, number)) v
 
 itself : (x : Node) → (is_same x.0 x.0 && (x.1 == x.1)) ≡ true
 itself x = sym (at_node x x) ∙ (eq_by_cmp_equiv node_total).refl x

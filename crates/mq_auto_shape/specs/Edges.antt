@@ -11,25 +11,25 @@ use Rattle.mq_ir.specs.Looks.{looks_of}
 use Rattle.mq_ir.specs.Shape.{Assignment, assigns}
 use Rattle.mq_ir.specs.Slots.{site_in}
 use Rattle.mq_ir.specs.Unfolding.{Model}
-use Rattle.mq_cells.specs.Grids.{Grid, item_at}
+use Rattle.mq_auto_shape.specs.Numbers.{Numbered, number_at}
 
 -- the place at which a measure is assigned first
 abbrev pub place_at : List Assignment → Tuple → ℕ → Option ℕ
 place_at assigned key m = position_from (assigns m key) 0 assigned
 
--- a grid that has these places as its items
-abbrev pub PlacesAre : Grid ℕ → List Assignment → Type 0
-PlacesAre grid assigned = (key : Tuple) (m : ℕ) → item_at grid key m ≡ place_at assigned key m
+-- numbers that are these places
+abbrev pub PlacesAre : Numbered → List Assignment → Type 0
+PlacesAre numbers assigned = (key : Tuple) (m : ℕ) → number_at numbers key m ≡ place_at assigned key m
 
 -- the place of a look, where it is one of a measure that is assigned
 abbrev pub place_looked : List Assignment → Look → Option ℕ
 place_looked assigned (Measure c) = place_at assigned c.key c.measure
 place_looked assigned (Presence key) = None
 
--- the number that a grid has for a look
-abbrev pub number_looked : Grid ℕ → Look → Option ℕ
-number_looked grid (Measure c) = item_at grid c.key c.measure
-number_looked grid (Presence key) = None
+-- the number for a look
+abbrev pub number_looked : Numbered → Look → Option ℕ
+number_looked numbers (Measure c) = number_at numbers c.key c.measure
+number_looked numbers (Presence key) = None
 
 -- the rule of an assignment
 abbrev pub rule_by : Model → Assignment → Option Rule

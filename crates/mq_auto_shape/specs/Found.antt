@@ -5,6 +5,7 @@ use Rattle.std.specs.List.Sorted.{IsStrictlySortedBy}
 use Rattle.std.specs.Option.{option_map_or}
 use Rattle.mq_values.specs.declared.faults.QueryFault.{QueryFault}
 use Rattle.mq_values.specs.Order.{cmp_key}
+use Rattle.mq_dim_index.specs.Places.{is_there}
 use Rattle.mq_ir.specs.declared.query.PartShape.{PartShape}
 use Rattle.mq_ir.specs.Automatic.{levelled_shape, node_looks, node_of}
 use Rattle.mq_ir.specs.Keys.{Tuple}
@@ -57,6 +58,10 @@ pub record AreRoundsOf (model : Model) (shape : PartShape) (rounds : List (List 
 -- it is by a rule of the model, numbered from 1
 abbrev pub IsRuled : Model → Assignment → Type 0
 IsRuled model a = (0 < a.2) × IsSome (slice_get model.part.rules (a.2 - 1))
+
+-- the cell of each assignment is among these
+abbrev pub AreThere : List Tuple → List Assignment → Type 0
+AreThere keys assigned = All (λ a. is_there keys a.0 ≡ true) assigned
 
 -- what holds of a shape of an input with these keys
 pub record IsShapeOf (model : Model) (keys : List Tuple) (shape : PartShape) : Type 0 where

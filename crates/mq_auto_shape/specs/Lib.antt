@@ -1,5 +1,7 @@
 pub mod Conditions
 pub mod Edges
 pub mod Found
+pub mod Indexed
+pub mod Numbers
 pub mod Outcomes
 pub mod Walk

@@ -1,6 +1,6 @@
 -- The walk over the rules, where what is assigned is kept in its order.
-use Rattle.std.specs.Prelude.{ℕ, List, [], ◌∷◌, ◌++◌, map, Option, Some, None, Result, Ok, Err, nat_lt, if◌then◌else◌}
-use Rattle.std.specs.List.{enumerate_from}
+use Rattle.std.specs.Prelude.{◌≡◌, ℕ, Bool, false, List, [], ◌∷◌, ◌++◌, map, Option, Some, None, Result, Ok, Err, nat_lt, if◌then◌else◌}
+use Rattle.std.specs.List.{enumerate_from, list_any}
 use Rattle.std.specs.Option.{option_map, option_map_or, option_or}
 use Rattle.std.specs.Ordering.{is_gt, nat_cmp, ordering_then}
 use Rattle.std.specs.declared.cmp.Ordering.{Ordering}
@@ -9,11 +9,12 @@ use Rattle.mq_values.specs.declared.limits.TheConstants.{MAX_CELLS_OF_PARTITION}
 use Rattle.mq_values.specs.Order.{cmp_key}
 use Rattle.mq_ir.specs.declared.query.Rule.{Rule}
 use Rattle.mq_ir.specs.declared.query.SingleLeft.{SingleLeft}
-use Rattle.mq_ir.specs.Keys.{Tuple}
+use Rattle.mq_ir.specs.Keys.{Tuple, is_among}
 use Rattle.mq_ir.specs.Partitions.{ascending, placed}
 use Rattle.mq_ir.specs.Placed.{Placed, placed_fault}
+use Rattle.mq_ir.specs.Ready.{HaveLength, HavePlaces}
 use Rattle.mq_ir.specs.Results.{◌>>=◌, each_in_turn}
-use Rattle.mq_ir.specs.Shape.{Assignment, Growing, cmp_assignment, shape_fault}
+use Rattle.mq_ir.specs.Shape.{Assignment, Growing, assigns, cmp_assignment, shape_fault}
 use Rattle.mq_ir.specs.Targets.{targets}
 use Rattle.mq_ir.specs.Unfolding.{Model}
 use Rattle.mq_unfold.specs.SingleLefts.{lefts_of}
@@ -22,6 +23,26 @@ use Rattle.mq_unfold.specs.SingleLefts.{lefts_of}
 abbrev pub placed_all : {K : Type 0} → (K → K → Ordering) → List K → List K → List K
 placed_all cmp [] ys = ys
 placed_all cmp (x ∷ xs) ys = placed cmp x (placed_all cmp xs ys)
+
+-- a key that is not had yet, and not among the others
+pub record IsFresh (had : Tuple → Bool) (key : Tuple) (others : List Tuple) : Type 0 where
+  pub lacking : had key ≡ false
+  pub once : is_among others key ≡ false
+
+-- keys that are not had yet, each once
+abbrev pub Fresh : (Tuple → Bool) → List Tuple → Type 0
+Fresh had [] = Unit {0}
+Fresh had (key ∷ keys) = IsFresh had key keys × Fresh had keys
+
+-- keys at which this measure is not assigned yet, each once
+abbrev pub AreUnassigned : ℕ → List Assignment → List Tuple → Type 0
+AreUnassigned m assigned keys = Fresh (λ key. list_any (assigns m key) assigned) keys
+
+-- each single left side has as many places as each key has values
+pub record AreWide (lefts : List SingleLeft) (keys : List Tuple) : Type 0 where
+  pub width : ℕ
+  pub places : HavePlaces width lefts
+  pub values : HaveLength width keys
 
 -- the lesser of two: the first where they are alike or there is no other
 abbrev pub sooner_of : {K : Type 0} → (K → K → Ordering) → K → Option K → K

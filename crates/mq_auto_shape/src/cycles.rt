@@ -1,6 +1,6 @@
 //! The cycle that is named.
-ghost use Rattle.std.specs.Prelude.{◌≡◌, [], None, length, map, IfOk, slice_get};
-ghost use Rattle.std.specs.List.{filter_map};
+ghost use Rattle.std.specs.Prelude.{◌≡◌, ◌<◌, [], None, length, map, IfOk, slice_get};
+ghost use Rattle.std.specs.List.{All, filter_map};
 ghost use Rattle.mq_auto_shape.specs.Outcomes.{by_rule, cycle_at};
 
 use crate::least::least;
@@ -14,6 +14,7 @@ pub fn cycle_among(
     assigned: &[(Key, u32, u32)],
     places: &[u32],
 ) -> Result<Option<PlacedFault>, Memory>
+    requires { All (λ place. place < length assigned.now) places.now }
     ensures fault { IfOk result (λ fault. fault ≡ cycle_at (filter_map (slice_get assigned.now) places.now)) }
     ensures none { IfOk result (λ fault. fault ≡ None → places.now ≡ []) }
 {
@@ -30,14 +31,13 @@ fn cells_at(
     assigned: &[(Key, u32, u32)],
     places: &[u32],
 ) -> Result<Vec<(u32, Key)>, Memory>
+    requires { All (λ place. place < length assigned.now) places.now }
     ensures cells { IfOk result (λ cells. cells.items ≡ map by_rule (filter_map (slice_get assigned.now) places.now)) }
     ensures count { IfOk result (λ cells. length cells.items ≡ length places.now) }
 {
     let mut cells = Vec::with_capacity(alloc, places.len())?;
     'places: for place in places {
-        let Some(a) = assigned.get(*place as usize) else {
-            return Err(Memory);
-        };
+        let a = &assigned[*place as usize];
         cells.push((a.2, a.0.copy()?))?;
     }
     Ok(cells)

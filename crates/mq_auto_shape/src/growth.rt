@@ -3,11 +3,12 @@ ghost use Rattle.std.specs.Prelude.{◌≡◌, [], ◌++◌, Some, length, map, 
 ghost use Rattle.std.specs.List.{All, filter, find, list_any};
 ghost use Rattle.std.specs.List.Sorted.{IsStrictlySortedBy};
 ghost use Rattle.mq_values.specs.Order.{cmp_key};
-ghost use Rattle.mq_ir.specs.Partitions.{ascending, placed};
+ghost use Rattle.mq_dim_index.specs.Places.{is_there};
+ghost use Rattle.mq_ir.specs.Partitions.{ascending};
 ghost use Rattle.mq_ir.specs.Shape.{assigns, cmp_assignment, least_of};
 ghost use Rattle.mq_ir.specs.Targets as spec;
 ghost use Rattle.mq_ir.specs.Ready.{HaveLength};
-ghost use Rattle.mq_auto_shape.specs.Walk.{assigned_by, placed_all};
+ghost use Rattle.mq_auto_shape.specs.Walk.{AreUnassigned, Fresh, assigned_by, placed_all};
 
 use crate::least::least;
 use crate::nodes::NodeMap;
@@ -18,48 +19,43 @@ use mq_values::{Items, Key, Memory, Mode};
 use std::alloc::Global;
 use std::marker::Model;
 
-/// The cells that are there so far, each with as many values as the others, and what is assigned so far. Contracts see
-/// it as `Growing` of mq_ir's `specs/Shape`, with the assignments ascending.
+/// The cells that are there so far, and what is assigned so far. Contracts see it as `Growing` of mq_ir's `specs/Shape`,
+/// with the assignments ascending.
 #[derive(Drop)]
 pub struct Growth {
     index: DimIndex,
     assigned: NodeMap,
-    width: usize,
 }
 
 impl Model for Growth {
     ghost use Rattle.mq_ir.specs.Shape.{Growing};
-    ghost use Rattle.mq_ir.specs.Ready.{HaveLength};
 
     ghost Value = { Growing };
 
     ghost view = { λ g. record { set = g.index; assigned = g.assigned } };
-
-    ghost invariant = { λ g. HaveLength g.width g.index };
 }
 
 impl Growth {
     /// The cells of an input; nothing is assigned.
-    pub fn new(alloc: Global, width: usize, keys: &[Key]) -> Result<Growth, Memory>
-        requires ascend { IsStrictlySortedBy cmp_key keys.now }
-        requires wide { HaveLength width keys.now }
+    pub fn new(alloc: Global, keys: &[Key]) -> Result<Growth, Memory>
+        requires { IsStrictlySortedBy cmp_key keys.now }
         ensures { IfOk result (λ g. g ≡ record { set = keys.now; assigned = [] }) }
     {
         Ok(Growth {
             index: DimIndex::new(alloc, keys)?,
             assigned: NodeMap::new(alloc),
-            width,
         })
     }
 
-    /// The targets of a single left side. `Memory` comes too where it has more or fewer places than a cell has values.
+    /// The targets of a single left side, which has as many places as a cell has values.
     pub fn targets(&self, alloc: Global, left: &SingleLeft, mode: Mode) -> Result<Targets, Memory>
+        requires { HaveLength (length left.now.places) self.now.set }
         ensures cells { IfOk result (λ found. found.cells ≡ (spec.targets left.now mode self.now.set).cells) }
         ensures created { IfOk result (λ found. found.created ≡ (spec.targets left.now mode self.now.set).created) }
+        ensures ascend { IsStrictlySortedBy cmp_key self.now.set }
     {
-        if left.places.len() != self.width {
-            return Err(Memory);
-        }
+        // Every index says of its keys that they ascend.
+        self.index.keys();
         targets(alloc, left, mode, &self.index)
     }
 
@@ -86,53 +82,47 @@ impl Growth {
         }
     }
 
-    /// The same with the cells that are created. `Memory` comes too where one is there, or has more or fewer values.
+    /// The same with the cells that are created, of which none is there yet.
     pub fn with_created(self, created: &[Key]) -> Result<Growth, Memory>
+        requires { Fresh (is_there self.set) created.now }
         ensures set { IfOk result (λ g. g.set ≡ ascending cmp_key (created.now ++ self.set)) }
         ensures assigned { IfOk result (λ g. g.assigned ≡ self.assigned) }
     {
-        let Growth {
-            index,
-            assigned,
-            width,
-        } = self;
+        let Growth { index, assigned } = self;
         Ok(Growth {
-            index: with_keys(index, width, created)?,
+            index: with_keys(index, created)?,
             assigned,
-            width,
         })
     }
 
-    /// The same, with measure `m` of these cells assigned by the rule of this number. `Memory` comes too where one is
-    /// assigned already.
+    /// The same, with measure `m` of these cells, of which none is assigned yet, assigned by the rule of this number.
     pub fn with_assigned(self, m: u32, number: u32, found: &[Key]) -> Result<Growth, Memory>
+        requires { AreUnassigned m self.assigned found.now }
         ensures set { IfOk result (λ g. g.set ≡ self.set) }
         ensures assigned { IfOk result (λ g. g.assigned
             ≡ placed_all cmp_assignment (map (assigned_by m number) found.now) self.assigned) }
     {
-        let Growth {
-            index,
-            assigned,
-            width,
-        } = self;
+        let Growth { index, assigned } = self;
         Ok(Growth {
             index,
             assigned: with_nodes(assigned, m, number, found)?,
-            width,
         })
     }
 
-    /// The shape that has grown from an input with the keys `base`.
-    pub fn shape(&self, alloc: Global, base: &[Key]) -> Result<PartShape, Memory>
-        ensures shape { IfOk result (λ s. s ≡ record { base = base.now; cells = self.now.set; assigned = self.now.assigned }) }
-        ensures ascend { OnOk result (IsStrictlySortedBy cmp_key self.now.set) }
-        ensures own { OnOk result (All (λ a. find (assigns a.1 a.0) self.now.assigned ≡ Some a) self.now.assigned) }
+    /// The shape that has grown from an input with the keys `base`, and its cells.
+    pub fn shape(self, alloc: Global, base: &[Key]) -> Result<(PartShape, DimIndex), Memory>
+        ensures shape { IfOk result (λ it. it.0 ≡ record { base = base.now; cells = self.set; assigned = self.assigned }) }
+        ensures cells { IfOk result (λ it. it.1 ≡ self.set) }
+        ensures ascend { OnOk result (IsStrictlySortedBy cmp_key self.set) }
+        ensures own { OnOk result (All (λ a. find (assigns a.1 a.0) self.assigned ≡ Some a) self.assigned) }
     {
-        Ok(PartShape {
+        let Growth { index, assigned } = self;
+        let shape = PartShape {
             base: copies(alloc, base)?,
-            cells: copies(alloc, self.index.keys())?,
-            assigned: self.assigned.list(alloc)?,
-        })
+            cells: copies(alloc, index.keys())?,
+            assigned: assigned.list(alloc)?,
+        };
+        Ok((shape, index))
     }
 }
 
@@ -149,11 +139,10 @@ fn already(alloc: Global, assigned: &NodeMap, m: u32, found: &[Key]) -> Result<V
     Ok(again)
 }
 
-// The index with these keys too, from the last to the first.
-fn with_keys(index: DimIndex, width: usize, keys: &[Key]) -> Result<DimIndex, Memory>
-    requires { HaveLength width index }
-    ensures set { IfOk result (λ it. it ≡ ascending cmp_key (keys.now ++ index)) }
-    ensures wide { IfOk result (λ it. HaveLength width it) }
+// The index with these keys too, of which none is there yet, from the last to the first.
+fn with_keys(index: DimIndex, keys: &[Key]) -> Result<DimIndex, Memory>
+    requires { Fresh (is_there index) keys.now }
+    ensures { IfOk result (λ it. it ≡ ascending cmp_key (keys.now ++ index)) }
 {
     // Every index says of its keys that they ascend.
     index.keys();
@@ -161,31 +150,14 @@ fn with_keys(index: DimIndex, width: usize, keys: &[Key]) -> Result<DimIndex, Me
     let mut at = keys.len();
     'placing: while at > 0 {
         at -= 1;
-        put_key(&mut index, width, keys[at].copy()?)?;
+        index.insert(keys[at].copy()?)?;
     }
     Ok(index)
 }
 
-// Puts a key that is not there, of this width, at its place.
-fn put_key(index: &mut DimIndex, width: usize, key: Key) -> Result<(), Memory>
-    requires { HaveLength width index.old }
-    ensures set { OnOk result (index.new ≡ placed cmp_key key index.old) }
-    ensures wide { OnOk result (HaveLength width index.new) }
-{
-    let fits = key.as_slice().len() == width;
-    if !fits {
-        return Err(Memory);
-    }
-    let there = index.stored(key.as_slice()).is_some();
-    if there {
-        return Err(Memory);
-    }
-    index.insert(key)?;
-    Ok(())
-}
-
-// The assignments with these too, from the last to the first.
+// The assignments with these too, of which none is there yet, from the last to the first.
 fn with_nodes(nodes: NodeMap, m: u32, number: u32, keys: &[Key]) -> Result<NodeMap, Memory>
+    requires { AreUnassigned m nodes keys.now }
     ensures { IfOk result (λ it. it ≡ placed_all cmp_assignment (map (assigned_by m number) keys.now) nodes) }
 {
     let mut nodes = nodes;

@@ -1,15 +1,17 @@
 //! The single left sides of a rule, one after another.
-ghost use Rattle.std.specs.Prelude.{◌≡◌};
+ghost use Rattle.std.specs.Prelude.{◌≡◌, length};
 ghost use Rattle.mq_values.specs.Answers.{Gives};
+ghost use Rattle.mq_ir.specs.Ready.{HaveLength};
 ghost use Rattle.mq_ir.specs.Results.{each_in_turn};
-ghost use Rattle.mq_auto_shape.specs.Walk.{fault_in, left_grown};
+ghost use Rattle.mq_auto_shape.specs.Walk.{AreWide, fault_in, left_grown};
 
 use crate::growth::Growth;
 use mq_ir::{PlacedFault, Rule, SingleLeft};
 use mq_values::{Fail, FaultKind, Key, MAX_CELLS_OF_PARTITION};
 use std::alloc::Global;
 
-/// What has grown after these single left sides of the rule of this number, or the first fault.
+/// What has grown after these single left sides of the rule of this number, or the first fault. Each has as many places as
+/// a cell has values.
 pub fn grow_all(
     alloc: Global,
     number: u32,
@@ -17,6 +19,7 @@ pub fn grow_all(
     lefts: &[SingleLeft],
     growth: Growth,
 ) -> Result<Growth, Fail<PlacedFault>>
+    requires { AreWide lefts.now growth.set }
     ensures { Gives result (each_in_turn (left_grown number rule.now) lefts.now growth) }
 {
     let mut growth = growth;
@@ -34,6 +37,7 @@ fn grow_one(
     left: &SingleLeft,
     growth: Growth,
 ) -> Result<Growth, Fail<PlacedFault>>
+    requires { HaveLength (length left.now.places) growth.set }
     ensures { Gives result (left_grown number rule.now left.now growth) }
 {
     let found = growth.targets(alloc, left, rule.mode)?;

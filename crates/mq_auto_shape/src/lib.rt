@@ -5,11 +5,15 @@
 
 mod cycles;
 mod growth;
+mod indexed;
 mod least;
 mod lefts;
 mod nodes;
+mod numbers;
 mod reads;
 mod rules;
 mod shapes;
 
-pub use shapes::shape_of;
+pub use indexed::IndexedShape;
+pub use reads::rule_numbered;
+pub use shapes::{indexed_shape_of, shape_of};

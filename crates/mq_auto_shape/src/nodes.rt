@@ -1,5 +1,5 @@
 //! Measures of cells to be looked up.
-ghost use Rattle.std.specs.Prelude.{◌≡◌, [], Some, map, IfOk, OnOk};
+ghost use Rattle.std.specs.Prelude.{◌≡◌, [], false, Some, map, IfOk, OnOk};
 ghost use Rattle.std.specs.List.{All, find, list_any};
 ghost use Rattle.std.specs.List.Sorted.{IsStrictlySortedBy};
 ghost use Rattle.std.specs.Map.{keys_of};
@@ -46,15 +46,12 @@ impl NodeMap {
         Ok(self.numbers.contains_key(&node))
     }
 
-    /// Gives a measure that has none its number. `Memory` comes too where it has one.
+    /// Gives a measure that has none its number.
     pub fn put(&mut self, key: Key, m: u32, number: u32) -> Result<(), Memory>
+        requires { list_any (assigns m key) self.old ≡ false }
         ensures { OnOk result (self.new ≡ placed cmp_assignment (key, m, number) self.old) }
     {
-        let old = self.numbers.insert((key, m), number)?;
-        let had = old.is_some();
-        if had {
-            return Err(Memory);
-        }
+        self.numbers.insert((key, m), number)?;
         Ok(())
     }
 

@@ -1,9 +1,9 @@
 //! The rules of a model, one after another.
-ghost use Rattle.std.specs.Prelude.{◌≡◌, length, Some};
+ghost use Rattle.std.specs.Prelude.{◌≡◌, length, Some, IfOk};
 ghost use Rattle.mq_values.specs.Answers.{Gives};
 ghost use Rattle.mq_ir.specs.Unfolding.{model_of};
 ghost use Rattle.mq_unfold.specs.LeftSides.{rule_of};
-ghost use Rattle.mq_ir.specs.Ready.{LeftHasPlaces, LeftsHavePlaces};
+ghost use Rattle.mq_ir.specs.Ready.{HaveLength, LeftHasPlaces, LeftsHavePlaces};
 ghost use Rattle.mq_auto_shape.specs.Walk.{rule_grown, rules_grown};
 
 use crate::growth::Growth;
@@ -17,6 +17,7 @@ use std::alloc::Global;
 /// a `u32` can number.
 pub fn grow_rules(alloc: Global, m: &Model<'_>, growth: Growth) -> Result<Growth, Fail<PlacedFault>>
     requires lefts { LeftsHavePlaces m.now.part.now }
+    requires wide { HaveLength (length m.now.part.now.dims) growth.set }
     ensures { Gives result (rules_grown (model_of m.now) growth) }
 {
     let mut growth = growth;
@@ -41,7 +42,9 @@ fn grow_rule(
 ) -> Result<Growth, Fail<PlacedFault>>
     requires there { rule_of m.now.part.now.rules number ≡ Some rule.now }
     requires places { LeftHasPlaces (length m.now.part.now.dims) rule.now.left }
-    ensures { Gives result (rule_grown (model_of m.now) (number, rule.now) growth) }
+    requires wide { HaveLength (length m.now.part.now.dims) growth.set }
+    ensures exact { Gives result (rule_grown (model_of m.now) (number, rule.now) growth) }
+    ensures wide { IfOk result (λ grown. HaveLength (length m.now.part.now.dims) grown.set) }
 {
     let lefts = single_lefts(alloc, m, 0, number, rule)?;
     grow_all(alloc, number, rule, lefts.as_slice(), growth)

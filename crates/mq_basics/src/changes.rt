@@ -13,7 +13,7 @@ use std::alloc::Global;
 #[derive(Drop)]
 pub(crate) struct Ways {
     pub(crate) first: Tables,
-    second: Tables,
+    pub(crate) second: Tables,
     is_first_staged: bool,
 }
 
@@ -91,7 +91,7 @@ fn made_twice(alloc: Global, ways: &mut Ways, name: &str, change: &Change) -> Re
     Ok(answer)
 }
 
-fn add_origins(staged: &Staged, answer: &mut Vec<u8>) -> Read<()> {
+pub(crate) fn add_origins(staged: &Staged, answer: &mut Vec<u8>) -> Read<()> {
     let Ok(count) = u32::try_from(staged.rows().len()) else {
         return unread();
     };

@@ -1,14 +1,14 @@
 //! What right sides look at, and what they assign.
-ghost use Rattle.mq_refs.specs.Orders.{IsInOrder};
 
 use crate::answers::{add, add_if, add_number, add_slot, add_values, both};
 use crate::models::{model_of, part_of, query};
 use crate::scene::Scene;
 use crate::texts::{Read, cut, key, number_of, unread};
-use mq_cells::Cells;
-use mq_ir::{Bound, Look, Model, PartShape};
-use mq_refs::{InOrder, arrays_ascend, eval_cell, eval_cell_lent, keys_ascend, looks_in, looks_of};
-use mq_values::{Boxed, Key, Memory};
+use mq_cells::{Cells, keys_ascend};
+use mq_dim_index::DimIndex;
+use mq_ir::{Bound, Look, Model, PartShape, Rule, Slot};
+use mq_refs::{ShapeKeys, eval_cell, looks_of, looks_over, refs_order, slot_over, value_over};
+use mq_values::{Boxed, Fail, Key, Memory};
 use std::alloc::Global;
 
 // A query, of which the first rule is asked, for this target in this turn.
@@ -33,28 +33,40 @@ fn asked(alloc: Global, scene: &Scene, text: &str) -> Read<Question> {
     })
 }
 
-fn order_of(model: &Model<'_>, shape: &PartShape) -> InOrder
-    ensures { IsInOrder result model.now shape.now }
-{
-    InOrder {
-        base: keys_ascend(shape.base.as_slice()),
-        refs: arrays_ascend(model.refs),
-        cells: keys_ascend(shape.cells.as_slice()),
-    }
-}
-
-/// Whether the keys of the input are in order, those of the references, and those of all cells.
+/// Which of the keys of the input and of all cells are in order.
 pub(crate) fn order(alloc: Global, scene: &Scene) -> Read<Vec<u8>> {
     let mut answer = Vec::from_slice(alloc, b"in order:")?;
     let base = keys_ascend(scene.shape.base.as_slice());
     add_if(base, " input", &mut answer)?;
-    add_if(arrays_ascend(&scene.refs), " references", &mut answer)?;
     let cells = keys_ascend(scene.shape.cells.as_slice());
     add_if(cells, " cells", &mut answer)?;
     Ok(answer)
 }
 
-/// What the rule looks at, found without and with what is known of the order of keys.
+// An index of these keys, where they are in order.
+fn index_of(alloc: Global, keys: &[Key]) -> Result<Option<DimIndex>, Memory> {
+    if keys_ascend(keys) {
+        Ok(Some(DimIndex::new(alloc, keys)?))
+    } else {
+        Ok(None)
+    }
+}
+
+// The keys of a shape by indexes with a map of the second dimension, where they are in order.
+fn indexes_of(alloc: Global, shape: &PartShape) -> Result<Option<(DimIndex, DimIndex)>, Memory> {
+    match (
+        index_of(alloc, shape.base.as_slice())?,
+        index_of(alloc, shape.cells.as_slice())?,
+    ) {
+        (Some(base), Some(mut cells)) => {
+            cells.map_dimension(alloc, 1)?;
+            Ok(Some((base, cells)))
+        }
+        _ => Ok(None),
+    }
+}
+
+/// What the rule looks at, over the lists of keys and, where these are in order, over indexes of them.
 pub(crate) fn looks(alloc: Global, scene: &Scene, text: &str) -> Read<Vec<u8>> {
     let at = asked(alloc, scene, text)?;
     let part = part_of(at.bound.get())?;
@@ -65,8 +77,14 @@ pub(crate) fn looks(alloc: Global, scene: &Scene, text: &str) -> Read<Vec<u8>> {
     let shape = &scene.shape;
     let looks = looks_of(alloc, rule, &model, &at.target, at.turn, shape)?;
     let told = listed(alloc, looks.as_slice())?;
-    let order = order_of(&model, shape);
-    let looks = looks_in(alloc, rule, &model, &at.target, at.turn, shape, order)?;
+    let Some((base, cells)) = indexes_of(alloc, shape)? else {
+        return Ok(told);
+    };
+    let keys = ShapeKeys {
+        base: &base,
+        cells: &cells,
+    };
+    let looks = looks_over(alloc, rule, &model, &at.target, at.turn, &keys)?;
     Ok(both(told, &listed(alloc, looks.as_slice())?)?)
 }
 
@@ -97,7 +115,7 @@ fn add_look(look: &Look, answer: &mut Vec<u8>) -> Result<(), Memory> {
     add("]", answer)
 }
 
-/// What the rule makes of the target over this store, without and with what is known of the order of keys.
+/// What the rule makes of the target over this store, over the lists of keys and, where these are in order, over indexes.
 pub(crate) fn assigned<C: Cells>(
     alloc: Global,
     scene: &Scene,
@@ -110,15 +128,55 @@ pub(crate) fn assigned<C: Cells>(
         return unread();
     };
     let model = model_of(part, scene);
-    let shape = &scene.shape;
-    let mut told = Vec::new(alloc);
-    let slot = eval_cell(alloc, rule, &model, &at.target, at.turn, shape, cells)?;
-    add_slot(&slot, &mut told)?;
-    let order = order_of(&model, shape);
-    let mut again = Vec::new(alloc);
-    let slot = eval_cell_lent(
-        alloc, rule, &model, &at.target, at.turn, shape, order, cells,
+    let slot = eval_cell(
+        alloc,
+        rule,
+        &model,
+        &at.target,
+        at.turn,
+        &scene.shape,
+        cells,
     )?;
-    add_slot(&slot, &mut again)?;
-    Ok(both(told, &again)?)
+    let told = slot_told(alloc, &slot)?;
+    let Some((base, cells_there)) = indexes_of(alloc, &scene.shape)? else {
+        return Ok(told);
+    };
+    let keys = ShapeKeys {
+        base: &base,
+        cells: &cells_there,
+    };
+    let refs = refs_order(&model);
+    let slot = slot_over(alloc, rule, &model, &at.target, at.turn, &keys, refs, cells)?;
+    let told = both(told, &slot_told(alloc, &slot)?)?;
+    match slot_lent(alloc, scene, &at, rule, &model, &keys)? {
+        Some(slot) => Ok(both(told, &slot_told(alloc, &slot)?)?),
+        None => Ok(told),
+    }
+}
+
+fn slot_told(alloc: Global, slot: &Slot) -> Result<Vec<u8>, Memory> {
+    let mut told = Vec::new(alloc);
+    add_slot(slot, &mut told)?;
+    Ok(told)
+}
+
+// The same over all values at once, where the store that owns its cells lends them.
+fn slot_lent(
+    alloc: Global,
+    scene: &Scene,
+    at: &Question,
+    rule: &Rule,
+    model: &Model<'_>,
+    keys: &ShapeKeys<'_>,
+) -> Result<Option<Slot>, Memory> {
+    let cells = scene.owned(alloc)?;
+    let Some(lent) = cells.lent() else {
+        return Ok(None);
+    };
+    let refs = refs_order(model);
+    match value_over(alloc, rule, model, &at.target, at.turn, keys, refs, lent) {
+        Ok(v) => Ok(Some(Slot::Done(v))),
+        Err(Fail::Cause(fault)) => Ok(Some(Slot::Faulted(fault))),
+        Err(Fail::Memory) => Err(Memory),
+    }
 }

@@ -1,16 +1,21 @@
 //! Shows what calls give that SQL does not reach: a table comes in on standard input, a row a line, each with the name of what is
 //! asked. Out comes each line with its answer.
-//! But for two helpers it has no contracts: what it writes is compared with a table that was worked out by hand.
+//! But for a helper it has no contracts: what it writes is compared with a table that was worked out by hand.
 #![tactic(auto)]
 
 mod answers;
 mod changes;
+mod counted;
+mod held;
 mod joins;
 mod looks;
 mod models;
 mod printing;
+mod ranges;
 mod reads;
 mod ready;
+mod refreshes;
+mod replays;
 mod rows;
 mod runs;
 mod scene;

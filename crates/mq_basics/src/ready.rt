@@ -3,8 +3,8 @@ ghost use Rattle.std.specs.Prelude.{◌≡◌, ◌↔◌, length, IfOk, IsTrue};
 ghost use Rattle.std.specs.Map.{keys_of};
 ghost use Rattle.mq_ir.specs.Ready.{HaveLength, IsReady, LeftHasPlaces, LeftsHavePlaces};
 
+use mq_cells::keys_ascend;
 use mq_ir::{Left, ModelPart, PartInput};
-use mq_refs::keys_ascend;
 use mq_values::{Key, Memory};
 use std::alloc::Global;
 
@@ -53,7 +53,7 @@ fn has_length(n: usize, key: &Key) -> bool
 }
 
 // The keys of these cells.
-fn keys_in(alloc: Global, cells: &[(Key, Key)]) -> Result<Vec<Key>, Memory>
+pub(crate) fn keys_in(alloc: Global, cells: &[(Key, Key)]) -> Result<Vec<Key>, Memory>
     ensures { IfOk result (λ keys. keys.items ≡ keys_of cells.now) }
 {
     let mut keys = Vec::with_capacity(alloc, cells.len())?;

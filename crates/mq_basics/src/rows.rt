@@ -3,7 +3,10 @@
 use crate::answers::add;
 use crate::scene::Scene;
 use crate::texts::{Read, unread};
-use crate::{changes, joins, looks, printing, reads, runs, scripts, stores, values};
+use crate::{
+    changes, held, joins, looks, printing, ranges, reads, refreshes, replays, runs, scripts,
+    stores, values,
+};
 use mq_values::{Fail, Memory};
 use std::alloc::Global;
 
@@ -40,6 +43,8 @@ fn told(alloc: Global, scene: &mut Scene, asked: &str, text: &str) -> Read<Vec<u
         "chosen" => reads::chosen(alloc, text),
         "change" => changes::changed(alloc, scene, text),
         "append" => changes::appended(alloc, scene, text),
+        "held" => held::held(alloc, scene, text),
+        "touched" => held::touched(alloc, scene, text),
         "base" => joins::based(alloc, scene, text),
         _ => told_of_cells(alloc, scene, asked, text),
     }
@@ -51,9 +56,13 @@ fn told_of_cells(alloc: Global, scene: &mut Scene, asked: &str, text: &str) -> R
         "get" | "first-fault" | "assigns" => stores::answers(alloc, scene, asked, text),
         "lent" => stores::lent(alloc, scene, text),
         "looked" => stores::looked(alloc, text),
+        "replay" => replays::replayed(alloc, scene, text),
+        "replay-many" => replays::replayed_many(alloc),
+        "range" => ranges::ranged(alloc, scene, text),
         "looks" => looks::looks(alloc, scene, text),
         "order" => looks::order(alloc, scene),
         "run" => runs::run(alloc, scene, text),
+        "refresh" => refreshes::refreshed(alloc, scene, text),
         _ => {
             set(alloc, scene, asked, text)?;
             Ok(Vec::new(alloc))
@@ -65,6 +74,7 @@ fn set(alloc: Global, scene: &mut Scene, asked: &str, text: &str) -> Read<()> {
     match asked {
         "table" => changes::create_table(alloc, scene, text),
         "index" => scene.clear_index(alloc),
+        "index-many" => ranges::fill_index(alloc, scene, text),
         "model" => scene.set_front(alloc, text),
         "reference" => scene.add_reference(alloc, text),
         "store" => scene.set_input(alloc, text),

@@ -3,7 +3,7 @@
 use crate::answers::{add_keys, add_number_or};
 use crate::changes::Ways;
 use crate::texts::{Read, cells, cut, key, keys, name, number_of, slot};
-use mq_cells::{Cells, GridCells, PlainCells, copy_slot};
+use mq_cells::{Cells, IndexedCells, PlainCells, copy_slot};
 use mq_dim_index::DimIndex;
 use mq_ir::{ByName, Catalog, PartInput, PartShape, RefArray, Slot};
 use mq_shape::cells_of;
@@ -124,20 +124,11 @@ impl Scene {
         Ok(cells)
     }
 
-    /// The same store, made for the cells with these keys: `changed_keys` gives them.
-    pub fn grid<'a>(&'a self, alloc: Global, index: &'a DimIndex) -> Result<GridCells<'a>, Memory> {
-        let mut cells = GridCells::new(alloc, &self.input, index.keys());
+    /// The same store, which owns its cells and knows them by the places of their keys.
+    pub fn owned(&self, alloc: Global) -> Result<IndexedCells, Memory> {
+        let mut cells = IndexedCells::new(alloc, &self.input)?;
         self.change(&mut cells)?;
         Ok(cells)
-    }
-
-    /// The keys of the cells at which something was put or taken away.
-    pub fn changed_keys(&self, alloc: Global) -> Result<DimIndex, Memory> {
-        let mut index = no_keys(alloc)?;
-        for change in &self.changes {
-            index.insert(change.key.copy()?)?;
-        }
-        Ok(index)
     }
 
     fn change<C: Cells>(&self, cells: &mut C) -> Result<(), Memory> {

@@ -1,17 +1,16 @@
-//! What stores of cells answer: a question goes to a store of any cells, and to one whose cells are known.
+//! What stores of cells answer: a question goes to the plain store, and to the one that owns its cells.
 
 use crate::answers::{add, add_number_or, add_slot, add_values, both};
 use crate::looks::assigned;
 use crate::scene::Scene;
 use crate::texts::{Read, cut, name, slot, unread};
-use mq_cells::{Cells, LentCells, LookCells};
+use mq_cells::{Cells, LentStore, LookCells};
 use std::alloc::Global;
 
 /// What both stores answer; where they differ, what each does.
 pub(crate) fn answers(alloc: Global, scene: &Scene, asked: &str, text: &str) -> Read<Vec<u8>> {
     let told = answer(alloc, scene, &mut scene.plain(alloc)?, asked, text)?;
-    let index = scene.changed_keys(alloc)?;
-    let again = answer(alloc, scene, &mut scene.grid(alloc, &index)?, asked, text)?;
+    let again = answer(alloc, scene, &mut scene.owned(alloc)?, asked, text)?;
     Ok(both(told, &again)?)
 }
 
@@ -41,18 +40,17 @@ fn add_first_fault<C: Cells>(scene: &Scene, cells: &C, answer: &mut Vec<u8>) -> 
     Ok(add_number_or(cells.first_fault(&scene.shape), "none", answer)?)
 }
 
-/// Measures of cells with semicolons between them, read one behind the other from what the store of known cells lends.
+/// Measures of cells with semicolons between them, read one behind the other from what the store that owns them lends.
 pub(crate) fn lent(alloc: Global, scene: &Scene, text: &str) -> Read<Vec<u8>> {
-    let index = scene.changed_keys(alloc)?;
     let mut answer = Vec::new(alloc);
-    match scene.grid(alloc, &index)?.lent() {
+    match scene.owned(alloc)?.lent() {
         Some(lent) => add_read(alloc, lent, text, &mut answer)?,
         None => add("none", &mut answer)?,
     }
     Ok(answer)
 }
 
-fn add_read(alloc: Global, lent: LentCells<'_>, text: &str, answer: &mut Vec<u8>) -> Read<()> {
+fn add_read(alloc: Global, lent: LentStore<'_>, text: &str, answer: &mut Vec<u8>) -> Read<()> {
     let mut lent = lent;
     let mut values = Vec::new(alloc);
     for one in text.split(" ; ") {

@@ -1,8 +1,9 @@
 pub mod ColumnLemmas
 pub mod FaultLemmas
-pub mod GridLemmas
+pub mod GatherLemmas
+pub mod IndexLemmas
+pub mod KeyLemmas
 pub mod LookedLemmas
+pub mod NumberLemmas
 pub mod PlaceLemmas
 pub mod SearchLemmas
-pub mod SoundLemmas
-pub mod WholeLemmas

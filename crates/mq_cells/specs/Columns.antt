@@ -1,6 +1,5 @@
 -- Results as columns, one a measure, and the cells of a whole partition.
-use Rattle.std.specs.Prelude.{◌≡◌, ℕ, Bool, List, Option, None, is_some, if◌then◌else◌, slice_get}
-use Rattle.std.specs.List.{list_any}
+use Rattle.std.specs.Prelude.{◌≡◌, ℕ, List, Option, None, if◌then◌else◌, slice_get}
 use Rattle.std.specs.Map.{lookup}
 use Rattle.std.specs.Option.{option_and_then}
 use Rattle.mq_ir.specs.declared.query.Slot.{Slot}
@@ -23,10 +22,6 @@ ChangesAt before after key x = (k : Tuple) → found_in k after ≡ (if is_same 
 -- what stands in columns that are numbered from 0, as measures are
 abbrev pub results_in : List Column → Results
 results_in columns c = option_and_then (found_in c.key) (slice_get columns c.measure)
-
--- whether something stands at some measure of the cell at this tuple
-abbrev pub has_results : List Column → Tuple → Bool
-has_results columns key = list_any (λ (column : Column). is_some (found_in key column)) columns
 
 -- nothing stands
 abbrev pub no_results : Results

@@ -2,7 +2,9 @@ pub mod AscentLaws
 pub mod Ascents
 pub mod Columns
 pub mod Faults
-pub mod GridStores
-pub mod Grids
+pub mod IndexedStores
+pub mod LaneItems
 pub mod Looked
+pub mod Numberings
+pub mod Replays
 pub mod Stores

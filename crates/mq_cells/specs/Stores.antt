@@ -1,6 +1,6 @@
 -- What a store of cells holds, and what its calls make of it.
-use Rattle.std.specs.Prelude.{◌≡◌, ℕ, ◌+◌, ◌==◌, Bool, true, false, ◌&&◌, min, List, Option, Some, None, if◌then◌else◌, map, slice_index_or, unwrap_or}
-use Rattle.std.specs.List.{enumerate_from, filter, range_with_len}
+use Rattle.std.specs.Prelude.{◌≡◌, ℕ, ◌+◌, ◌==◌, Bool, true, false, ◌&&◌, min, List, Option, Some, None, if◌then◌else◌, slice_index_or, unwrap_or}
+use Rattle.std.specs.List.{enumerate_from, filter}
 use Rattle.std.specs.Option.{option_map, option_map_or}
 use Rattle.std.specs.Ordering.{on}
 use Rattle.mq_values.specs.declared.value.Value.{Value}
@@ -36,10 +36,6 @@ input_value input c = option_map_or (λ measures. slice_index_or measures c.meas
 -- what stands at a measure: the result where one stands, else what the input has
 abbrev pub slot_at : CellInput → Results → Slots
 slot_at input results c = unwrap_or (results c) (Done (input_value input c))
-
--- a cell has so many measures, and these values are what stands at them
-abbrev pub IsWhole : CellInput → Results → Tuple → ℕ → Tuple → Type 0
-IsWhole input results key count values = map Done values ≡ map (λ m. slot_at input results (cell_name key m)) (range_with_len 0 count)
 
 -- one more, as far as the count goes
 abbrev pub counted : ℕ → ℕ

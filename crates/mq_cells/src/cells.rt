@@ -1,12 +1,8 @@
 //! What every store of cells does.
-ghost use Rattle.std.specs.Prelude.{◌≡◌, ◌≤◌, ℕ, Option, Some, None, length, IfOk, IfSome, OnOk, OnErr};
-ghost use Rattle.mq_ir.specs.declared.query.CellName.{CellName};
-ghost use Rattle.mq_ir.specs.declared.query.Slot.TheVariants.{Done};
-ghost use Rattle.mq_cells.specs.GridStores.{value_lent};
-ghost use Rattle.mq_cells.specs.Stores.{CellInput, IsWhole, Results, DiffersAt, cell_name, counted, first_faulted, slot_at};
+ghost use Rattle.std.specs.Prelude.{◌≡◌, ◌≤◌, ℕ, Option, Some, None, length, IfOk, OnOk, OnErr};
+ghost use Rattle.mq_cells.specs.Stores.{CellInput, Results, DiffersAt, cell_name, counted, first_faulted, slot_at};
 ghost use Rattle.mq_cells.specs.declared.bounds.TheConstants.{MAX_ASSIGNMENTS};
 
-use crate::lent::LentCells;
 use mq_ir::{PartShape, Slot};
 use mq_values::{Key, Memory};
 use std::alloc::Global;
@@ -32,17 +28,6 @@ pub trait Cells {
         ensures later { looks self.old ≤ looks self.new }
         ensures same_input { input self.new ≡ input self.old }
         ensures same_results { results self.new ≡ results self.old };
-
-    /// The values that stand at all `count` measures of the cell at `key`, as a tuple that is there already. `None` says
-    /// nothing: a store answers it wherever it has no such tuple at hand. The cell is looked for at the place `near` of the
-    /// input and behind it before all others, and `near` is where it was found then. Nothing is read, and no memory is taken.
-    fn whole(&self, key: &Key, count: u32, near: &mut usize) -> Option<&Key>
-        ensures { IfSome result (λ measures. IsWhole (input self.now) (results self.now) key.now count measures.now) };
-
-    /// The values of all measures, lent, where each measure has one: none is a fault or poisoned. `None` says nothing: a store
-    /// answers it too where it has them not at hand. What is read of what is lent is not counted. It takes no memory.
-    fn lent(&self) -> Option<LentCells<'_>>
-        ensures { IfSome result (λ lent. (c : CellName) → slot_at (input self.now) (results self.now) c ≡ Done (value_lent lent c)) };
 
     /// Puts `s` at measure `m` of the cell at `key`, in place of what stands there. After `Memory` nothing is changed.
     fn put(&mut self, key: &Key, m: u32, s: Slot) -> Result<(), Memory>

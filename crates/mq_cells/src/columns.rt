@@ -1,7 +1,6 @@
 //! The results at every measure.
 ghost use Rattle.std.specs.Prelude.{◌≡◌, ◌<◌, [], Some, None, length, OnOk, OnErr};
-ghost use Rattle.std.specs.Option.{option_copied};
-ghost use Rattle.mq_cells.specs.Columns.{has_results, results_in};
+ghost use Rattle.mq_cells.specs.Columns.{results_in};
 ghost use Rattle.mq_cells.specs.Stores.{DiffersAt, cell_name};
 
 use crate::column::Column;
@@ -48,18 +47,6 @@ impl Columns {
             columns: Vec::new(alloc),
             alloc,
         }
-    }
-
-    /// Whether a result stands at some measure of the cell at `key`. It takes no memory.
-    pub fn has(&self, key: &Key) -> bool
-        ensures { result ≡ has_results self.now key.now }
-    {
-        for column in &self.columns {
-            if column.get(key).is_some() {
-                return true;
-            }
-        }
-        false
     }
 
     /// Puts `slot` at measure `m` of the cell at `key`, in place of what stands there. After `Memory` what stands is as

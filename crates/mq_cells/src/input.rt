@@ -4,7 +4,7 @@ ghost use Rattle.std.specs.Option.{option_copied};
 ghost use Rattle.mq_ir.specs.Partitions.{cell_at};
 ghost use Rattle.mq_cells.specs.Stores.{cell_name, input_value};
 
-use crate::search::{cells_ascend, find_measures, find_near};
+use crate::search::{cells_ascend, find_measures};
 use mq_values::{Key, Memory, Value};
 use std::marker::Model;
 
@@ -45,27 +45,6 @@ impl<'a> InputCells<'a> {
         ensures { option_copied result ≡ cell_at self.now key.now }
     {
         find_measures(self.cells, self.ascend, key.as_slice())
-    }
-
-    /// The same as `get`. The cell is looked for at the place `near` and behind it before all others, and `near` is where it was
-    /// found then.
-    pub fn get_near(&self, key: &[Value], near: &mut usize) -> Option<&'a Key>
-        ensures { option_copied result ≡ cell_at self.now key.now }
-    {
-        find_near(self.cells, self.ascend, key, near)
-    }
-
-    /// Measure `m` of the cell at `key`, or null where there is none. The cell is looked for as `get_near` does.
-    pub fn value_near(&self, key: &[Value], m: u32, near: &mut usize) -> Result<Value, Memory>
-        ensures { IfOk result (λ v. v ≡ input_value (cell_at self.now) (cell_name key.now m)) }
-    {
-        let Some(values) = self.get_near(key, near) else {
-            return Ok(Value::Null);
-        };
-        match values.as_slice().get(m as usize) {
-            Some(v) => v.copy(),
-            None => Ok(Value::Null),
-        }
     }
 
     /// Measure `m` of the cell at `key`, or null where there is none.

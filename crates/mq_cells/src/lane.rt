@@ -1,6 +1,7 @@
 //! What stands at each of some places.
-ghost use Rattle.std.specs.Prelude.{◌≡◌, ◌≤◌, ℕ, [], None, length, slice_index_or, slice_set, OnOk};
+ghost use Rattle.std.specs.Prelude.{◌≡◌, ◌≤◌, ℕ, [], None, Some, length, slice_index_or, slice_set, OnOk, OnErr};
 ghost use Rattle.std.specs.Option.{option_copied};
+ghost use Rattle.mq_cells.specs.LaneItems.{PlaceDiffers};
 
 use mq_values::Memory;
 use std::alloc::Global;
@@ -33,6 +34,13 @@ impl<T: Drop> Lane<T> {
         }
     }
 
+    /// What stands at each place.
+    pub fn from_items(items: Vec<Option<T>>) -> Lane<T>
+        ensures { result ≡ items.items }
+    {
+        Lane { items }
+    }
+
     /// What stands at place `at`, or `None` where nothing does.
     pub fn get(&self, at: usize) -> Option<&T>
         ensures { option_copied result ≡ slice_index_or self.now at None }
@@ -50,6 +58,16 @@ impl<T: Drop> Lane<T> {
         if at < self.items.len() {
             self.items[at] = item;
         }
+    }
+
+    /// Puts `item` at place `at`, over what stands there, also behind the last place. After `Memory` the same stands as before.
+    pub fn put(&mut self, at: u32, item: T) -> Result<(), Memory>
+        ensures ok { OnOk result (PlaceDiffers self.old self.new at (Some item)) }
+        ensures err { OnErr result ((p : ℕ) → slice_index_or self.new p None ≡ slice_index_or self.old p None) }
+    {
+        self.reach(at as usize + 1)?;
+        self.set(at as usize, Some(item));
+        Ok(())
     }
 
     /// Places behind those that there are, until there are `count`. Nothing stands there.

@@ -8,7 +8,6 @@ ghost use Rattle.mq_cells.specs.Stores.{DiffersAt, cell_name, is_named};
 use crate::cells::Cells;
 use crate::faults::least_fault;
 use crate::held::Held;
-use crate::lent::LentCells;
 use crate::slots::copy_slot;
 use mq_ir::{CellName, PartShape, Slot};
 use mq_values::{Key, Memory, Value};
@@ -65,14 +64,6 @@ impl Cells for LookCells {
             Some(slot) => copy_slot(slot),
             None => Ok(Slot::Done(Value::Null)),
         }
-    }
-
-    fn whole(&self, _key: &Key, _count: u32, _near: &mut usize) -> Option<&Key> {
-        None
-    }
-
-    fn lent(&self) -> Option<LentCells<'_>> {
-        None
     }
 
     fn put(&mut self, key: &Key, m: u32, s: Slot) -> Result<(), Memory> {

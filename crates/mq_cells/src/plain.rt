@@ -1,5 +1,5 @@
 //! The store of a whole partition.
-ghost use Rattle.std.specs.Prelude.{◌≡◌, ◌≤◌, IfOk, OnOk, OnErr};
+ghost use Rattle.std.specs.Prelude.{◌≡◌, IfOk};
 ghost use Rattle.mq_ir.specs.Partitions.{cell_at};
 ghost use Rattle.mq_cells.specs.Columns.{no_results, results_in};
 
@@ -8,7 +8,6 @@ use crate::columns::Columns;
 use crate::faults::least_fault;
 use crate::held::Held;
 use crate::input::InputCells;
-use crate::lent::LentCells;
 use crate::slots::copy_slot;
 use mq_ir::{PartInput, PartShape, Slot};
 use mq_values::{Key, Memory};
@@ -60,21 +59,6 @@ impl Cells for PlainCells<'_> {
             Some(slot) => copy_slot(slot),
             None => Ok(Slot::Done(self.input.value(key, m)?)),
         }
-    }
-
-    fn whole(&self, key: &Key, count: u32, near: &mut usize) -> Option<&Key> {
-        let Some(measures) = self.input.get_near(key.as_slice(), near) else {
-            return None;
-        };
-        if measures.as_slice().len() == count as usize && !self.results.has(key) {
-            Some(measures)
-        } else {
-            None
-        }
-    }
-
-    fn lent(&self) -> Option<LentCells<'_>> {
-        None
     }
 
     fn put(&mut self, key: &Key, m: u32, s: Slot) -> Result<(), Memory> {

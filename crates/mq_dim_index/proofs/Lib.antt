@@ -1,3 +1,10 @@
+pub mod BoundLemmas
+pub mod EachLemmas
+pub mod FoundLemmas
+pub mod LeastLemmas
+pub mod MapLemmas
 pub mod NearLemmas
 pub mod PlaceLemmas
 pub mod RangeLemmas
+pub mod RunLemmas
+pub mod SumLemmas

@@ -9,7 +9,7 @@ use Rattle.mq_values.specs.OrderTells.{key_itself, same_key}
 use Rattle.mq_dim_index.specs.Places.{Tuple, place_of}
 use Rattle.mq_dim_index.proofs.PlaceLemmas.{found_here}
 
-equal_is : (r : Ordering) → is_eq r ≡ true → r ≡ Equal
+pub equal_is : (r : Ordering) → is_eq r ≡ true → r ≡ Equal
 equal_is Less h = cc
 equal_is Equal h = refl
 equal_is Greater h = cc

@@ -19,11 +19,11 @@ use Rattle.mq_values.specs.OrderTells.{same_key}
 use Rattle.mq_dim_index.specs.Places.{FitsAt, StandsAt, Tuple}
 
 module _ {K : Type 0} {R : K → K → Ordering} (o : IsTotalOrder R) (x : K) where
-  turned : (a b : K) (r : Ordering) → R a b ≡ r → R b a ≡ ordering_reverse r
+  pub turned : (a b : K) (r : Ordering) → R a b ≡ r → R b a ≡ ordering_reverse r
   turned a b r h = o.antisymm b a ∙ ap ordering_reverse h
 
   -- x goes in front of the first key that is greater
-  inserted_here : (ys : List K) (at : ℕ) → at ≤ length ys → AllWithin (λ y. R y x ≡ Less) ys 0 at → AllWithin (λ y. R y x ≡ Greater) ys at (length ys) → insert ys at x ≡ insert_key R ys x
+  pub inserted_here : (ys : List K) (at : ℕ) → at ≤ length ys → AllWithin (λ y. R y x ≡ Less) ys 0 at → AllWithin (λ y. R y x ≡ Greater) ys at (length ys) → insert ys at x ≡ insert_key R ys x
   inserted_here [] zero l below above = refl
   inserted_here [] (suc at) l below above = absurd (omega arith)
   inserted_here (y ∷ ys) zero l below above =
@@ -38,7 +38,7 @@ module _ {K : Type 0} {R : K → K → Ordering} (o : IsTotalOrder R) (x : K) wh
   before_found ys k at s l b h =
       sym (o.congr (get_or ys at x) x (get_or ys k x) (h x)) ∙ turned (get_or ys k x) (get_or ys at x) Less (Less-from_sorted R ys k at x s l b)
 
-  removed_here : (ys : List K) (at : ℕ) → IsStrictlySortedBy R ys → at < length ys → HoldsAt (λ y. R y x ≡ Equal) ys at → remove ys at ≡ remove_key (is_at (R x)) ys
+  pub removed_here : (ys : List K) (at : ℕ) → IsStrictlySortedBy R ys → at < length ys → HoldsAt (λ y. R y x ≡ Equal) ys at → remove ys at ≡ remove_key (is_at (R x)) ys
   unfolding IsStrictlySortedBy
   removed_here [] at s l h = absurd (omega arith)
   removed_here (y ∷ ys) zero s l h = sym (ap (λ r. cond (is_eq r) ys (y ∷ remove_key (is_at (R x)) ys)) (turned y x Equal (h x)))
@@ -46,7 +46,7 @@ module _ {K : Type 0} {R : K → K → Ordering} (o : IsTotalOrder R) (x : K) wh
       ap (λ l. y ∷ l) (removed_here ys at s.1 (omega arith) h)
       ∙ sym (ap (λ r. cond (is_eq r) ys (y ∷ remove_key (is_at (R x)) ys)) (before_found (y ∷ ys) 0 (suc at) s (omega arith) l h))
 
-  kept_here : (ys : List K) (at : ℕ) → IsStrictlySortedBy R ys → at < length ys → HoldsAt (λ y. R y x ≡ Equal) ys at → insert_key R ys x ≡ ys
+  pub kept_here : (ys : List K) (at : ℕ) → IsStrictlySortedBy R ys → at < length ys → HoldsAt (λ y. R y x ≡ Equal) ys at → insert_key R ys x ≡ ys
   unfolding IsStrictlySortedBy
   kept_here [] at s l h = absurd (omega arith)
   kept_here (y ∷ ys) zero s l h = ap (λ r. match_ordering r (x ∷ y ∷ ys) (y ∷ ys) (y ∷ insert_key R ys x)) (turned y x Equal (h x))
@@ -65,7 +65,7 @@ module _ {K : Type 0} {R : K → K → Ordering} (o : IsTotalOrder R) (x : K) wh
           (λ b. ap is_eq (turned (get_or ys at x) x Equal (h x)))
 
   -- x is at none of the places
-  at_no_place : (ys : List K) (at : ℕ) → AllWithin (λ y. R y x ≡ Less) ys 0 at → AllWithin (λ y. R y x ≡ Greater) ys at (length ys) → (k : ℕ) → k < length ys → is_at (R x) (get_or ys k x) ≡ false
+  pub at_no_place : (ys : List K) (at : ℕ) → AllWithin (λ y. R y x ≡ Less) ys 0 at → AllWithin (λ y. R y x ≡ Greater) ys at (length ys) → (k : ℕ) → k < length ys → is_at (R x) (get_or ys k x) ≡ false
   at_no_place ys at below above k m = by (cases_lt k at)
     where
       by : (k < at) ⊎ (at ≤ k) → is_at (R x) (get_or ys k x) ≡ false
@@ -84,7 +84,7 @@ module _ {K : Type 0} {R : K → K → Ordering} (o : IsTotalOrder R) (x : K) wh
       not_below false e = refl
 
   -- what has no key at any place has none
-  lacks_each : (test : K → Bool) (ys : List K) → ((k : ℕ) → k < length ys → test (get_or ys k x) ≡ false) → list_any test ys ≡ false
+  pub lacks_each : (test : K → Bool) (ys : List K) → ((k : ℕ) → k < length ys → test (get_or ys k x) ≡ false) → list_any test ys ≡ false
   lacks_each test [] h = refl
   lacks_each test (y ∷ ys) h =
       let first : test y ≡ false = h 0 (omega arith) in
@@ -123,7 +123,7 @@ module _ {K : Type 0} (test : K → Bool) where
       by true rest = all.1
       by false rest = (all.0, rest)
 
-  nothing_removed : (ys : List K) → list_any test ys ≡ false → remove_key test ys ≡ ys
+  pub nothing_removed : (ys : List K) → list_any test ys ≡ false → remove_key test ys ≡ ys
   nothing_removed [] h = refl
   nothing_removed (y ∷ ys) h = by (test y) refl (nothing_removed ys)
     where

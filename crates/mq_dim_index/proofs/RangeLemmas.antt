@@ -1,9 +1,19 @@
 -- The numbers of the keys that meet some tests.
-use Rattle.std.proofs.Common.{◌≡◌, ℕ, suc, ◌+◌, ◌<◌, ◌≤◌, List, [], ◌∷◌, Bool, true, false, cond, length, get_or, map, refl, sym, subst, ap, ◌∙◌, arith}
-use Rattle.std.specs.List.{All, enumerate_from, filter}
+use Rattle.std.proofs.Common.{◌≡◌, ℕ, zero, suc, ◌+◌, ◌-◌, ◌<◌, ◌≤◌, List, [], ◌∷◌, Bool, true, false, cond, drop, length, get_or, map, refl, sym, subst, ap, ◌∙◌, arith}
+use Rattle.std.specs.List.{All, AllWithin, enumerate_from, filter}
+use Rattle.std.proofs.Math.ListN.{drop_of_length-le}
+use Rattle.std.proofs.lemmas.List.{drop_more}
 use Rattle.std.proofs.lemmas.List.Elements.{All-cons, All-nil}
 use Rattle.mq_values.specs.declared.operators.DimTest.{DimTest}
+use Rattle.mq_dim_index.specs.Runs.{MissesOne}
 use Rattle.mq_dim_index.specs.Places.{Tuple, meets_every, places_from, places_meeting}
+
+-- what each step leaves is left by all
+pub steady : (F : ℕ → List ℕ) (a m : ℕ) → ((k : ℕ) → a ≤ k → k < a + m → F (k + 1) ≡ F k) → F (a + m) ≡ F a
+steady F a zero h = let e : a + 0 ≡ a = omega arith in ap F e
+steady F a (suc m) h =
+    let e : a + suc m ≡ a + m + 1 = omega arith in
+    ap F e ∙ h (a + m) (omega arith) (omega arith) ∙ steady F a m (λ k low l. h k low (omega arith))
 
 module _ (tests : List DimTest) where
   -- the numbers from n on, where the first key meets the tests or does not
@@ -47,3 +57,19 @@ module _ (tests : List DimTest) where
 
   pub places_below : (keys : List Tuple) → All (λ p. p < length keys) (places_meeting tests keys)
   places_below keys = all_below 0 (length keys) keys (omega arith)
+
+  -- a key that does not meet the tests adds none
+  one_passed : (n : ℕ) (keys : List Tuple) → n < length keys → meets_every tests (get_or keys n []) ≡ false → places_from (n + 1) tests (drop (n + 1) keys) ≡ places_from n tests (drop n keys)
+  one_passed n keys l h = sym (first_fails n (get_or keys n []) (drop (n + 1) keys) h) ∙ sym (ap (places_from n tests) (drop_more keys n [] l))
+
+  -- nor do keys in a row
+  pub places_behind : (keys : List Tuple) (a b : ℕ) → a ≤ b → b ≤ length keys → AllWithin (MissesOne tests) keys a b → places_from b tests (drop b keys) ≡ places_from a tests (drop a keys)
+  places_behind keys a b l m h =
+      let e : b ≡ a + (b - a) = omega arith in
+      ap (λ k. places_from k tests (drop k keys)) e
+      ∙ steady (λ k. places_from k tests (drop k keys)) a (b - a) (λ k low n. one_passed k keys (omega arith) (h k [] low (omega arith)))
+
+  pub places_none : (keys : List Tuple) (a : ℕ) → a ≤ length keys → AllWithin (MissesOne tests) keys a (length keys) → places_from a tests (drop a keys) ≡ []
+  places_none keys a l h =
+      let all : length keys ≤ length keys = omega arith in
+      sym (places_behind keys a (length keys) l all h) ∙ ap (places_from (length keys) tests) (drop_of_length-le keys all)

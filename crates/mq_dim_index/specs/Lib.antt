@@ -1,1 +1,4 @@
+pub mod Found
+pub mod Maps
 pub mod Places
+pub mod Runs

@@ -4,7 +4,11 @@
 #![tactic(auto)]
 
 mod dim_index;
+mod dimension_map;
+mod maps;
 mod near;
+mod ranges;
+mod runs;
 mod search;
 
 pub use dim_index::DimIndex;

@@ -1,8 +1,9 @@
 //! Where a key stands that is likely to be near a known place.
-ghost use Rattle.std.specs.Prelude.{◌≡◌, true, Some, IfSome};
+ghost use Rattle.std.specs.Prelude.{◌≡◌, ◌<◌, ◌≤◌, length, true, Some, IfSome};
 ghost use Rattle.std.specs.List.Sorted.{IsStrictlySortedBy};
 ghost use Rattle.mq_values.specs.Order.{cmp_key};
 ghost use Rattle.mq_dim_index.specs.Places.{place_of};
+ghost use Rattle.mq_dim_index.specs.declared.search.TheConstants.{MAX_KEYS};
 
 use crate::search::search;
 use mq_values::{Key, Value};
@@ -23,10 +24,26 @@ pub fn place_near(keys: &[Key], key: &[Value], near: usize) -> Option<usize>
     }
 }
 
+// The same, as a number.
+pub fn number_near(keys: &[Key], key: &[Value], near: u32) -> Option<u32>
+    requires ascending { IsStrictlySortedBy cmp_key keys.now }
+    requires numbered { length keys.now ≤ MAX_KEYS }
+    ensures { result ≡ place_of keys.now key.now }
+{
+    match place_around(keys, key, near as usize) {
+        Some(at) => Some(at as u32),
+        None => match search(keys, key) {
+            Ok(at) => Some(at as u32),
+            Err(_) => None,
+        },
+    }
+}
+
 // The place of `key` where it is `near` or the one beside it; `None` says nothing.
 fn place_around(keys: &[Key], key: &[Value], near: usize) -> Option<usize>
     requires { IsStrictlySortedBy cmp_key keys.now }
-    ensures { IfSome result (λ at. place_of keys.now key.now ≡ Some at) }
+    ensures within { IfSome result (λ at. at < length keys.now) }
+    ensures found { IfSome result (λ at. place_of keys.now key.now ≡ Some at) }
 {
     let Some(own) = keys.get(near) else {
         return None;
@@ -42,7 +59,8 @@ fn place_around(keys: &[Key], key: &[Value], near: usize) -> Option<usize>
 // The place `at`, where `key` stands there.
 fn place_if_there(keys: &[Key], key: &[Value], at: usize) -> Option<usize>
     requires { IsStrictlySortedBy cmp_key keys.now }
-    ensures { IfSome result (λ at. place_of keys.now key.now ≡ Some at) }
+    ensures within { IfSome result (λ at. at < length keys.now) }
+    ensures found { IfSome result (λ at. place_of keys.now key.now ≡ Some at) }
 {
     match keys.get(at) {
         Some(own) if key.cmp(own.as_slice()).is_eq() => Some(at),

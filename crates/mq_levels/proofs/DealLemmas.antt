@@ -18,21 +18,25 @@ empty_at {X} count n = by (cases_lt n count)
     by (inl l) = get_or-replicate count n [] [] l
     by (inr l) = get_or_past (replicate count (nil X)) n [] (let long = length-replicate count (nil X) in omega arith)
 
-range_more : (n : ℕ) → range_with_len 0 (n + 1) ≡ range_with_len 0 n ++ n ∷ []
-range_more n =
-    sym (map-id (range_with_len 0 (n + 1)))
-    ∙ map-range_with_len_more (λ (x : ℕ). x) 0 n n (zero-add n)
-    ∙ ap (λ xs. xs ++ n ∷ []) (map-id (range_with_len 0 n))
+-- a range with one number more
+pub range_more : (a n : ℕ) → range_with_len a (n + 1) ≡ range_with_len a n ++ (a + n) ∷ []
+range_more a n =
+    sym (map-id (range_with_len a (n + 1)))
+    ∙ map-range_with_len_more (λ (x : ℕ). x) a n (a + n) refl
+    ∙ ap (λ xs. xs ++ (a + n) ∷ []) (map-id (range_with_len a n))
+
+nodes_more : (n : ℕ) → range_with_len 0 (n + 1) ≡ range_with_len 0 n ++ n ∷ []
+nodes_more n = range_more 0 n ∙ ap (λ (x : ℕ). range_with_len 0 n ++ x ∷ []) (zero-add n)
 
 pub filter_yes : (p : ℕ → Bool) (n : ℕ) → p n ≡ true → filter p (range_with_len 0 (n + 1)) ≡ filter p (range_with_len 0 n) ++ n ∷ []
 filter_yes p n e =
-    ap (filter p) (range_more n)
+    ap (filter p) (nodes_more n)
     ∙ filter-append p (range_with_len 0 n) (n ∷ [])
     ∙ ap (λ b. filter p (range_with_len 0 n) ++ cond b (n ∷ []) []) e
 
 pub filter_no : (p : ℕ → Bool) (n : ℕ) → p n ≡ false → filter p (range_with_len 0 (n + 1)) ≡ filter p (range_with_len 0 n)
 filter_no p n e =
-    ap (filter p) (range_more n)
+    ap (filter p) (nodes_more n)
     ∙ filter-append p (range_with_len 0 n) (n ∷ [])
     ∙ ap (λ b. filter p (range_with_len 0 n) ++ cond b (n ∷ []) []) e
     ∙ append-nil (filter p (range_with_len 0 n))

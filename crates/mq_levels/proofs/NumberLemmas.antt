@@ -3,10 +3,10 @@ use Rattle.std.proofs.Common.{◌≡◌, ℕ, suc, ◌<◌, ◌≤◌, ◌⊎◌
 use Rattle.std.specs.Option.{is_some}
 use Rattle.std.specs.List.{Contains}
 use Rattle.std.proofs.lemmas.Bool.{cases_eq, cases_lt, cases_order, eq-eqb, false≢true, ne_eqb}
-use Rattle.std.proofs.lemmas.List.{get_or-set_same, get_or-set_other, get_or_past, length-set}
+use Rattle.std.proofs.lemmas.List.{get_or-set_same, get_or-set_other, length-set}
 use Rattle.std.proofs.lemmas.List.Elements.{Contains-append_left, Contains-push, Contains-push_cases}
 use Rattle.mq_levels.specs.Levels.{ReadsNodes, in_round, levelled}
-use Rattle.mq_levels.specs.Numbers.{AllNumbered, AreMarked, AreNumbered, IsNumber, Numbers, NumbersBelow, has_number, is_number, is_numbered, number_of}
+use Rattle.mq_levels.specs.Numbers.{AllNumbered, AreMarked, AreNumbered, IsNumber, Numbers, has_number, is_number, is_numbered, number_of}
 use Rattle.mq_levels.proofs.LevelLemmas.{AreLast, and_left, and_right, not_before, same_later, stays}
 
 pub none_marked : (number : ℕ) (numbers : Numbers) → AreMarked [] number numbers numbers

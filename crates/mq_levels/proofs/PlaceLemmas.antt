@@ -1,165 +1,103 @@
--- Open places, and who stands in a list.
-use Rattle.std.proofs.Common.{◌≡◌, ℕ, suc, zero, ◌+◌, ◌<◌, ◌≤◌, ◌⊎◌, Bool, true, false, cond, List, [], ◌∷◌, ◌++◌, length, get_or, set, refl, sym, ap, subst, ◌∙◌, inl, inr, arith}
+-- What is left of a list.
+use Rattle.std.proofs.Common.{◌≡◌, ℕ, suc, zero, ◌+◌, ◌-◌, ◌<◌, ◌≤◌, ◌⊎◌, true, false, List, [], ◌∷◌, ◌++◌, length, get_or, set, take, refl, sym, ap, subst, ◌∙◌, inl, inr, arith}
 use Rattle.std.specs.List.{All, Contains, list_all}
-use Rattle.std.proofs.lemmas.Bool.{false≢true, cases_lt, cases_eq}
-use Rattle.std.proofs.lemmas.List.{get_or-set_same, get_or-set_other, length-map}
-use Rattle.std.proofs.lemmas.List.Sums.{list_all-from_AllPass, prefix_len_passes, prefix_len_stops}
-use Rattle.std.proofs.lemmas.List.Elements.{All-append, All-cons, All-nil, Contains-append_left, Contains-append_right, Contains-append_cases, Contains-push, Contains-push_cases}
+use Rattle.std.proofs.lemmas.Bool.{cases_eq}
+use Rattle.std.proofs.lemmas.List.{append_assoc, append-nil, get_or_append_left, get_or-set_same, get_or-set_other, get_or-take, length-append, length-map, length-set, length-take-le, take_more}
+use Rattle.std.proofs.lemmas.List.Folds.{list_all-append}
+use Rattle.std.proofs.lemmas.List.Elements.{Contains-append_left, Contains-push}
 use Rattle.std.specs.declared.alloc.Global.{Global}
 use Rattle.std.specs.declared.vec.Vec.{Vec}
-use Rattle.mq_levels.specs.declared.waiting.Waiting.{Waiting}
 use Rattle.mq_levels.specs.Levels.{ReadsNodes, reads_in, reads_of}
 use Rattle.mq_levels.specs.Numbers.{Numbers, has_number}
-use Rattle.mq_levels.specs.Waiting.{AreWatching, HaveMoved, IsWatching, Stands, Waits, WaitsFor, is_ready, open_place, watchers_of}
+use Rattle.mq_levels.specs.Places.{ArePlaced, EndsOpen, IsLeft, IsPlaced}
+use Rattle.mq_levels.proofs.LevelLemmas.{all_weaker, both}
 
-pub open_here : (numbers : Numbers) (list : List ℕ) (at : ℕ) → at ≤ open_place numbers list → has_number numbers (get_or list at 0) ≡ false → at ≡ open_place numbers list
-open_here numbers list at h e = by (cases_lt at (open_place numbers list))
-  where
-    by : (at < open_place numbers list) ⊎ (open_place numbers list ≤ at) → at ≡ open_place numbers list
-    by (inl k) = absurd (false≢true (sym e ∙ prefix_len_passes (has_number numbers) list at 0 k))
-    by (inr k) = omega arith
+-- nothing is passed
+pub all_left : (numbers : Numbers) (list : List ℕ) → IsLeft numbers list list
+all_left numbers list = record { behind = []; is = sym (append-nil list); passed = refl }
 
-pub open_more : (numbers : Numbers) (list : List ℕ) (at : ℕ) → at < length list → at ≤ open_place numbers list → has_number numbers (get_or list at 0) ≡ true → at + 1 ≤ open_place numbers list
-open_more numbers list at l h e = by (cases_lt at (open_place numbers list))
-  where
-    by : (at < open_place numbers list) ⊎ (open_place numbers list ≤ at) → at + 1 ≤ open_place numbers list
-    by (inl k) = omega arith
-    by (inr k) =
-        let same : open_place numbers list ≡ at = omega arith in
-        let stops = prefix_len_stops (has_number numbers) list 0 (omega arith) in
-        absurd (false≢true (sym (subst (λ n. has_number numbers (get_or list n 0) ≡ false) same stops) ∙ e))
-
-pub open_all : (numbers : Numbers) (list : List ℕ) → length list ≤ open_place numbers list → list_all (has_number numbers) list ≡ true
-open_all numbers list h = list_all-from_AllPass (has_number numbers) list (λ k d l. prefix_len_passes (has_number numbers) list k d (omega arith))
-
-one_more : (b c : Bool) (m n : ℕ) → (b ≡ true → c ≡ true) → m ≤ n → cond b (1 + m) 0 ≤ cond c (1 + n) 0
-one_more true true m n h l = omega arith
-one_more true false m n h l = absurd (false≢true (h refl))
-one_more false true m n h l = omega arith
-one_more false false m n h l = omega arith
-
--- no place opens again
-pub open_grows : (numbers later : Numbers) → ((node : ℕ) → has_number numbers node ≡ true → has_number later node ≡ true) → (list : List ℕ) → open_place numbers list ≤ open_place later list
-open_grows numbers later h [] = omega arith
-open_grows numbers later h (x ∷ xs) = one_more (has_number numbers x) (has_number later x) (open_place numbers xs) (open_place later xs) (h x) (open_grows numbers later h xs)
-
-one_stands : (w : Waiting) → Contains (w ∷ []) w
-one_stands w = Contains-push [] w
-
-one_is : (w v : Waiting) → Contains (w ∷ []) v → w ≡ v
-one_is w v (zero, l, e) = e
-one_is w v (suc k, l, e) = absurd (omega arith)
-
-stands_one : (w : Waiting) → Stands (w ∷ []) w.node
-stands_one w = record { waiting = w; among = one_stands w; is = refl }
-
-stands_is : (w : Waiting) (node : ℕ) → Stands (w ∷ []) node → w.node ≡ node
-stands_is w node s = ap (λ (v : Waiting). v.node) (one_is w s.waiting s.among) ∙ s.is
-
--- a mover all of whose reads have numbers
-pub one_ready : (reads : List (List ℕ)) (numbers : Numbers) (mover : Waiting) (watchers : List (List Waiting)) (had : List ℕ) → is_ready reads numbers mover.node ≡ true → HaveMoved reads numbers (mover ∷ []) watchers watchers had (had ++ mover.node ∷ [])
-one_ready reads numbers mover watchers had h = record {
-  watching = λ w. w;
-  stay = λ node w. w;
-  placed = λ node s. inl (subst (Contains (had ++ mover.node ∷ [])) (stands_is mover node s) (Contains-push had mover.node));
-  kept = λ node k. Contains-append_left had (mover.node ∷ []) node k;
-  only = λ node k. by node (Contains-push_cases had mover.node node k);
-}
-  where
-    by : (node : ℕ) → Contains had node ⊎ (mover.node ≡ node) → Contains had node ⊎ (Stands (mover ∷ []) node × (is_ready reads numbers node ≡ true))
-    by node (inl k) = inl k
-    by node (inr e) = inr (subst (Stands (mover ∷ [])) e (stands_one mover), subst (λ n. is_ready reads numbers n ≡ true) e h)
-
--- a list of lists with one more at the end of one of them
-abbrev pub with_watcher : List (List Waiting) → ℕ → Waiting → List (List Waiting)
-with_watcher watchers read w = set watchers read (watchers_of watchers read ++ w ∷ [])
-
-watchers_there : (watchers : List (List Waiting)) (read : ℕ) (w : Waiting) → read < length watchers → watchers_of (with_watcher watchers read w) read ≡ watchers_of watchers read ++ w ∷ []
-watchers_there watchers read w l = get_or-set_same watchers read (watchers_of watchers read ++ w ∷ []) [] l
-
-watchers_elsewhere : (watchers : List (List Waiting)) (read other : ℕ) (w : Waiting) → (other ≡ read → ⊥) → watchers_of (with_watcher watchers read w) other ≡ watchers_of watchers other
-watchers_elsewhere watchers read other w n = get_or-set_other watchers read other (watchers_of watchers read ++ w ∷ []) [] n
-
-all_watching : (reads : List (List ℕ)) (numbers : Numbers) (watchers : List (List Waiting)) (read : ℕ) (w : Waiting) → read < length watchers → WaitsFor reads numbers read w → AreWatching reads numbers watchers → AreWatching reads numbers (with_watcher watchers read w)
-all_watching reads numbers watchers read w l for a = record { each = λ other. by other (cases_eq other read) }
-  where
-    by : (other : ℕ) → (other ≡ read) ⊎ (other ≡ read → ⊥) → All (WaitsFor reads numbers other) (watchers_of (with_watcher watchers read w) other)
-    by other (inl e) =
-        subst (λ r. All (WaitsFor reads numbers r) (watchers_of (with_watcher watchers read w) r)) (sym e)
-        (subst (All (WaitsFor reads numbers read)) (sym (watchers_there watchers read w l))
-        (All-append (WaitsFor reads numbers read) (watchers_of watchers read) (w ∷ []) (a.each read) (All-cons (WaitsFor reads numbers read) w [] for (All-nil (WaitsFor reads numbers read)))))
-    by other (inr n) = subst (All (WaitsFor reads numbers other)) (sym (watchers_elsewhere watchers read other w n)) (a.each other)
-
-still_stands : (watchers : List (List Waiting)) (read other : ℕ) (w v : Waiting) → read < length watchers → Contains (watchers_of watchers other) v → Contains (watchers_of (with_watcher watchers read w) other) v
-still_stands watchers read other w v l k = by (cases_eq other read)
-  where
-    by : (other ≡ read) ⊎ (other ≡ read → ⊥) → Contains (watchers_of (with_watcher watchers read w) other) v
-    by (inl e) =
-        let here : Contains (watchers_of watchers read) v = subst (λ r. Contains (watchers_of watchers r) v) e k in
-        subst (λ r. Contains (watchers_of (with_watcher watchers read w) r) v) (sym e)
-        (subst (λ (list : List Waiting). Contains list v) (sym (watchers_there watchers read w l))
-        (Contains-append_left (watchers_of watchers read) (w ∷ []) v here))
-    by (inr n) = subst (λ (list : List Waiting). Contains list v) (sym (watchers_elsewhere watchers read other w n)) k
-
-still_watching : (numbers : Numbers) (watchers : List (List Waiting)) (read : ℕ) (w : Waiting) → read < length watchers → (node : ℕ) → IsWatching numbers watchers node → IsWatching numbers (with_watcher watchers read w) node
-still_watching numbers watchers read w l node i = record {
-  read = i.read;
-  unnumbered = i.unnumbered;
-  stands = record { waiting = i.stands.waiting; among = still_stands watchers read i.read w i.stands.waiting l i.stands.among; is = i.stands.is };
+-- one more is passed
+pub one_passed : (numbers : Numbers) (list left : List ℕ) (read : ℕ) → IsLeft numbers list (left ++ read ∷ []) → has_number numbers read ≡ true → IsLeft numbers list left
+one_passed numbers list left read l e = record {
+  behind = read ∷ l.behind;
+  is = l.is ∙ append_assoc left (read ∷ []) l.behind;
+  passed = both (has_number numbers read) (list_all (has_number numbers) l.behind) e l.passed;
 }
 
--- a mover that waits for an open read
-pub one_waits : (reads : List (List ℕ)) (numbers : Numbers) (mover w : Waiting) (read : ℕ) (watchers : List (List Waiting)) (had : List ℕ) → w.node ≡ mover.node → read < length watchers → has_number numbers read ≡ false → WaitsFor reads numbers read w → HaveMoved reads numbers (mover ∷ []) watchers (with_watcher watchers read w) had had
-one_waits reads numbers mover w read watchers had same l none for = record {
-  watching = all_watching reads numbers watchers read w l for;
-  stay = still_watching numbers watchers read w l;
-  placed = λ node s. inr (subst (IsWatching numbers (with_watcher watchers read w)) (same ∙ stands_is mover node s) now);
-  kept = λ node k. k;
-  only = λ node k. inl k;
+-- nothing is left
+pub all_passed : (numbers : Numbers) (list left : List ℕ) → IsLeft numbers list left → left ≡ [] → list_all (has_number numbers) list ≡ true
+all_passed numbers list left l e = ap (list_all (has_number numbers)) (l.is ∙ ap (λ front. front ++ l.behind) e) ∙ l.passed
+
+-- .. of what was left before
+pub left_on : (numbers : Numbers) (list mid left : List ℕ) → IsLeft numbers list mid → IsLeft numbers mid left → IsLeft numbers list left
+left_on numbers list mid left a b = record {
+  behind = b.behind ++ a.behind;
+  is = a.is ∙ ap (λ front. front ++ a.behind) b.is ∙ append_assoc left b.behind a.behind;
+  passed = list_all-append (has_number numbers) b.behind a.behind ∙ both (list_all (has_number numbers) b.behind) (list_all (has_number numbers) a.behind) b.passed a.passed;
 }
+
+-- where all that is left has numbers, all has
+pub ready_from_left : (numbers : Numbers) (list left : List ℕ) → IsLeft numbers list left → list_all (has_number numbers) left ≡ true → list_all (has_number numbers) list ≡ true
+ready_from_left numbers list left l e =
+    ap (list_all (has_number numbers)) l.is
+    ∙ list_all-append (has_number numbers) left l.behind
+    ∙ both (list_all (has_number numbers) left) (list_all (has_number numbers) l.behind) e l.passed
+
+-- what is left is of the list
+pub left_within : (P : ℕ → Type 0) (numbers : Numbers) (list left : List ℕ) → IsLeft numbers list left → All P list → All P left
+left_within P numbers list left l a k d m = subst P (get_or_append_left left l.behind d k m) (subst (All P) l.is a k d (all_shorter left l.behind k m))
   where
-    now : IsWatching numbers (with_watcher watchers read w) w.node
-    now = record {
-      read = read;
-      unnumbered = none;
-      stands = record {
-        waiting = w;
-        among = subst (λ (list : List Waiting). Contains list w) (sym (watchers_there watchers read w l)) (Contains-push (watchers_of watchers read) w);
-        is = refl;
-      };
-    }
+    all_shorter : (xs ys : List ℕ) (k : ℕ) → k < length xs → k < length (xs ++ ys)
+    all_shorter xs ys k m = let long = length-append xs ys in omega arith
 
-module _ (reads : List (List ℕ)) (numbers : Numbers) (movers : List Waiting) (mover : Waiting) (a b c : List (List Waiting)) (had mid has : List ℕ) (first : HaveMoved reads numbers movers a b had mid) (second : HaveMoved reads numbers (mover ∷ []) b c mid has) where
-  more_placed : (node : ℕ) → Stands (movers ++ mover ∷ []) node → Contains has node ⊎ IsWatching numbers c node
-  more_placed node s = by (Contains-append_cases movers (mover ∷ []) s.waiting s.among)
-    where
-      went : Contains mid node ⊎ IsWatching numbers b node → Contains has node ⊎ IsWatching numbers c node
-      went (inl k) = inl (second.kept node k)
-      went (inr w) = inr (second.stay node w)
+pub open_is_read : (numbers : Numbers) (list mid left : List ℕ) (read : ℕ) → IsLeft numbers list mid → EndsOpen numbers mid left read → Contains list read
+open_is_read numbers list mid left read a e =
+    let whole = left_on numbers list mid left a e.is_left in
+    subst (λ list. Contains list read) (sym whole.is)
+    (Contains-append_left left whole.behind read (subst (λ list. Contains list read) (sym e.ends) (Contains-push e.before read)))
 
-      by : Contains movers s.waiting ⊎ Contains (mover ∷ []) s.waiting → Contains has node ⊎ IsWatching numbers c node
-      by (inl k) = went (first.placed node (record { waiting = s.waiting; among = k; is = s.is }))
-      by (inr k) = second.placed node (record { waiting = s.waiting; among = k; is = s.is })
+take_last : (list : List ℕ) (count : ℕ) → 0 < count → count ≤ length list → take count list ≡ take (count - 1) list ++ get_or list (count - 1) 0 ∷ []
+take_last list count some l = ap (λ n. take n list) (let e : count ≡ count - 1 + 1 = omega arith in e) ∙ take_more list (count - 1) 0 (omega arith)
 
-  more_only : (node : ℕ) → Contains has node → Contains had node ⊎ (Stands (movers ++ mover ∷ []) node × (is_ready reads numbers node ≡ true))
-  more_only node k = by (second.only node k)
-    where
-      early : Contains had node ⊎ (Stands movers node × (is_ready reads numbers node ≡ true)) → Contains had node ⊎ (Stands (movers ++ mover ∷ []) node × (is_ready reads numbers node ≡ true))
-      early (inl k) = inl k
-      early (inr (s, r)) = inr (record { waiting = s.waiting; among = Contains-append_left movers (mover ∷ []) s.waiting s.among; is = s.is }, r)
+-- the last read that is left has no number ..
+pub ends_here : (numbers : Numbers) (list all : List ℕ) (count : ℕ) → 0 < count → count ≤ length list → IsLeft numbers all (take count list) → has_number numbers (get_or list (count - 1) 0) ≡ false → EndsOpen numbers all (take count list) (get_or list (count - 1) 0)
+ends_here numbers list all count some l left e = record { is_left = left; before = take (count - 1) list; ends = take_last list count some l; is_open = e }
 
-      by : Contains mid node ⊎ (Stands (mover ∷ []) node × (is_ready reads numbers node ≡ true)) → Contains had node ⊎ (Stands (movers ++ mover ∷ []) node × (is_ready reads numbers node ≡ true))
-      by (inl k) = early (first.only node k)
-      by (inr (s, r)) = inr (record { waiting = s.waiting; among = Contains-append_right movers (mover ∷ []) s.waiting s.among; is = s.is }, r)
+-- .. or it has one and is passed
+pub passed_here : (numbers : Numbers) (list all : List ℕ) (count : ℕ) → 0 < count → count ≤ length list → IsLeft numbers all (take count list) → has_number numbers (get_or list (count - 1) 0) ≡ true → IsLeft numbers all (take (count - 1) list)
+passed_here numbers list all count some l left e =
+    one_passed numbers all (take (count - 1) list) (get_or list (count - 1) 0) (subst (IsLeft numbers all) (take_last list count some l) left) e
 
-  pub more_moved : HaveMoved reads numbers (movers ++ mover ∷ []) a c had has
-  more_moved = record {
-    watching = λ w. second.watching (first.watching w);
-    stay = λ node w. second.stay node (first.stay node w);
-    placed = more_placed;
-    kept = λ node k. second.kept node (first.kept node k);
-    only = more_only;
+pub front_within : (P : ℕ → Type 0) (list : List ℕ) (count at : ℕ) → All P (take count list) → at < count → count ≤ length list → P (get_or list at 0)
+front_within P list count at a l m = subst P (get_or-take count list at 0 l) (a at 0 (let long = length-take-le count list m in omega arith))
+
+-- what is passed stays so
+pub left_later : (numbers later : Numbers) → ((node : ℕ) → has_number numbers node ≡ true → has_number later node ≡ true) → (list left : List ℕ) → IsLeft numbers list left → IsLeft later list left
+left_later numbers later h list left l = record { behind = l.behind; is = l.is; passed = all_weaker (has_number numbers) (has_number later) h l.behind l.passed }
+
+module _ {P : Type 0} (reads : List (List ℕ)) (is_place : ℕ → P → Type 0) (left : ℕ → P → List ℕ) (numbers : Numbers) (places : List P) (placed : ArePlaced reads is_place left numbers places) where
+  pub places_later : (later : Numbers) → ((node : ℕ) → has_number numbers node ≡ true → has_number later node ≡ true) → ArePlaced reads is_place left later places
+  places_later later h = record {
+    long = placed.long;
+    each = λ node other l. let p = placed.each node other l in record { is = p.is; is_left = left_later numbers later h (reads_of reads node) (left node (get_or places node other)) p.is_left };
   }
+
+  -- the place that was read of a node
+  pub placed_at : (node : ℕ) (place : P) → node < length reads → place ≡ get_or places node place → IsPlaced reads is_place left numbers node place
+  placed_at node place l e = subst (IsPlaced reads is_place left numbers node) (sym e) (placed.each node place l)
+
+  pub place_set : (node : ℕ) (place : P) → node < length reads → IsPlaced reads is_place left numbers node place → ArePlaced reads is_place left numbers (set places node place)
+  place_set node place l p = record {
+    long = length-set places node place ∙ placed.long;
+    each = λ at other m. by at other m (cases_eq at node);
+  }
+    where
+      by : (at : ℕ) (other : P) → at < length reads → (at ≡ node) ⊎ (at ≡ node → ⊥) → IsPlaced reads is_place left numbers at (get_or (set places node place) at other)
+      by at other m (inl e) =
+          let within : node < length places = let long = placed.long in omega arith in
+          subst (λ k. IsPlaced reads is_place left numbers k (get_or (set places node place) k other)) (sym e)
+          (subst (IsPlaced reads is_place left numbers node) (sym (get_or-set_same places node place other within)) p)
+      by at other m (inr n) = subst (IsPlaced reads is_place left numbers at) (sym (get_or-set_other places node at place other n)) (placed.each at other m)
 
 -- the list that was read of a node
 pub reads_read : (lists : List (Vec ℕ Global)) (node : ℕ) (list : Vec ℕ Global) → node < length lists → list ≡ get_or lists node list → reads_of (reads_in lists) node ≡ list.items
@@ -170,29 +108,6 @@ reads_read (x ∷ xs) (suc node) list l e = reads_read xs node list (omega arith
 pub reads_long : (lists : List (Vec ℕ Global)) → length (reads_in lists) ≡ length lists
 reads_long lists = length-map lists (λ (list : Vec ℕ Global). list.items)
 
-module _ (reads : List (List ℕ)) (numbers : Numbers) (mover : Waiting) (watchers : List (List Waiting)) (list : List ℕ) (at : ℕ) (its : reads_of reads mover.node ≡ list) (here : at ≡ open_place numbers list) where
-  -- its list is at its end
-  pub goes_to_ready : (had : List ℕ) → length list ≤ at → HaveMoved reads numbers (mover ∷ []) watchers watchers had (had ++ mover.node ∷ [])
-  goes_to_ready had l =
-      let all : list_all (has_number numbers) list ≡ true = open_all numbers list (omega arith) in
-      one_ready reads numbers mover watchers had (ap (list_all (has_number numbers)) its ∙ all)
-
-  -- an open read stands in its list
-  pub goes_to_read : (had : List ℕ) → mover.node < length reads → at < length list → get_or list at 0 < length watchers → HaveMoved reads numbers (mover ∷ []) watchers (with_watcher watchers (get_or list at 0) (record { node = mover.node; at = at })) had had
-  goes_to_read had n l w =
-      let moved : Waiting = record { node = mover.node; at = at } in
-      let stops = prefix_len_stops (has_number numbers) list 0 (omega arith) in
-      let none : has_number numbers (get_or list at 0) ≡ false = subst (λ k. has_number numbers (get_or list k 0) ≡ false) (sym here) stops in
-      let waits : Waits reads numbers moved = record { node = n; at = subst (λ its. at ≤ open_place numbers its) (sym its) (omega arith) } in
-      let for : WaitsFor reads numbers (get_or list at 0) moved = record {
-        waits = waits;
-        within = subst (λ its. at < length its) (sym its) l;
-        is = ap (λ its. get_or its at 0) its;
-      } in
-      one_waits reads numbers mover moved (get_or list at 0) watchers had refl w none for
-
 -- what is read is a node
-pub read_there : (reads : List (List ℕ)) → ReadsNodes reads → (node : ℕ) → node < length reads → (list : List ℕ) → reads_of reads node ≡ list → (at : ℕ) → at < length list → get_or list at 0 < length reads
-read_there reads h node n list its at l =
-    let within : All (λ read. read < length reads) list = subst (All (λ read. read < length reads)) its (h node [] n) in
-    within at 0 l
+pub read_there : (reads : List (List ℕ)) → ReadsNodes reads → (node read : ℕ) → node < length reads → Contains (reads_of reads node) read → read < length reads
+read_there reads h node read n k = subst (λ x. x < length reads) k.2 (h node [] n k.0 read k.1)

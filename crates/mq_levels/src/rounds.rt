@@ -1,14 +1,15 @@
 //! Round after round, until one is empty.
 
-ghost use Rattle.std.specs.Prelude.{◌≡◌, ◌≤◌, length, IfOk};
-ghost use Rattle.mq_levels.specs.Levels.{ReadsNodes, reads_in};
+ghost use Rattle.std.specs.Prelude.{◌≡◌, ◌≤◌, length, replicate, [], None, IfOk};
+ghost use Rattle.mq_levels.specs.Levels.{ReadsNodes};
 ghost use Rattle.mq_levels.specs.Numbers.{AllNumbered};
-ghost use Rattle.mq_levels.specs.Rounds.{Level};
+ghost use Rattle.mq_levels.specs.Places.{ArePlaced};
 
-use crate::lists::empty_lists;
 use crate::marking::mark;
-use crate::waiting::{Waiting, beginners, move_all, woken};
-use mq_values::{Items, Memory};
+use crate::reads::Reads;
+use crate::waiters::Waiters;
+use crate::waiting::{begin, wake};
+use mq_values::Memory;
 use std::alloc::Global;
 
 /// The number of each node's round, and the number of rounds.
@@ -18,42 +19,59 @@ pub struct Numbering {
     pub count: u32,
 }
 
-// Goes through the rounds until one is empty, and gives their number.
-fn run_rounds(
+// For each node the place at which all of its list is left.
+fn whole_places<R: Reads>(
     alloc: Global,
-    reads: &[Vec<u32>],
-    beginners: Vec<Waiting>,
-    numbers: &mut [Option<u32>],
-    watchers: &mut [Items<Waiting>],
-) -> Result<u32, Memory>
-    requires long { length reads.now ≤ u32.MAX }
-    requires reads { ReadsNodes (reads_in reads.now) }
-    requires level { Level (reads_in reads.now) 0 numbers.old beginners.items watchers.old }
-    ensures { IfOk result (λ count. AllNumbered (reads_in reads.now) count numbers.new) }
+    reads: &R,
+    numbers: &[Option<u32>],
+) -> Result<Vec<R::Place>, Memory>
+    requires few { length (R.reads reads.now) ≤ u32.MAX }
+    ensures { IfOk result (λ places.
+        ArePlaced (R.reads reads.now) (R.is_place reads.now) (R.left reads.now) numbers.now places.items) }
 {
-    let mut movers = beginners;
+    let mut places = Vec::new(alloc);
+    for node in 0..reads.len() as u32 {
+        places.push(reads.whole(node))?;
+    }
+    Ok(places)
+}
+
+// Goes through the rounds until one is empty, and gives their number.
+fn run_rounds<R: Reads>(
+    alloc: Global,
+    reads: &R,
+    numbers: &mut [Option<u32>],
+    places: &mut [R::Place],
+    waiters: &mut Waiters,
+) -> Result<u32, Memory>
+    requires reads { ReadsNodes (R.reads reads.now) }
+    requires few { length (R.reads reads.now) ≤ u32.MAX }
+    requires numbers { numbers.old ≡ replicate (length (R.reads reads.now)) None }
+    requires places { ArePlaced (R.reads reads.now) (R.is_place reads.now) (R.left reads.now) numbers.old places.old }
+    requires waiters { waiters.old ≡ replicate (length (R.reads reads.now)) [] }
+    ensures { IfOk result (λ count. AllNumbered (R.reads reads.now) count numbers.new) }
+{
+    let mut ready = begin(alloc, reads, waiters)?;
     let nodes = reads.len() as u32;
     for number in 0..nodes {
-        let ready = move_all(alloc, reads, numbers, &movers, watchers)?;
         if ready.is_empty() {
             return Ok(number);
         }
         mark(&ready, number, numbers);
-        movers = woken(alloc, &ready, watchers)?;
+        ready = wake(alloc, reads, numbers, &ready, places, waiters)?;
     }
     Ok(nodes)
 }
 
 /// Numbers the nodes round by round.
-pub fn numbered(alloc: Global, reads: &[Vec<u32>]) -> Result<Numbering, Memory>
-    requires long { length reads.now ≤ u32.MAX }
-    requires reads { ReadsNodes (reads_in reads.now) }
-    ensures { IfOk result (λ it. AllNumbered (reads_in reads.now) it.count it.numbers.items) }
+pub fn numbered<R: Reads>(alloc: Global, reads: &R) -> Result<Numbering, Memory>
+    requires few { length (R.reads reads.now) ≤ u32.MAX }
+    requires reads { ReadsNodes (R.reads reads.now) }
+    ensures { IfOk result (λ it. AllNumbered (R.reads reads.now) it.count it.numbers.items) }
 {
-    let nodes = reads.len() as u32;
     let mut numbers = vec![in alloc; None; reads.len()]?;
-    let mut watchers = empty_lists(alloc, nodes)?;
-    let beginners = beginners(alloc, nodes)?;
-    let count = run_rounds(alloc, reads, beginners, &mut numbers, &mut watchers)?;
+    let mut places = whole_places(alloc, reads, &numbers)?;
+    let mut waiters = Waiters::new(alloc, reads.len())?;
+    let count = run_rounds(alloc, reads, &mut numbers, &mut places, &mut waiters)?;
     Ok(Numbering { numbers, count })
 }

@@ -1,117 +1,138 @@
 //! Nodes that wait for reads that have no number yet.
 
-ghost use Rattle.std.specs.Prelude.{◌≡◌, ◌<◌, ◌≤◌, ℕ, [], ◌∷◌, length, slice_index_or, IfOk, OnOk};
+ghost use Rattle.std.specs.Prelude.{◌≡◌, ◌<◌, ◌≤◌, ◌++◌, [], ◌∷◌, length, replicate, None, true, IfOk, OnOk};
 ghost use Rattle.std.specs.List.{All};
-ghost use Rattle.mq_levels.specs.Levels.{ReadsNodes, reads_in};
-ghost use Rattle.mq_levels.specs.Numbers as spec;
-ghost use Rattle.mq_levels.specs.Waiting.{AreWatching, HaveMoved, Waits, open_place, woken_by};
+ghost use Rattle.mq_levels.specs.Levels.{ReadsNodes};
+ghost use Rattle.mq_levels.specs.Numbers.{has_number};
+ghost use Rattle.mq_levels.specs.Places.{ArePlaced};
+ghost use Rattle.mq_levels.specs.Rounds.{AllMoving, AreWoken};
+ghost use Rattle.mq_levels.specs.Waiting.{IsFree, WentOn};
 
-use mq_values::{Items, Memory};
+use crate::reads::Reads;
+use crate::waiters::Waiters;
+use mq_values::Memory;
 use std::alloc::Global;
 
-/// A node that waits for a read: the one at the place `at` of its list.
-#[derive(Clone, Copy)]
-pub struct Waiting {
-    pub node: u32,
-    pub at: usize,
-}
-
-/// Every node, at its first read.
-pub fn beginners(alloc: Global, count: u32) -> Result<Vec<Waiting>, Memory>
-    ensures long { IfOk result (λ v. length v.items ≡ count) }
-    ensures each { IfOk result (λ v. (node : ℕ) (d : Waiting) → node < count →
-        slice_index_or v.items node d ≡ record { node = node; at = 0 }) }
-{
-    let mut movers = Vec::new(alloc);
-    for node in 0..count {
-        movers.push(Waiting { node, at: 0 })?;
-    }
-    Ok(movers)
-}
-
-// Whether a node has a number.
-fn has_number(numbers: &[Option<u32>], node: u32) -> bool
-    requires { node < length numbers.now }
-    ensures { result ≡ spec.has_number numbers.now node }
-{
-    numbers[node as usize].is_some()
-}
-
-// The first open place of a list of reads. No place before `from` is open.
-fn first_open(list: &[u32], numbers: &[Option<u32>], from: usize) -> usize
-    requires reads { All (λ read. read < length numbers.now) list.now }
-    requires from { from ≤ open_place numbers.now list.now }
-    ensures place { result ≡ open_place numbers.now list.now }
-    ensures within { result ≤ length list.now }
-{
-    for at in from..list.len() {
-        if !has_number(numbers, list[at]) {
-            return at;
-        }
-    }
-    list.len()
-}
-
-// Lets one go on.
-fn move_one(
-    reads: &[Vec<u32>],
+// Lets a node that waits for nobody go on: to its last open read, or to the ready ones.
+fn move_node<R: Reads>(
+    reads: &R,
     numbers: &[Option<u32>],
-    mover: Waiting,
-    watchers: &mut [Items<Waiting>],
+    node: u32,
+    places: &mut [R::Place],
+    waiters: &mut Waiters,
     ready: &mut Vec<u32>,
 ) -> Result<(), Memory>
-    requires reads { ReadsNodes (reads_in reads.now) }
-    requires numbers { length numbers.now ≡ length reads.now }
-    requires watchers { length watchers.old ≡ length reads.now }
-    requires mover { Waits (reads_in reads.now) numbers.now mover }
-    ensures { OnOk result (HaveMoved (reads_in reads.now) numbers.now (mover ∷ [])
-        watchers.old watchers.new ready.old.items ready.new.items) }
+    requires reads { ReadsNodes (R.reads reads.now) }
+    requires few { length (R.reads reads.now) ≤ u32.MAX }
+    requires numbers { length numbers.now ≡ length (R.reads reads.now) }
+    requires node { node < length (R.reads reads.now) }
+    requires places { ArePlaced (R.reads reads.now) (R.is_place reads.now) (R.left reads.now) numbers.now places.old }
+    requires waiters { length waiters.old ≡ length (R.reads reads.now) }
+    requires free { IsFree waiters.old node }
+    ensures long { length waiters.new ≡ length waiters.old }
+    ensures places { ArePlaced (R.reads reads.now) (R.is_place reads.now) (R.left reads.now) numbers.now places.new }
+    ensures went { OnOk result (WentOn (R.reads reads.now) numbers.now node
+        waiters.old waiters.new ready.old.items ready.new.items) }
 {
-    let node = mover.node;
-    let list = reads[node as usize].as_slice();
-    let at = first_open(list, numbers, mover.at);
-    if at == list.len() {
-        ready.push(node)?;
-        return Ok(());
+    match reads.last_open(node, places[node as usize], numbers) {
+        Some(found) => {
+            places[node as usize] = found.place;
+            waiters.put(found.read, node);
+        }
+        None => ready.push(node)?,
     }
-    watchers[list[at] as usize].push(Waiting { node, at })?;
     Ok(())
 }
 
-/// Lets those go on whose reads got their numbers. The nodes of which each read has a number come out.
-pub fn move_all(
-    alloc: Global,
-    reads: &[Vec<u32>],
-    numbers: &[Option<u32>],
-    movers: &[Waiting],
-    watchers: &mut [Items<Waiting>],
-) -> Result<Vec<u32>, Memory>
-    requires reads { ReadsNodes (reads_in reads.now) }
-    requires numbers { length numbers.now ≡ length reads.now }
-    requires watchers { length watchers.old ≡ length reads.now }
-    requires movers { All (Waits (reads_in reads.now) numbers.now) movers.now }
-    ensures { IfOk result (λ ready. HaveMoved (reads_in reads.now) numbers.now movers.now
-        watchers.old watchers.new [] ready.items) }
+// Lets a node that waits for nobody begin: no node has a number, so it waits for its first read, if it reads any.
+fn begin_one<R: Reads>(
+    reads: &R,
+    node: u32,
+    waiters: &mut Waiters,
+    ready: &mut Vec<u32>,
+) -> Result<(), Memory>
+    requires reads { ReadsNodes (R.reads reads.now) }
+    requires node { node < length (R.reads reads.now) }
+    requires waiters { length waiters.old ≡ length (R.reads reads.now) }
+    requires free { IsFree waiters.old node }
+    ensures long { length waiters.new ≡ length waiters.old }
+    ensures went { OnOk result (WentOn (R.reads reads.now) (replicate (length (R.reads reads.now)) None) node
+        waiters.old waiters.new ready.old.items ready.new.items) }
+{
+    match reads.first(node) {
+        Some(read) => waiters.put(read, node),
+        None => ready.push(node)?,
+    }
+    Ok(())
+}
+
+/// Lets every node begin to wait. The nodes that read nothing come out.
+pub fn begin<R: Reads>(alloc: Global, reads: &R, waiters: &mut Waiters) -> Result<Vec<u32>, Memory>
+    requires reads { ReadsNodes (R.reads reads.now) }
+    requires few { length (R.reads reads.now) ≤ u32.MAX }
+    requires waiters { waiters.old ≡ replicate (length (R.reads reads.now)) [] }
+    ensures long { length waiters.new ≡ length waiters.old }
+    ensures begun { IfOk result (λ ready. AllMoving (R.reads reads.now) 0 (replicate (length (R.reads reads.now)) None)
+        waiters.new [] ready.items) }
 {
     let mut ready = Vec::new(alloc);
-    for mover in movers {
-        move_one(reads, numbers, *mover, watchers, &mut ready)?;
+    for node in 0..reads.len() as u32 {
+        begin_one(reads, node, waiters, &mut ready)?;
     }
     Ok(ready)
 }
 
-/// Those that wait for one of `nodes`.
-pub fn woken(
-    alloc: Global,
-    nodes: &[u32],
-    watchers: &[Items<Waiting>],
-) -> Result<Vec<Waiting>, Memory>
-    requires { All (λ node. node < length watchers.now) nodes.now }
-    ensures { IfOk result (λ movers. movers.items ≡ woken_by watchers.now nodes.now) }
+// Lets all who wait for a read that has a number go on.
+fn wake_one<R: Reads>(
+    reads: &R,
+    numbers: &[Option<u32>],
+    read: u32,
+    places: &mut [R::Place],
+    waiters: &mut Waiters,
+    ready: &mut Vec<u32>,
+) -> Result<(), Memory>
+    requires reads { ReadsNodes (R.reads reads.now) }
+    requires few { length (R.reads reads.now) ≤ u32.MAX }
+    requires numbers { length numbers.now ≡ length (R.reads reads.now) }
+    requires read { read < length (R.reads reads.now) }
+    requires done { has_number numbers.now read ≡ true }
+    requires places { ArePlaced (R.reads reads.now) (R.is_place reads.now) (R.left reads.now) numbers.now places.old }
+    requires waiters { length waiters.old ≡ length (R.reads reads.now) }
+    ensures long { length waiters.new ≡ length waiters.old }
+    ensures places { ArePlaced (R.reads reads.now) (R.is_place reads.now) (R.left reads.now) numbers.now places.new }
+    ensures woken { OnOk result (AreWoken (R.reads reads.now) numbers.now (read ∷ [])
+        waiters.old waiters.new ready.old.items ready.new.items) }
 {
-    let mut movers = Vec::new(alloc);
-    for node in nodes {
-        movers.extend_from_slice(watchers[*node as usize].as_slice())?;
+    while let Some(node) = waiters.take(read) {
+        move_node(reads, numbers, node, places, waiters, ready)?;
     }
-    Ok(movers)
+    Ok(())
+}
+
+/// Lets all who wait for one of `nodes` go on, each of which has a number. Those come out of which each read has one.
+pub fn wake<R: Reads>(
+    alloc: Global,
+    reads: &R,
+    numbers: &[Option<u32>],
+    nodes: &[u32],
+    places: &mut [R::Place],
+    waiters: &mut Waiters,
+) -> Result<Vec<u32>, Memory>
+    requires reads { ReadsNodes (R.reads reads.now) }
+    requires few { length (R.reads reads.now) ≤ u32.MAX }
+    requires numbers { length numbers.now ≡ length (R.reads reads.now) }
+    requires nodes { All (λ node. node < length (R.reads reads.now)) nodes.now }
+    requires done { All (λ node. has_number numbers.now node ≡ true) nodes.now }
+    requires places { ArePlaced (R.reads reads.now) (R.is_place reads.now) (R.left reads.now) numbers.now places.old }
+    requires waiters { length waiters.old ≡ length (R.reads reads.now) }
+    ensures long { length waiters.new ≡ length waiters.old }
+    ensures places { ArePlaced (R.reads reads.now) (R.is_place reads.now) (R.left reads.now) numbers.now places.new }
+    ensures woken { IfOk result (λ ready. AreWoken (R.reads reads.now) numbers.now nodes.now
+        waiters.old waiters.new [] ready.items) }
+{
+    let mut ready = Vec::new(alloc);
+    for node in nodes {
+        wake_one(reads, numbers, *node, places, waiters, &mut ready)?;
+    }
+    Ok(ready)
 }

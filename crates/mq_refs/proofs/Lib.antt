@@ -1,9 +1,8 @@
-pub mod BoundLemmas
 pub mod KeyLemmas
 pub mod ListLemmas
 pub mod LookLaws
-pub mod OrderLemmas
 pub mod PlainLemmas
-pub mod RunLemmas
+pub mod RangeLemmas
 pub mod SightLemmas
+pub mod SiteLemmas
 pub mod SlotLemmas

@@ -1,5 +1,5 @@
 pub mod LookLists
 pub mod Orders
-pub mod Runs
 pub mod Sightings
 pub mod Sites
+pub mod SlotsOver

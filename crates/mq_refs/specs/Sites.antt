@@ -9,18 +9,26 @@ use Rattle.mq_ir.specs.declared.expression.BoundSum.{BoundSum}
 use Rattle.mq_ir.specs.declared.expression.Expr.{Expr}
 use Rattle.mq_ir.specs.declared.expression.Test.{Test}
 use Rattle.mq_ir.specs.Expression.{Outcome, ev}
+use Rattle.mq_ir.specs.Keys.{Tuple}
 use Rattle.mq_ir.specs.Operators.{added, chained}
 use Rattle.mq_ir.specs.PartLaws.{term_found}
 use Rattle.mq_ir.specs.Reads.{Measures, Site, cell_named, inner_leaves}
 use Rattle.mq_ir.specs.Results.{◌>>=◌, each}
-use Rattle.mq_ir.specs.Slots.{site_in}
 use Rattle.mq_ir.specs.Tests.{converted, test_of}
-use Rattle.mq_ir.specs.Unfolding.{model_of}
+use Rattle.mq_ir.specs.Unfolding.{Model, model_of}
 use Rattle.mq_refs.specs.declared.standpoint.Standpoint.{Standpoint}
 
--- where a right side stands, as definitions have it
+-- a rule at a target in a turn, among these cells
+abbrev pub site_with : Model → ℕ → Tuple → List Tuple → Site
+site_with model turn target set = record { model = model; target = target; turn = turn; set = set }
+
+-- where a right side stands among these cells, as definitions have it
+abbrev pub site_over : Standpoint → List Tuple → Site
+site_over at set = site_with (model_of at.model.now) at.turn at.target.now set
+
+-- the same for what sees no set of cells: the indices of a cell, the operands of a range
 abbrev pub site_of : Standpoint → Site
-site_of at = site_in (model_of at.model.now) at.shape.now at.turn at.target.now
+site_of at = site_over at []
 
 -- an index of a single cell, and a place of a range, with the kind of its dimension beside it
 abbrev pub index_named : Site → Kind × Expr → Result Value ValueFault

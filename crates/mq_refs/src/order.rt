@@ -1,36 +1,31 @@
-//! What is known of the order of keys.
+//! What is known of the order of the cells of references.
 ghost use Rattle.std.specs.Prelude.{◌↔◌, IsTrue};
-ghost use Rattle.mq_refs.specs.Orders.{ArraysAscend, KeysAscend};
+ghost use Rattle.mq_refs.specs.Orders.{ArraysAscend, IsOrderOf};
 
 use mq_cells::cells_ascend;
-use mq_ir::RefArray;
-use mq_values::Key;
+use mq_ir::{Model, RefArray};
 
-/// Which keys are known to ascend, each once: those of a partition's input, those of the cells of every reference, and
-/// those of all cells of the partition. Among these a cell or a range is found without going through all others.
+/// Whether the cells of every reference of a model are known to ascend by their keys, each once. Among these a cell is found
+/// without going through all others.
 #[derive(Clone, Copy)]
-pub struct InOrder {
-    pub base: bool,
-    pub refs: bool,
-    pub cells: bool,
+pub struct RefsOrder {
+    pub ascend: bool,
 }
 
-/// No keys are known to be in order.
-pub const UNKNOWN_ORDER: InOrder = InOrder {
-    base: false,
-    refs: false,
-    cells: false,
-};
+/// No cells are known to be in order.
+pub const UNKNOWN_ORDER: RefsOrder = RefsOrder { ascend: false };
 
-/// Whether these keys ascend, each once. It takes no memory.
-pub fn keys_ascend(keys: &[Key]) -> bool
-    ensures { IsTrue result ↔ KeysAscend keys.now }
+/// What is found of the references of a model. It takes no memory.
+pub fn refs_order(m: &Model<'_>) -> RefsOrder
+    ensures { IsOrderOf result m.now }
 {
-    keys.is_sorted_by(|a, b| a.as_slice().cmp(b.as_slice()).is_lt())
+    RefsOrder {
+        ascend: arrays_ascend(m.refs),
+    }
 }
 
-/// Whether the cells of each array ascend by their keys, each once. It takes no memory.
-pub fn arrays_ascend(arrays: &[RefArray]) -> bool
+// Whether the cells of each array ascend by their keys, each once.
+fn arrays_ascend(arrays: &[RefArray]) -> bool
     ensures { IsTrue result ↔ ArraysAscend arrays.now }
 {
     for array in arrays {

@@ -1,45 +1,46 @@
 //! What the leaves of a right side are worth, over measures that are read one by one.
-ghost use Rattle.std.specs.Prelude.{◌≡◌, true, map};
+ghost use Rattle.std.specs.Prelude.{◌≡◌, map};
 ghost use Rattle.std.specs.List.{filter};
 ghost use Rattle.mq_values.specs.Aggregate.{aggregate};
 ghost use Rattle.mq_values.specs.Answers.{Gives};
 ghost use Rattle.mq_ir.specs.Expression as expression;
-ghost use Rattle.mq_ir.specs.Keys.{is_among};
 ghost use Rattle.mq_ir.specs.Reads as spec;
-ghost use Rattle.mq_ir.specs.Targets as targets;
+ghost use Rattle.mq_ir.specs.Targets.{meets_every};
 ghost use Rattle.mq_cells.specs.Stores.{cell_name};
-ghost use Rattle.mq_refs.specs.Orders.{IsInOrder, KeysAscend};
+ghost use Rattle.mq_refs.specs.Orders.{IsOrderOf, IsOrderOf-prop};
 ghost use Rattle.mq_refs.specs.Sites as sites;
-ghost use Rattle.mq_refs.specs.Sites.{site_of};
+ghost use Rattle.mq_refs.specs.Sites.{site_of, site_over};
 
+use crate::cell_keys::CellKeys;
 use crate::inside::inner_leaf;
-use crate::names::{cell_named, index_named, meets_every, tests_named};
-use crate::order::InOrder;
-use crate::ordered::OrderedStandpoint;
+use crate::names::{cell_named, index_named, tests_named};
+use crate::order::RefsOrder;
 use crate::references::{kind_in, reference_cell};
-use crate::runs::run_for;
 use crate::standpoint::Standpoint;
 use crate::worths::Worths;
 use mq_ir::{Expr, Leaf, Test};
 use mq_reads::{Aggregation, nav};
 use mq_scalar::Env;
-use mq_values::{Agg, DimTest, Fail, Key, Kind, Num, Value, ValueFault};
+use mq_values::{Agg, DimTest, Fail, Kind, Num, Value, ValueFault};
 use std::alloc::Global;
 use std::slice;
 
-/// The place of a right side.
+/// The place of a right side that is evaluated over measures which are read one by one. A cell of a reference is found by a
+/// search where `refs` says that they ascend.
 #[derive(Drop)]
-pub struct Reading<'a, W: Worths + Drop> {
-    pub here: &'a OrderedStandpoint<'a>,
+pub struct Reading<'a, K: CellKeys, W: Worths + Drop> {
+    pub at: &'a Standpoint<'a>,
+    pub keys: &'a K,
+    pub refs: RefsOrder,
     pub worths: W,
+    ghost refs_known: { IsOrderOf refs at.now.model.now } by { IsOrderOf-prop refs at.now.model.now },
 }
 
-impl<W: Worths + Drop> Env for Reading<'_, W> {
-    ghost gives = { λ env. spec.read (site_of env.here.now.at.now) env.here.now.at.now.shape.now.base (W.worth env.worths) };
+impl<K: CellKeys, W: Worths + Drop> Env for Reading<'_, K, W> {
+    ghost gives = { λ env. spec.read (site_over env.at.now (K.set env.keys.now)) (K.base env.keys.now) (W.worth env.worths) };
 
     fn leaf(&mut self, alloc: Global, leaf: &Leaf) -> Result<Value, Fail<ValueFault>> {
-        let at = self.here.at;
-        let order = self.here.order;
+        let at = self.at;
         match leaf {
             Leaf::Cell(measure, indices) => {
                 cell_value(alloc, at, *measure, indices.as_slice(), &mut self.worths)
@@ -47,16 +48,16 @@ impl<W: Worths + Drop> Env for Reading<'_, W> {
             Leaf::Range(agg, measure, places) => range_value(
                 alloc,
                 at,
-                order,
+                self.keys,
                 *agg,
                 *measure,
                 places.as_slice(),
                 &mut self.worths,
             ),
             Leaf::RefCell(r, measure, indices) => {
-                reference_cell(alloc, at, order, *r, *measure, indices.as_slice())
+                reference_cell(alloc, at, self.refs, *r, *measure, indices.as_slice())
             }
-            Leaf::Present(indices) => presence(alloc, at, order, indices.as_slice()),
+            Leaf::Present(indices) => presence(alloc, at, self.keys, indices.as_slice()),
             Leaf::NotNull(measure, indices) => {
                 not_null(alloc, at, *measure, indices.as_slice(), &mut self.worths)
             }
@@ -65,8 +66,8 @@ impl<W: Worths + Drop> Env for Reading<'_, W> {
     }
 }
 
-// A measure of a single cell, under NAV.
-fn cell_value<W: Worths>(
+/// A measure of a single cell, under NAV.
+pub fn cell_value<W: Worths>(
     alloc: Global,
     at: &Standpoint<'_>,
     measure: u32,
@@ -150,107 +151,61 @@ fn value_by_one<W: Worths>(
 }
 
 // Whether a single cell is in the input.
-fn presence(
+fn presence<K: CellKeys>(
     alloc: Global,
     at: &Standpoint<'_>,
-    order: InOrder,
+    keys: &K,
     indices: &[Expr],
 ) -> Result<Value, Fail<ValueFault>>
-    requires { IsInOrder order at.now.model.now at.now.shape.now }
-    ensures { Gives result (spec.presence (site_of at.now) at.now.shape.now.base indices.now) }
+    ensures { Gives result (spec.presence (site_of at.now) (K.base keys.now) indices.now) }
 {
     let key = cell_named(alloc, at, at.model.part.dims.as_slice(), indices)?;
-    let base = at.shape.base.as_slice();
-    Ok(flag(is_in(base, order.base, key.as_slice())))
+    Ok(flag(keys.is_based(key.as_slice())))
 }
 
-// Whether `key` is among these keys, which ascend where `ascend` says so.
-fn is_in(keys: &[Key], ascend: bool, key: &[Value]) -> bool
-    requires { ascend ≡ true → KeysAscend keys.now }
-    ensures { result ≡ is_among keys.now key.now }
-{
-    if ascend {
-        is_found(keys, key)
-    } else {
-        is_there(keys, key)
-    }
-}
-
-// Whether `key` is among these ascending keys.
-fn is_found(keys: &[Key], key: &[Value]) -> bool
-    requires { KeysAscend keys.now }
-    ensures { result ≡ is_among keys.now key.now }
-{
-    match keys.binary_search_by(|k| k.as_slice().cmp(key)) {
-        Ok(_) => true,
-        Err(_) => false,
-    }
-}
-
-/// Whether `key` is among these keys. What the search finds is there; what it misses may stand elsewhere, where they do
-/// not ascend.
-pub fn is_there(keys: &[Key], key: &[Value]) -> bool
-    ensures { result ≡ is_among keys.now key.now }
-{
-    match keys.binary_search_by(|k| k.as_slice().cmp(key)) {
-        Ok(_) => true,
-        Err(_) => stands_among(keys, key),
-    }
-}
-
-// The same, by going through all keys.
-fn stands_among(keys: &[Key], key: &[Value]) -> bool
-    ensures { result ≡ is_among keys.now key.now }
-{
-    keys.iter().any(|k| key.cmp(k.as_slice()).is_eq())
-}
-
-/// What a leaf gives that asks whether something holds.
-pub fn flag(holds: bool) -> Value
+// What a leaf gives that asks whether something holds.
+fn flag(holds: bool) -> Value
     ensures { result ≡ expression.flag holds }
 {
     Value::Num(Num::new(i128::from(holds), 0))
 }
 
 // An aggregate of a measure over the cells that meet each place, without NAV.
-fn range_value<W: Worths>(
+fn range_value<K: CellKeys, W: Worths>(
     alloc: Global,
     at: &Standpoint<'_>,
-    order: InOrder,
+    keys: &K,
     agg: Agg,
     measure: u32,
     places: &[Test],
     worths: &mut W,
 ) -> Result<Value, Fail<ValueFault>>
-    requires { IsInOrder order at.now.model.now at.now.shape.now }
-    ensures exact { Gives result (spec.range_value (site_of at.now) (W.worth worths.old) agg measure places.now) }
+    ensures exact { Gives result (spec.range_value (site_over at.now (K.set keys.now)) (W.worth worths.old) agg measure places.now) }
     ensures same { W.worth worths.new ≡ W.worth worths.old }
 {
     let tests = tests_named(alloc, at, at.model.part.dims.as_slice(), places)?;
-    let set = at.shape.cells.as_slice();
-    aggregate_of(agg, measure, tests.as_slice(), set, order.cells, worths)
+    aggregate_of(alloc, agg, measure, tests.as_slice(), keys, worths)
 }
 
-// An aggregate of a measure over the cells of `set` that meet every test. The set ascends where `ascend` says so.
-fn aggregate_of<W: Worths>(
+// An aggregate of a measure over the cells that meet every test.
+fn aggregate_of<K: CellKeys, W: Worths>(
+    alloc: Global,
     agg: Agg,
     measure: u32,
     tests: &[DimTest],
-    set: &[Key],
-    ascend: bool,
+    keys: &K,
     worths: &mut W,
 ) -> Result<Value, Fail<ValueFault>>
-    requires { ascend ≡ true → KeysAscend set.now }
-    ensures exact { Gives result (aggregate agg (map (λ key. W.worth worths.old (cell_name key measure)) (filter (targets.meets_every tests.now) set.now))) }
+    ensures exact { Gives result (aggregate agg (map (λ key. W.worth worths.old (cell_name key measure))
+        (filter (meets_every tests.now) (K.set keys.now)))) }
     ensures same { W.worth worths.new ≡ W.worth worths.old }
 {
-    let run = run_for(set, ascend, tests);
+    let places = keys.meeting(alloc, tests)?;
     let mut aggregation = Aggregation::new(agg);
-    for key in run {
-        if meets_every(tests, key.as_slice()) {
-            let v = worths.value(key.as_slice(), measure)?;
-            aggregation = aggregation.with(&v)?;
-        }
+    for place in places.as_slice() {
+        let key = keys.key_at(*place).as_slice();
+        let v = worths.value_at(*place, key, measure)?;
+        aggregation = aggregation.with(&v)?;
     }
     match aggregation.finish() {
         Ok(v) => Ok(v),

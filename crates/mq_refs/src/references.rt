@@ -6,11 +6,11 @@ ghost use Rattle.mq_values.specs.declared.value.Value.TheVariants.{Null};
 ghost use Rattle.mq_ir.specs.Reads as spec;
 ghost use Rattle.mq_ir.specs.Unfolding.{model_of};
 ghost use Rattle.mq_cells.specs.Stores.{cell_name};
-ghost use Rattle.mq_refs.specs.Orders.{ArraysAscend, CellsAscend, IsInOrder};
+ghost use Rattle.mq_refs.specs.Orders.{ArraysAscend, CellsAscend, IsOrderOf};
 ghost use Rattle.mq_refs.specs.Sites.{site_of};
 
 use crate::names::cell_named;
-use crate::order::InOrder;
+use crate::order::RefsOrder;
 use crate::standpoint::Standpoint;
 use mq_cells::find_measures;
 use mq_ir::{Expr, Model, RefPart};
@@ -22,12 +22,12 @@ use std::alloc::Global;
 pub fn reference_cell(
     alloc: Global,
     at: &Standpoint<'_>,
-    order: InOrder,
+    refs: RefsOrder,
     r: u32,
     measure: u32,
     indices: &[Expr],
 ) -> Result<Value, Fail<ValueFault>>
-    requires { IsInOrder order at.now.model.now at.now.shape.now }
+    requires { IsOrderOf refs at.now.model.now }
     ensures { Gives result (spec.reference_cell (site_of at.now) r measure indices.now) }
 {
     match at.model.part.refs.as_slice().get(r as usize) {
@@ -36,7 +36,7 @@ pub fn reference_cell(
             at,
             part,
             cells_of(at.model, r),
-            order.refs,
+            refs.ascend,
             measure,
             indices,
         ),

@@ -67,6 +67,10 @@ impl Worths for Seen {
         }
     }
 
+    fn value_at(&mut self, _place: u32, key: &[Value], measure: u32) -> Result<Value, Memory> {
+        self.value(key, measure)
+    }
+
     // What was seen there, or null.
     fn value(&mut self, key: &[Value], measure: u32) -> Result<Value, Memory> {
         let sightings = self.sightings.as_slice();
@@ -109,7 +113,8 @@ fn seen_next<'a>(
 // The place of a sighting of a measure: the first from `from` on, else the first of all, or `None` where there is none.
 fn place_of(sightings: &[Sighting], from: usize, key: &[Value], measure: u32) -> Option<usize>
     ensures found { IfSome result (λ at. at < length sightings.now) }
-    ensures named { (other : OneSighting) → IfSome result (λ at. stores.is_named (slice_index_or sightings.now at other).name (cell_name key.now measure) ≡ true) }
+    ensures named { (other : OneSighting) →
+        IfSome result (λ at. stores.is_named (slice_index_or sightings.now at other).name (cell_name key.now measure) ≡ true) }
     ensures none { result ≡ None → value_seen sightings.now (cell_name key.now measure) ≡ Null }
 {
     match place_from(sightings, from, key, measure) {
@@ -121,7 +126,8 @@ fn place_of(sightings: &[Sighting], from: usize, key: &[Value], measure: u32) ->
 // The place of the first sighting of a measure from `from` on, or `None` where there is none.
 fn place_from(sightings: &[Sighting], from: usize, key: &[Value], measure: u32) -> Option<usize>
     ensures found { IfSome result (λ at. at < length sightings.now) }
-    ensures named { (other : OneSighting) → IfSome result (λ at. stores.is_named (slice_index_or sightings.now at other).name (cell_name key.now measure) ≡ true) }
+    ensures named { (other : OneSighting) →
+        IfSome result (λ at. stores.is_named (slice_index_or sightings.now at other).name (cell_name key.now measure) ≡ true) }
     ensures none { result ≡ None → value_seen (drop from sightings.now) (cell_name key.now measure) ≡ Null }
 {
     for at in from..sightings.len() {

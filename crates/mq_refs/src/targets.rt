@@ -6,13 +6,14 @@ ghost use Rattle.mq_ir.specs.Reads as spec;
 ghost use Rattle.mq_ir.specs.Slots.{cell_slot, site_in, slot_of};
 ghost use Rattle.mq_ir.specs.Unfolding.{model_of};
 ghost use Rattle.mq_cells.specs.Stores.{slot_at};
-ghost use Rattle.mq_refs.specs.Orders.{IsInOrder};
+ghost use Rattle.mq_refs.specs.Orders.{IsOrderOf};
 ghost use Rattle.mq_refs.specs.Sightings.{measures_in};
-ghost use Rattle.mq_refs.specs.Sites.{site_of};
+ghost use Rattle.mq_refs.specs.Sites.{site_with};
+ghost use Rattle.mq_refs.specs.SlotsOver.{cell_slot_over};
 
+use crate::cell_keys::CellKeys;
 use crate::looks::looks_from;
-use crate::order::{InOrder, UNKNOWN_ORDER};
-use crate::ordered::OrderedStandpoint;
+use crate::order::{RefsOrder, UNKNOWN_ORDER};
 use crate::plain::brought;
 use crate::reading::Reading;
 use crate::references::kind_in;
@@ -46,132 +47,94 @@ pub fn eval_cell<C: Cells>(
     ensures same_input { C.input cells.new ≡ C.input cells.old }
     ensures same_results { C.results cells.new ≡ C.results cells.old }
 {
-    eval_cell_in(alloc, r, m, target, turn, s, UNKNOWN_ORDER, cells)
+    slot_over(alloc, r, m, target, turn, s, UNKNOWN_ORDER, cells)
 }
 
-/// The same as `eval_cell`, where `order` says which keys are in order (`keys_ascend` of `s.base` and of `s.cells`,
-/// `arrays_ascend` of `m.refs`). Whether a cell is in the input, a cell of a reference, and the cells of a range are then
-/// found by searches among their keys.
-pub fn eval_cell_in<C: Cells>(
+/// The same as `eval_cell`, over the cells that `keys` has: ranges are over those that are there, and a cell is in the input
+/// exactly where the base of `keys` has it. A cell of a reference is found by a search where `refs` says that they ascend.
+pub fn slot_over<K: CellKeys, C: Cells>(
     alloc: Global,
     r: &Rule,
     m: &Model<'_>,
     target: &Key,
     turn: u32,
-    s: &PartShape,
-    order: InOrder,
+    keys: &K,
+    refs: RefsOrder,
     cells: &mut C,
 ) -> Result<Slot, Memory>
-    requires { IsInOrder order m.now s.now }
-    ensures exact { IfOk result (λ slot. slot
-        ≡ cell_slot (model_of m.now) s.now turn r.now target.now (slot_at (C.input cells.old) (C.results cells.old))) }
-    ensures reads { C.looks cells.new
-        ≤ C.looks cells.old + measures_in (looks.looks_of (site_in (model_of m.now) s.now turn target.now) r.now.right) }
+    requires { IsOrderOf refs m.now }
+    ensures exact { IfOk result (λ slot. slot ≡ cell_slot_over (model_of m.now) (K.set keys.now) (K.base keys.now) turn r.now target.now
+        (slot_at (C.input cells.old) (C.results cells.old))) }
+    ensures reads { C.looks cells.new ≤ C.looks cells.old
+        + measures_in (looks.looks_of (site_with (model_of m.now) turn target.now (K.set keys.now)) r.now.right) }
     ensures same_input { C.input cells.new ≡ C.input cells.old }
     ensures same_results { C.results cells.new ≡ C.results cells.old }
 {
     let at = Standpoint {
         model: m,
-        shape: s,
         target,
         turn,
     };
-    let here = OrderedStandpoint { at: &at, order };
     reads_are_among_looks();
-    let looks = looks_from(alloc, &here, &r.right)?;
+    let looks = looks_from(alloc, &at, keys, &r.right)?;
     match seen_at(alloc, looks.as_slice(), cells)? {
-        Some(sightings) => slot_over(alloc, &here, r, Seen::new(sightings)),
+        Some(sightings) => slot_seen(alloc, r, m, target, turn, keys, refs, Seen::new(sightings)),
         None => Ok(Slot::Poisoned),
     }
 }
 
-/// The same as `eval_cell_in`, but that no looks are listed where the store lends its values: the right side is evaluated over
-/// them at once, and a measure is read when the right side comes to it. How many are read is not said.
-pub fn eval_cell_lent<C: Cells>(
+// The slot of a target over what was seen at its looks.
+fn slot_seen<K: CellKeys, W: Worths + Drop>(
     alloc: Global,
     r: &Rule,
     m: &Model<'_>,
     target: &Key,
     turn: u32,
-    s: &PartShape,
-    order: InOrder,
-    cells: &mut C,
-) -> Result<Slot, Memory>
-    requires { IsInOrder order m.now s.now }
-    ensures exact { IfOk result (λ slot. slot
-        ≡ cell_slot (model_of m.now) s.now turn r.now target.now (slot_at (C.input cells.old) (C.results cells.old))) }
-    ensures same_input { C.input cells.new ≡ C.input cells.old }
-    ensures same_results { C.results cells.new ≡ C.results cells.old }
-{
-    if let Some(lent) = cells.lent() {
-        let at = Standpoint {
-            model: m,
-            shape: s,
-            target,
-            turn,
-        };
-        let here = OrderedStandpoint { at: &at, order };
-        return slot_over(alloc, &here, r, lent);
-    }
-    eval_cell_in(alloc, r, m, target, turn, s, order, cells)
-}
-
-/// The value that rule `r` assigns to `target` in turn `turn`, over the cells of `s`, where every measure has a value, which
-/// `worths` gives: the value of the right side, converted to the kind of the rule's measure, or its first fault. A measure
-/// is read when the right side comes to it. `order` says which keys are in order, as `eval_cell_in` has it.
-pub fn right_value_over<W: Worths + Drop>(
-    alloc: Global,
-    r: &Rule,
-    m: &Model<'_>,
-    target: &Key,
-    turn: u32,
-    s: &PartShape,
-    order: InOrder,
-    worths: W,
-) -> Result<Value, Fail<ValueFault>>
-    requires { IsInOrder order m.now s.now }
-    ensures { Gives result (spec.right_value (site_in (model_of m.now) s.now turn target.now) s.now.base (W.worth worths) r.now) }
-{
-    let at = Standpoint {
-        model: m,
-        shape: s,
-        target,
-        turn,
-    };
-    let here = OrderedStandpoint { at: &at, order };
-    right_value(alloc, &here, r, worths)
-}
-
-// The value of a right side over these measures, or its fault.
-fn slot_over<W: Worths + Drop>(
-    alloc: Global,
-    here: &OrderedStandpoint<'_>,
-    r: &Rule,
+    keys: &K,
+    refs: RefsOrder,
     worths: W,
 ) -> Result<Slot, Memory>
-    ensures { IfOk result (λ slot. slot
-        ≡ slot_of (spec.right_value (site_of here.now.at.now) here.now.at.now.shape.now.base (W.worth worths) r.now)) }
+    requires { IsOrderOf refs m.now }
+    ensures { IfOk result (λ slot. slot ≡ slot_of (spec.right_value (site_with (model_of m.now) turn target.now (K.set keys.now))
+        (K.base keys.now) (W.worth worths) r.now)) }
 {
-    match right_value(alloc, here, r, worths) {
+    match value_over(alloc, r, m, target, turn, keys, refs, worths) {
         Ok(v) => Ok(Slot::Done(v)),
         Err(Fail::Cause(fault)) => Ok(Slot::Faulted(fault)),
         Err(Fail::Memory) => Err(Memory),
     }
 }
 
-fn right_value<W: Worths + Drop>(
+/// The value that rule `r` assigns to `target` in turn `turn`, over the cells that `keys` has, where every measure has a
+/// value, which `worths` gives: the value of the right side, converted to the kind of the rule's measure, or its first fault. A
+/// measure is read when the right side comes to it. A cell of a reference is found by a search where `refs` says that they
+/// ascend.
+pub fn value_over<K: CellKeys, W: Worths + Drop>(
     alloc: Global,
-    here: &OrderedStandpoint<'_>,
     r: &Rule,
+    m: &Model<'_>,
+    target: &Key,
+    turn: u32,
+    keys: &K,
+    refs: RefsOrder,
     worths: W,
 ) -> Result<Value, Fail<ValueFault>>
-    ensures { Gives result (spec.right_value (site_of here.now.at.now) here.now.at.now.shape.now.base (W.worth worths) r.now) }
+    requires { IsOrderOf refs m.now }
+    ensures { Gives result (spec.right_value (site_with (model_of m.now) turn target.now (K.set keys.now))
+        (K.base keys.now) (W.worth worths) r.now) }
 {
+    let at = Standpoint {
+        model: m,
+        target,
+        turn,
+    };
     let mut reading = Reading {
-        here: &*here,
+        at: &at,
+        keys,
+        refs,
         worths,
     };
     let v = eval(alloc, &r.right, &mut reading)?;
-    let kind = kind_in(here.at.model.part.measures.as_slice(), r.measure);
+    let kind = kind_in(m.part.measures.as_slice(), r.measure);
     brought(alloc, v, kind)
 }

@@ -3,10 +3,11 @@ ghost use Rattle.std.specs.Prelude.{◌≡◌, ◌++◌, OnOk};
 ghost use Rattle.std.specs.List.{flat_map};
 ghost use Rattle.mq_ir.specs.Looks as spec;
 ghost use Rattle.mq_refs.specs.LookLists.{looks_in_arm, looks_in_factor, looks_in_term, looks_where_any};
-ghost use Rattle.mq_refs.specs.Sites.{site_of};
+ghost use Rattle.mq_refs.specs.Sites.{site_over};
 
+use crate::cell_keys::CellKeys;
 use crate::looks::push_leaf;
-use crate::ordered::OrderedStandpoint;
+use crate::standpoint::Standpoint;
 use mq_ir::{BoundArm, BoundProd, BoundSum, Expr, Look};
 use mq_values::{Boxed, Items, Memory};
 use std::alloc::Global;
@@ -14,52 +15,53 @@ use std::alloc::Global;
 /// Puts the looks of `e` behind `looks`.
 #[cycle(walk)]
 #[tactic(auto, using(crate::proofs::LookLaws::looks_laws))]
-pub fn push_looks(
+pub fn push_looks<K: CellKeys>(
     alloc: Global,
-    here: &OrderedStandpoint<'_>,
+    at: &Standpoint<'_>,
+    keys: &K,
     e: &Expr,
     looks: &mut Items<Look>,
 ) -> Result<(), Memory>
-    ensures { OnOk result (looks.new ≡ looks.old ++ spec.looks_of (site_of here.now.at.now) e.now) }
+    ensures { OnOk result (looks.new ≡ looks.old ++ spec.looks_of (site_over at.now (K.set keys.now)) e.now) }
 {
     match e {
         Expr::Or(es) | Expr::And(es) | Expr::Call(_, es) => {
-            push_each(alloc, here, es.as_slice(), looks)
+            push_each(alloc, at, keys, es.as_slice(), looks)
         }
         Expr::Not(e) | Expr::IsNull(e, _) | Expr::Neg(e) | Expr::Cast(e, _) | Expr::Convert(e, _) =>
-            push_looks(alloc, here, e.get(), looks),
+            push_looks(alloc, at, keys, e.get(), looks),
         Expr::Cmp(a, _, b) => {
-            push_looks(alloc, here, a.get(), looks)?;
-            push_looks(alloc, here, b.get(), looks)
+            push_looks(alloc, at, keys, a.get(), looks)?;
+            push_looks(alloc, at, keys, b.get(), looks)
         }
         Expr::Between(e, _, low, high) => {
-            push_looks(alloc, here, e.get(), looks)?;
-            push_looks(alloc, here, low.get(), looks)?;
-            push_looks(alloc, here, high.get(), looks)
+            push_looks(alloc, at, keys, e.get(), looks)?;
+            push_looks(alloc, at, keys, low.get(), looks)?;
+            push_looks(alloc, at, keys, high.get(), looks)
         }
         Expr::InList(e, _, es) => {
-            push_looks(alloc, here, e.get(), looks)?;
-            push_each(alloc, here, es.as_slice(), looks)
+            push_looks(alloc, at, keys, e.get(), looks)?;
+            push_each(alloc, at, keys, es.as_slice(), looks)
         }
-        Expr::IsPresent(leaf, _) | Expr::Leaf(leaf) => push_leaf(alloc, here, leaf, looks),
+        Expr::IsPresent(leaf, _) | Expr::Leaf(leaf) => push_leaf(alloc, at, keys, leaf, looks),
         Expr::Sum(first, terms) => {
-            push_looks(alloc, here, first.get(), looks)?;
-            push_terms(alloc, here, terms.as_slice(), looks)
+            push_looks(alloc, at, keys, first.get(), looks)?;
+            push_terms(alloc, at, keys, terms.as_slice(), looks)
         }
         Expr::Prod(first, factors) => {
-            push_looks(alloc, here, first.get(), looks)?;
-            push_factors(alloc, here, factors.as_slice(), looks)
+            push_looks(alloc, at, keys, first.get(), looks)?;
+            push_factors(alloc, at, keys, factors.as_slice(), looks)
         }
         Expr::Lit(_) => Ok(()),
         Expr::Case(subject, arms, otherwise) => {
-            push_if_any(alloc, here, subject, looks)?;
-            push_arms(alloc, here, arms.as_slice(), looks)?;
-            push_if_any(alloc, here, otherwise, looks)
+            push_if_any(alloc, at, keys, subject, looks)?;
+            push_arms(alloc, at, keys, arms.as_slice(), looks)?;
+            push_if_any(alloc, at, keys, otherwise, looks)
         }
         Expr::PresentV { present, yes, no } => {
-            push_leaf(alloc, here, present, looks)?;
-            push_looks(alloc, here, yes.get(), looks)?;
-            push_looks(alloc, here, no.get(), looks)
+            push_leaf(alloc, at, keys, present, looks)?;
+            push_looks(alloc, at, keys, yes.get(), looks)?;
+            push_looks(alloc, at, keys, no.get(), looks)
         }
         Expr::PresentNnv {
             present,
@@ -67,87 +69,92 @@ pub fn push_looks(
             yes,
             no,
         } => {
-            push_leaf(alloc, here, present, looks)?;
-            push_leaf(alloc, here, not_null, looks)?;
-            push_looks(alloc, here, yes.get(), looks)?;
-            push_looks(alloc, here, no.get(), looks)
+            push_leaf(alloc, at, keys, present, looks)?;
+            push_leaf(alloc, at, keys, not_null, looks)?;
+            push_looks(alloc, at, keys, yes.get(), looks)?;
+            push_looks(alloc, at, keys, no.get(), looks)
         }
     }
 }
 
 // The looks of a part of CASE that may be left out.
 #[cycle(walk)]
-fn push_if_any(
+fn push_if_any<K: CellKeys>(
     alloc: Global,
-    here: &OrderedStandpoint<'_>,
+    at: &Standpoint<'_>,
+    keys: &K,
     e: &Option<Boxed<Expr>>,
     looks: &mut Items<Look>,
 ) -> Result<(), Memory>
-    ensures { OnOk result (looks.new ≡ looks.old ++ looks_where_any (site_of here.now.at.now) e.now) }
+    ensures { OnOk result (looks.new ≡ looks.old ++ looks_where_any (site_over at.now (K.set keys.now)) e.now) }
 {
     match e {
-        Some(e) => push_looks(alloc, here, e.get(), looks),
+        Some(e) => push_looks(alloc, at, keys, e.get(), looks),
         None => Ok(()),
     }
 }
 
 #[cycle(walk)]
-fn push_each(
+fn push_each<K: CellKeys>(
     alloc: Global,
-    here: &OrderedStandpoint<'_>,
+    at: &Standpoint<'_>,
+    keys: &K,
     es: &[Expr],
     looks: &mut Items<Look>,
 ) -> Result<(), Memory>
-    ensures { OnOk result (looks.new ≡ looks.old ++ flat_map (spec.looks_of (site_of here.now.at.now)) es.now) }
+    ensures { OnOk result (looks.new ≡ looks.old ++ flat_map (spec.looks_of (site_over at.now (K.set keys.now))) es.now) }
 {
     for e in es {
-        push_looks(alloc, here, e, looks)?;
+        push_looks(alloc, at, keys, e, looks)?;
     }
     Ok(())
 }
 
 #[cycle(walk)]
-fn push_terms(
+fn push_terms<K: CellKeys>(
     alloc: Global,
-    here: &OrderedStandpoint<'_>,
+    at: &Standpoint<'_>,
+    keys: &K,
     terms: &[BoundSum],
     looks: &mut Items<Look>,
 ) -> Result<(), Memory>
-    ensures { OnOk result (looks.new ≡ looks.old ++ flat_map (looks_in_term (site_of here.now.at.now)) terms.now) }
+    ensures { OnOk result (looks.new ≡ looks.old ++ flat_map (looks_in_term (site_over at.now (K.set keys.now))) terms.now) }
 {
     for term in terms {
-        push_looks(alloc, here, &term.e, looks)?;
+        push_looks(alloc, at, keys, &term.e, looks)?;
     }
     Ok(())
 }
 
 #[cycle(walk)]
-fn push_factors(
+fn push_factors<K: CellKeys>(
     alloc: Global,
-    here: &OrderedStandpoint<'_>,
+    at: &Standpoint<'_>,
+    keys: &K,
     factors: &[BoundProd],
     looks: &mut Items<Look>,
 ) -> Result<(), Memory>
-    ensures { OnOk result (looks.new ≡ looks.old ++ flat_map (looks_in_factor (site_of here.now.at.now)) factors.now) }
+    ensures { OnOk result (looks.new ≡ looks.old ++ flat_map (looks_in_factor (site_over at.now (K.set keys.now))) factors.now) }
 {
     for factor in factors {
-        push_looks(alloc, here, &factor.e, looks)?;
+        push_looks(alloc, at, keys, &factor.e, looks)?;
     }
     Ok(())
 }
 
 #[cycle(walk)]
-fn push_arms(
+fn push_arms<K: CellKeys>(
     alloc: Global,
-    here: &OrderedStandpoint<'_>,
+    at: &Standpoint<'_>,
+    keys: &K,
     arms: &[BoundArm],
     looks: &mut Items<Look>,
 ) -> Result<(), Memory>
-    ensures { OnOk result (looks.new ≡ looks.old ++ flat_map (looks_in_arm (site_of here.now.at.now)) arms.now) }
+    ensures { OnOk result (looks.new ≡ looks.old ++ flat_map (looks_in_arm (site_over at.now (K.set keys.now))) arms.now) }
 {
     for arm in arms {
-        push_looks(alloc, here, &arm.test, looks)?;
-        push_looks(alloc, here, &arm.value, looks)?;
+        push_looks(alloc, at, keys, &arm.test, looks)?;
+        push_looks(alloc, at, keys, &arm.value, looks)?;
     }
     Ok(())
 }

@@ -18,6 +18,12 @@ pub trait Worths {
         ensures exact { IfOk result (λ v. v ≡ worth self.old (cell_name key.now measure)) }
         ensures same { worth self.new ≡ worth self.old };
 
+    /// The same as `value`, for a cell that stands at `place` among the keys of its partition's cells. The place is a hint:
+    /// what is read does not depend on it.
+    fn value_at(&mut self, place: u32, key: &[Value], measure: u32) -> Result<Value, Memory>
+        ensures exact { IfOk result (λ v. v ≡ worth self.old (cell_name key.now measure)) }
+        ensures same { worth self.new ≡ worth self.old };
+
     /// A measure of the cell that `indices` name, where the source knows of it without the key that they name; `None` says
     /// nothing.
     fn next_value(

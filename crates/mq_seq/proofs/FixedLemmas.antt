@@ -1,17 +1,13 @@
 -- Left sides that are the same in every turn.
-use Rattle.std.proofs.Common.{◌≡◌, ℕ, List, [], ◌∷◌, true, Result, Ok, Err, Some, refl, sym, ap, ◌∙◌}
-use Rattle.std.specs.Prelude.{if◌then◌else◌}
+use Rattle.std.proofs.Common.{◌≡◌, ℕ, [], ◌∷◌, Result, Ok, Err, Some, refl, sym, ap, ◌∙◌}
 use Rattle.std.specs.Option.{option_map_or}
 use Rattle.mq_ir.specs.declared.query.Rule.{Rule}
-use Rattle.mq_ir.specs.declared.query.SingleLeft.{SingleLeft}
-use Rattle.mq_ir.specs.Keys.{Tuple, is_among}
 use Rattle.mq_ir.specs.Placed.{placed_fault}
 use Rattle.mq_ir.specs.Results.{◌>>=◌, each_in_turn, marked}
-use Rattle.mq_ir.specs.Targets.{Targets}
 use Rattle.mq_ir.specs.Unfolding.{Model, unfold_rule}
 use Rattle.mq_unfold.specs.LeftSides.{rule_of}
 use Rattle.mq_unfold.specs.declared.fixed.Fixed.{Fixed}
-use Rattle.mq_unfold.specs.FixedLefts.{IsFixed, NamesKey}
+use Rattle.mq_unfold.specs.FixedLefts.{IsFixed}
 use Rattle.mq_unfold.specs.SingleLefts.{lefts_of}
 use Rattle.mq_seq.specs.Steps.{State, acting, left_done, rule_done}
 
@@ -32,8 +28,3 @@ fixed_rule model turn number rule f s w e there =
     (ap (λ r. r >>= (λ lefts. each_in_turn (left_done (acting model number rule turn)) lefts s))
     (ap (λ n. lefts_of model turn n rule) (sym e) ∙ lefts_are model turn rule f w (ap (rule_of model.part.rules) e ∙ there))
     ∙ one_step (left_done (acting model number rule turn)) (left_done (acting model number rule turn) f.left s))
-
--- ---- its target, where the cell is there
-module _ (left : SingleLeft) (set : List Tuple) (key : Tuple) (names : NamesKey left.places key) (there : is_among set key ≡ true) where
-  abbrev itself : Targets
-  itself = record { cells = key ∷ []; created = [] }

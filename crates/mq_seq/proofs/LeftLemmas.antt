@@ -16,11 +16,11 @@ module _ (act : List Tuple → Act) (left : SingleLeft) (s : State) where
   found = targets left (act s.input).rule.mode (keys_of s.track.cells)
 
   abbrev there : State
-  there = created_in (act s.input).model found.created s
+  there = created_in found.created s
 
-  module _ (cells created : List Tuple) (now : State) (c : cells ≡ found.cells) (d : created ≡ found.created) (n : now ≡ created_in (act s.input).model created s) where
+  module _ (cells created : List Tuple) (now : State) (c : cells ≡ found.cells) (d : created ≡ found.created) (n : now ≡ created_in created s) where
     same : now ≡ there
-    same = n ∙ ap (λ l. created_in (act s.input).model l s) d
+    same = n ∙ ap (λ l. created_in l s) d
 
     judged : left_fault (act s.input) left (keys_of there.track.cells) found.cells ≡ left_fault (act now.input) left (keys_of now.track.cells) cells
     judged = λ i. left_fault (act (sym same i).input) left (keys_of (sym same i).track.cells) (sym c i)

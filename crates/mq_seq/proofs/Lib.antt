@@ -1,12 +1,11 @@
+mod CreatedLemmas
 mod FixedLemmas
-mod GridLemmas
 mod LeftLemmas
-mod MapLemmas
 mod MarkLemmas
 mod MeaningLemmas
 mod NoteLemmas
 mod PlaceLemmas
+mod ShownLemmas
 mod StepLemmas
 mod TurnLemmas
 mod UntilLemmas
-mod WidthLemmas

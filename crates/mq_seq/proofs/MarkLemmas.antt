@@ -1,22 +1,17 @@
 -- The keys that are marked among those that ascend.
-use Rattle.std.proofs.Common.{◌≡◌, ℕ, zero, suc, ◌+◌, ◌<◌, ◌≤◌, arith, List, [], ◌∷◌, ◌++◌, Bool, true, false, not, ◌||◌, cond, drop, take, get_or, length, map, replicate, Some, Ordering, Less, Equal, Greater, refl, sym, ap, subst, ◌∙◌}
+use Rattle.std.proofs.Common.{◌≡◌, ℕ, zero, suc, ◌+◌, ◌<◌, ◌≤◌, arith, List, [], ◌∷◌, Bool, true, false, not, ◌||◌, cond, get_or, length, replicate, Some, Ordering, Less, Equal, Greater, refl, sym, ap, subst, ◌∙◌}
 use Rattle.std.specs.Prelude.{if◌then◌else◌, slice_set}
-use Rattle.std.specs.List.{AllByRecursion, insert, zip}
+use Rattle.std.specs.List.{AllByRecursion, insert}
 use Rattle.std.specs.List.Sorted.{IsStrictlySortedBy}
 use Rattle.std.specs.Ordering.{is_eq, match_ordering}
-use Rattle.std.proofs.lemmas.List.{append-nil, append_assoc, drop_all, length-append, length-take-le, take_all, take_more}
 use Rattle.std.proofs.lemmas.Map.Keys.{sorted_head, sorted_tail}
 use Rattle.mq_values.specs.Order.{cmp_key}
 use Rattle.mq_values.specs.OrderTells.{key_itself, same_key}
-use Rattle.mq_ir.specs.declared.query.OutCell.{OutCell}
-use Rattle.mq_ir.specs.Iteration.{out_cell}
 use Rattle.mq_ir.specs.Keys.{Tuple, is_among, is_same}
 use Rattle.mq_dim_index.specs.Places.{is_there, place_of, with_key}
-use Rattle.mq_ir.specs.StepLaws.{next_item}
-use Rattle.mq_seq.specs.Marks.{marked_keys, row_of}
-use Rattle.mq_seq.proofs.MapLemmas.{none_after, stands}
+use Rattle.mq_seq.specs.Marks.{marked_keys}
 use Rattle.mq_seq.proofs.NoteLemmas.{turned}
-use Rattle.mq_seq.proofs.PlaceLemmas.{place_in, the_place}
+use Rattle.mq_seq.proofs.PlaceLemmas.{none_after, place_in, stands, the_place, with_there}
 
 -- what holds of all keys holds of the marked ones
 all_marked : (P : Tuple → Type 0) (ks : List Tuple) (ms : List Bool) → AllByRecursion P ks → AllByRecursion P (marked_keys ks ms)
@@ -88,98 +83,51 @@ none_among : (k : Tuple) (ks : List Tuple) → AllByRecursion (λ y. cmp_key k y
 none_among k [] a = refl
 none_among k (y ∷ ys) a = let first : is_same k y ≡ false = ap is_eq a.0 in let rest = none_among k ys a.1 in λ i. first i || rest i
 
--- whether a key before all of these cells was a target is nothing to them
-apart : (k : Tuple) (updated ks ms : List Tuple) → AllByRecursion (λ y. cmp_key k y ≡ Less) ks → map (out_cell (k ∷ updated)) (zip ks ms) ≡ map (out_cell updated) (zip ks ms)
-apart k updated [] ms a = refl
-apart k updated (y ∷ ks) [] a = refl
-apart k updated (y ∷ ks) (m ∷ ms) a =
-    let differs : is_same y k ≡ false = turned y k ∙ ap is_eq a.0 in
-    ap (λ b. out (b || is_among updated y) ∷ map (out_cell (k ∷ updated)) (zip ks ms)) differs ∙ ap (λ l. out (is_among updated y) ∷ l) (apart k updated ks ms a.1)
-  where
-    out : Bool → OutCell
-    out b = record { key = y; measures = m; updated = b }
+at_place : (P : Tuple → Type 0) (ks : List Tuple) (at : ℕ) (other : Tuple) → AllByRecursion P ks → at < length ks → P (get_or ks at other)
+at_place P [] at other a l = absurd (omega arith)
+at_place P (k ∷ ks) zero other a l = a.0
+at_place P (k ∷ ks) (suc at) other a l = at_place P ks at other a.1 (omega arith)
 
--- the cells as they are handed out are told by their marks
-pub rows_told : (ks ms : List Tuple) (marks : List Bool) → length marks ≡ length ks → IsStrictlySortedBy cmp_key ks → map row_of (zip (zip ks ms) marks) ≡ map (out_cell (marked_keys ks marks)) (zip ks ms)
-rows_told [] ms marks h s = refl
-rows_told (k ∷ ks) [] marks h s = refl
-rows_told (k ∷ ks) (m ∷ ms) [] h s = absurd (omega arith)
-rows_told (k ∷ ks) (m ∷ ms) (b ∷ marks) h s = by b (rows_told ks ms marks (omega arith) (sorted_tail cmp_key k ks s))
+-- the mark at a place tells whether the key there is marked
+pub mark_told : (ks : List Tuple) (ms : List Bool) (at : ℕ) (other : Tuple) (b : Bool) → length ms ≡ length ks → IsStrictlySortedBy cmp_key ks → at < length ks
+    → is_among (marked_keys ks ms) (get_or ks at other) ≡ get_or ms at b
+mark_told [] ms at other b h s l = absurd (omega arith)
+mark_told (k ∷ ks) [] at other b h s l = absurd (omega arith)
+mark_told (k ∷ ks) (m ∷ ms) zero other b h s l = by m
   where
     rest : List Tuple
-    rest = marked_keys ks marks
+    rest = marked_keys ks ms
 
-    before : AllByRecursion (λ y. cmp_key k y ≡ Less) ks
-    before = sorted_head cmp_key k ks s
+    by : (m : Bool) → is_among (if m then k ∷ rest else rest) k ≡ m
+    by true = ap (λ r. is_eq r || is_among rest k) (key_itself k)
+    by false = none_among k rest (all_marked (λ y. cmp_key k y ≡ Less) ks ms (sorted_head cmp_key k ks s))
+mark_told (k ∷ ks) (m ∷ ms) (suc at) other b h s l = by m (mark_told ks ms at other b (omega arith) (sorted_tail cmp_key k ks s) (omega arith))
+  where
+    rest : List Tuple
+    rest = marked_keys ks ms
 
-    out : Bool → OutCell
-    out b = record { key = k; measures = m; updated = b }
+    x : Tuple
+    x = get_or ks at other
 
-    by : (b : Bool) → map row_of (zip (zip ks ms) marks) ≡ map (out_cell rest) (zip ks ms)
-        → out b ∷ map row_of (zip (zip ks ms) marks) ≡ map (out_cell (if b then k ∷ rest else rest)) ((k, m) ∷ zip ks ms)
-    by true more =
-        let itself : is_same k k ≡ true = ap is_eq (key_itself k) in
-        ap (λ b. out (b || is_among rest k) ∷ map row_of (zip (zip ks ms) marks)) (sym itself) ∙ ap (λ l. out (is_among (k ∷ rest) k) ∷ l) (more ∙ sym (apart k rest ks ms before))
-    by false more =
-        let none : is_among rest k ≡ false = none_among k rest (all_marked (λ y. cmp_key k y ≡ Less) ks marks before) in
-        ap (λ b. out b ∷ map row_of (zip (zip ks ms) marks)) (sym none) ∙ ap (λ l. out (is_among rest k) ∷ l) more
+    differs : is_same x k ≡ false
+    differs = turned x k ∙ ap is_eq (at_place (λ y. cmp_key k y ≡ Less) ks at other (sorted_head cmp_key k ks s) (omega arith))
 
--- marks that are carried over from some keys to others, of which the first i are done
-pub record Carried (before : List Tuple) (marks : List Bool) (now : List Tuple) (at i : ℕ) (found : List Bool) : Type 0 where
-  pub count : length found ≡ i
-  pub same : marked_keys (take i now) found ++ marked_keys (drop at before) (drop at marks) ≡ marked_keys before marks
+    by : (m : Bool) → is_among rest x ≡ get_or ms at b → is_among (if m then k ∷ rest else rest) x ≡ get_or ms at b
+    by true more = ap (λ c. c || is_among rest x) differs ∙ more
+    by false more = more
 
-pub carry_start : (before : List Tuple) (marks : List Bool) (now : List Tuple) → Carried before marks now 0 0 []
-carry_start before marks now = record { count = refl; same = refl }
+-- marks that are kept where a key comes
+pub record MarksKept (ks : List Tuple) (ms : List Bool) (now : List Tuple) (more : List Bool) : Type 0 where
+  pub long : length more ≡ length now
+  pub same : marked_keys now more ≡ marked_keys ks ms
 
-one_more : (ks : List Tuple) (ms : List Bool) (k : Tuple) (b : Bool) → length ms ≡ length ks → marked_keys (ks ++ k ∷ []) (ms ++ b ∷ []) ≡ marked_keys ks ms ++ (if b then k ∷ [] else [])
-one_more [] [] k b h = refl
-one_more [] (c ∷ ms) k b h = absurd (omega arith)
-one_more (x ∷ ks) [] k b h = absurd (omega arith)
-one_more (x ∷ ks) (true ∷ ms) k b h = ap (λ l. x ∷ l) (one_more ks ms k b (omega arith))
-one_more (x ∷ ks) (false ∷ ms) k b h = one_more ks ms k b (omega arith)
-
-module _ (before : List Tuple) (marks : List Bool) (now : List Tuple) (at i : ℕ) (found : List Bool) where
-  taken : (key : Tuple) (b : Bool) → i < length now → key ≡ get_or now i key → length found ≡ i → marked_keys (take (i + 1) now) (found ++ b ∷ []) ≡ marked_keys (take i now) found ++ (if b then key ∷ [] else [])
-  taken key b l e count =
-      let one : take (i + 1) now ≡ take i now ++ key ∷ [] = take_more now i key l ∙ ap (λ k. take i now ++ k ∷ []) (sym e) in
-      let long : length found ≡ length (take i now) = count ∙ sym (length-take-le i now (omega (arith, l))) in
-      ap (λ ks. marked_keys ks (found ++ b ∷ [])) one ∙ one_more (take i now) found key b long
-
-  longer : (b : Bool) → length found ≡ i → length (found ++ b ∷ []) ≡ i + 1
-  longer b count = length-append found (b ∷ []) ∙ ap (λ n. n + 1) count
-
-  -- a key that is new is not marked
-  pub carry_new : (key : Tuple) → i < length now → key ≡ get_or now i key → Carried before marks now at i found → Carried before marks now at (i + 1) (found ++ false ∷ [])
-  carry_new key l e w = record {
-    count = longer false w.count;
-    same = ap (λ ks. ks ++ marked_keys (drop at before) (drop at marks)) (taken key false l e w.count ∙ append-nil (marked_keys (take i now) found)) ∙ w.same;
-  }
-
-  -- a key that was there keeps its mark
-  pub carry_kept : (key : Tuple) (b : Bool) → i < length now → key ≡ get_or now i key → length marks ≡ length before → at < length before → key ≡ get_or before at key → b ≡ get_or marks at b
-      → Carried before marks now at i found → Carried before marks now (at + 1) (i + 1) (found ++ b ∷ [])
-  carry_kept key b l e h below there is w = record {
-    count = longer b w.count;
-    same = ap (λ ks. ks ++ after) (taken key b l e w.count) ∙ parted_at b ∙ sym (ap (λ ks. done ++ ks) next) ∙ w.same;
-  }
-    where
-      done : List Tuple
-      done = marked_keys (take i now) found
-
-      after : List Tuple
-      after = marked_keys (drop (at + 1) before) (drop (at + 1) marks)
-
-      parted_at : (b : Bool) → (done ++ (if b then key ∷ [] else [])) ++ after ≡ done ++ (if b then key ∷ after else after)
-      parted_at true = append_assoc done (key ∷ []) after
-      parted_at false = ap (λ ks. ks ++ after) (append-nil done)
-
-      next : marked_keys (drop at before) (drop at marks) ≡ (if b then key ∷ after else after)
-      next = (λ j. marked_keys (next_item before at key below there j) (next_item marks at b (omega (arith, h, below)) is j))
-
-  pub carry_end : length now ≤ i → i ≤ length now → length before ≤ at → Carried before marks now at i found → marked_keys now found ≡ marked_keys before marks
-  carry_end h l done w =
-      sym (ap (λ ks. marked_keys ks found) (take_all i now h))
-      ∙ sym (append-nil (marked_keys (take i now) found))
-      ∙ sym (ap (λ ks. marked_keys (take i now) found ++ marked_keys ks (drop at marks)) (drop_all at before done))
-      ∙ w.same
+pub marks_kept : (key : Tuple) (ks : List Tuple) (ms : List Bool) (now : List Tuple) (more : List Bool) → IsStrictlySortedBy cmp_key ks → length ms ≡ length ks → now ≡ with_key ks key
+    → (length ms ≡ length now → more ≡ ms) → (is_there ks key ≡ false → length more ≡ length now) → (is_there ks key ≡ false → marked_keys now more ≡ marked_keys ks ms) → MarksKept ks ms now more
+marks_kept key ks ms now more s h e old long same = by (is_there ks key) refl
+  where
+    by : (b : Bool) → is_there ks key ≡ b → MarksKept ks ms now more
+    by false t = record { long = long t; same = same t }
+    by true t =
+        let is : now ≡ ks = e ∙ with_there key ks s t in
+        let kept : more ≡ ms = old (h ∙ ap length (sym is)) in
+        record { long = ap length kept ∙ h ∙ ap length (sym is); same = λ i. marked_keys (is i) (kept i) }

@@ -120,11 +120,10 @@ assign_cells t key m v = by (cell_at t.cells key)
     by None = refl
     by (Some measures) = refl
 
-pub create_tells : (model : Model) (t : Track) (created : List Tuple) (k : Tuple) → start_of (create model t created) k ≡ start_of t k
-create_tells model t [] k = refl
-create_tells model t (key ∷ created) k =
-    create_tells model (put t key (replicate (length model.part.measures) Null)) created k ∙ put_tells t key (replicate (length model.part.measures) Null) k
+pub create_tells : (count : ℕ) (t : Track) (created : List Tuple) (k : Tuple) → start_of (create count t created) k ≡ start_of t k
+create_tells count t [] k = refl
+create_tells count t (key ∷ created) k = create_tells count (put t key (replicate count Null)) created k ∙ put_tells t key (replicate count Null) k
 
-pub create_cells : (model : Model) (t : Track) (created : List Tuple) → (create model t created).cells ≡ with_created model t.cells created
+pub create_cells : (model : Model) (t : Track) (created : List Tuple) → (create (length model.part.measures) t created).cells ≡ with_created model t.cells created
 create_cells model t [] = refl
 create_cells model t (key ∷ created) = create_cells model (put t key (replicate (length model.part.measures) Null)) created

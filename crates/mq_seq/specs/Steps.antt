@@ -22,13 +22,14 @@ use Rattle.mq_unfold.specs.SingleLefts.{lefts_of}
 use Rattle.mq_seq.specs.Tracks.{Track, assign, begun_track, create, measure_from}
 use Rattle.mq_seq.specs.declared.acting.Acting.{Acting}
 
--- the keys of the input, the cells as the rules have left them with what is noted of them, those that were a target, and
--- how many values a key has
+-- the keys of the input, the cells as the rules have left them with what is noted of them, those that were a target, how
+-- many values a key has, and how many measures a cell that is created
 pub record State : Type 0 where
   pub input : List Tuple
   pub track : Track
   pub updated : List Tuple
   pub width : ℕ
+  pub count : ℕ
 
 -- a rule at work over an input
 abbrev pub acting : Model → ℕ → Rule → ℕ → List Tuple → Act
@@ -56,14 +57,14 @@ looks_past act set found target = list_any (is_of_other found act.rule.measure t
 abbrev pub first_past : Act → List Tuple → List Tuple → List Tuple → Option Tuple
 first_past act set found = find (looks_past act set found)
 
-abbrev pub created_in : Model → List Tuple → State → State
-created_in model created s = record s { track = create model s.track created }
+abbrev pub created_in : List Tuple → State → State
+created_in created s = record s { track = create s.count s.track created }
 
 -- one single left side
 abbrev pub left_done : (List Tuple → Act) → SingleLeft → State → Result State Placed
 left_done act left s =
     let found = targets left (act s.input).rule.mode (keys_of s.track.cells) in
-    let now = created_in (act s.input).model found.created s in
+    let now = created_in found.created s in
     option_map_or Err (left_fault (act s.input) left (keys_of now.track.cells) found.cells) (each_in_turn (target_done act) found.cells now)
 
 -- one rule

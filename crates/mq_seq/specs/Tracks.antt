@@ -1,5 +1,5 @@
 -- Cells that change, beside what stood at each before it changed.
-use Rattle.std.specs.Prelude.{ℕ, length, replicate, slice_set, List, [], Option, Some, None, is_some, if◌then◌else◌, unwrap_or, slice_index_or}
+use Rattle.std.specs.Prelude.{ℕ, replicate, slice_set, List, [], Option, Some, None, is_some, if◌then◌else◌, unwrap_or, slice_index_or}
 use Rattle.std.specs.BTreeMap.{insert_entry}
 use Rattle.std.specs.List.{fold}
 use Rattle.std.specs.Map.{lookup}
@@ -10,7 +10,6 @@ use Rattle.mq_values.specs.declared.value.Value.TheVariants.{Null}
 use Rattle.mq_ir.specs.Keys.{Tuple, is_same}
 use Rattle.mq_ir.specs.Partitions.{Cells, cell_at, with_cell}
 use Rattle.mq_ir.specs.Reads.{Measures}
-use Rattle.mq_ir.specs.Unfolding.{Model}
 
 -- for each cell that changed, its measures as they were before, where there was such a cell
 abbrev pub Firsts : Type 0
@@ -49,9 +48,9 @@ begun_track t = record t { firsts = Some [] }
 abbrev pub put : Track → Tuple → Tuple → Track
 put t key measures = record { cells = with_cell t.cells key measures; firsts = noted_if_any t.firsts key t.cells }
 
--- created cells have null in every measure
-abbrev pub create : Model → Track → List Tuple → Track
-create model = fold (λ t key. put t key (replicate (length model.part.measures) Null))
+-- created cells have null in each of so many measures
+abbrev pub create : ℕ → Track → List Tuple → Track
+create count = fold (λ t key. put t key (replicate count Null))
 
 -- one measure of a cell that is there set to v
 abbrev pub assign : Track → Tuple → ℕ → Value → Track

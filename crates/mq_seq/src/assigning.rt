@@ -1,7 +1,9 @@
 //! The targets of a single left side, assigned in order.
-ghost use Rattle.std.specs.Prelude.{◌≡◌, IfOk};
+ghost use Rattle.std.specs.Prelude.{◌≡◌, true, Some, IfOk};
+ghost use Rattle.std.specs.List.{All};
 ghost use Rattle.std.specs.Map.{keys_of};
 ghost use Rattle.mq_values.specs.Answers.{Gives};
+ghost use Rattle.mq_dim_index.specs.Places.{is_there, place_of};
 ghost use Rattle.mq_ir.specs.Reads.{measure_at, right_value};
 ghost use Rattle.mq_ir.specs.Results.{each_in_turn};
 ghost use Rattle.mq_ir.specs.Sequential.{site_of};
@@ -9,54 +11,48 @@ ghost use Rattle.mq_seq.specs.Steps.{act_in, target_done, target_value};
 
 use crate::acting::Acting;
 use crate::grid::Grid;
-use crate::lent_values::LentValues;
 use mq_ir::{PlacedFault, kind_of};
-use mq_refs::right_value_over;
+use mq_refs::value_over as right_side_over;
 use mq_values::{Fail, Key, Value, ValueFault};
 use std::alloc::Global;
 
-/// The cells after a rule has assigned these targets one after another, or the first fault. The first of them is looked for
-/// at the place `near` before all others.
+/// The cells after a rule has assigned these targets, which are all there, one after another, or the first fault. The first
+/// of them is looked for at the place `near` before all others.
 pub fn assign_all(
     alloc: Global,
     act: &Acting<'_>,
     targets: &[Key],
-    near: usize,
+    near: u32,
     grid: Grid,
 ) -> Result<Grid, Fail<PlacedFault>>
+    requires { All (λ target. is_there (keys_of grid.track.cells) target ≡ true) targets.now }
     ensures exact { Gives result (each_in_turn (target_done (act_in act.now)) targets.now grid) }
     ensures width { IfOk result (λ g. g.width ≡ grid.width) }
 {
     let mut grid = grid;
     let mut near = near;
     'targets: for target in targets {
-        let at = likely_place(&grid, target, near);
+        let at = grid.place_near(target, near);
         grid = assign_one(alloc, act, target, at, grid)?;
         near = at.saturating_add(1);
     }
     Ok(grid)
 }
 
-// Where a target stands, looked for at `near` first. It tells where its right side is to look for cells first, and nothing
-// that is proved rests on it.
-fn likely_place(grid: &Grid, target: &Key, near: usize) -> usize {
-    match grid.cells().place_near(target.as_slice(), near) {
-        Some(at) => at,
-        None => near,
-    }
-}
-
+// One target, which stands at the place `at`.
 fn assign_one(
     alloc: Global,
     act: &Acting<'_>,
     target: &Key,
-    at: usize,
+    at: u32,
     grid: Grid,
 ) -> Result<Grid, Fail<PlacedFault>>
+    requires { place_of (keys_of grid.track.cells) target.now ≡ Some at }
     ensures exact { Gives result (target_done (act_in act.now) target.now grid) }
     ensures width { IfOk result (λ g. g.width ≡ grid.width) }
+    ensures same_keys { IfOk result (λ g. keys_of g.track.cells ≡ keys_of grid.track.cells) }
 {
-    let v = value_for(alloc, act, target, at, &grid)?;
+    let v = value_for(alloc, act, target, &grid)?;
     Ok(grid.assigned(alloc, target, at, act.rule.measure, v)?)
 }
 
@@ -65,12 +61,11 @@ fn value_for(
     alloc: Global,
     act: &Acting<'_>,
     target: &Key,
-    at: usize,
     grid: &Grid,
 ) -> Result<Value, Fail<PlacedFault>>
     ensures { Gives result (target_value (act_in act.now grid.now.input) target.now grid.now) }
 {
-    match value_over(alloc, act, target, at, grid) {
+    match value_over(alloc, act, target, grid) {
         Ok(v) => Ok(v),
         Err(Fail::Cause(fault)) => Err(Fail::Cause(PlacedFault::new(
             act.number,
@@ -86,24 +81,19 @@ fn value_over(
     alloc: Global,
     act: &Acting<'_>,
     target: &Key,
-    at: usize,
     grid: &Grid,
 ) -> Result<Value, Fail<ValueFault>>
     ensures { Gives result (right_value (site_of (act_in act.now grid.now.input) (keys_of grid.now.track.cells) target.now)
         grid.now.input (measure_at grid.now.track.cells) act.now.rule.now) }
 {
-    let lent = LentValues {
-        cells: grid.cells(),
-        near: at,
-    };
-    right_value_over(
+    right_side_over(
         alloc,
         act.rule,
         act.model,
         target,
         act.turn,
-        grid.shape(),
-        act.order(),
-        lent,
+        grid.store(),
+        act.refs,
+        grid.lent(),
     )
 }

@@ -1,302 +1,241 @@
 //! The cells of a partition as the rules have left them.
-ghost use Rattle.std.specs.Prelude.{◌≡◌, [], None, false, length, map, IfOk};
-ghost use Rattle.std.specs.List.{zip};
+ghost use Rattle.std.specs.Prelude.{◌≡◌, [], ◌∷◌, None, Some, true, false, length, map, slice_index_or, IfOk};
+ghost use Rattle.std.specs.List.{All};
 ghost use Rattle.std.specs.List.Sorted.{IsStrictlySortedBy};
 ghost use Rattle.std.specs.Map.{keys_of};
+ghost use Rattle.std.specs.Option.{option_map_or};
 ghost use Rattle.mq_values.specs.Order.{cmp_key};
-ghost use Rattle.mq_ir.specs.Iteration.{out_cell as spec_out_cell};
-ghost use Rattle.mq_ir.specs.Unfolding.{model_of};
-ghost use Rattle.mq_dim_index.specs.Places.{is_there, with_key};
+ghost use Rattle.mq_values.specs.declared.value.Value.TheVariants as value;
+ghost use Rattle.mq_ir.specs.Iteration.{out_cell};
 ghost use Rattle.mq_ir.specs.Ready.{HaveLength};
-ghost use Rattle.mq_seq.specs.Marks.{marked_keys, row_of};
+ghost use Rattle.mq_ir.specs.Reads.{measure_at};
+ghost use Rattle.mq_cells.specs.IndexedStores.{base_in, keys_in, value_in};
+ghost use Rattle.mq_cells.specs.Stores.{cell_name};
+ghost use Rattle.mq_dim_index.specs.Places.{is_there, place_of, with_key};
+ghost use Rattle.mq_seq.specs.Marks.{IsFresh};
 ghost use Rattle.mq_seq.specs.Steps.{begun, created_in};
-ghost use Rattle.mq_seq.specs.Tracks.{assign};
+ghost use Rattle.mq_seq.specs.Tracks.{assign, measure_from, noted_if_any};
 
-use crate::cell_map::{CellMap, keys_in};
-use crate::changing::with_created;
-use crate::tracked::Tracked;
+use crate::marked_cells::MarkedCells;
+use crate::noted::Noted;
+use mq_cells::{IndexedCells, LentStore};
 use mq_dim_index::DimIndex;
-use mq_ir::{Model as Lent, OutCell, PartShape};
+use mq_ir::{OutCell, PartInput};
 use mq_values::{Items, Key, Memory, Value};
 use std::alloc::Global;
 use std::marker::Model;
 
-/// The cells of a partition as the rules have left them: their keys stand in a shape too, and beside these a mark for each
-/// that was a target. Contracts see it as `State` of specs/Steps.
+/// The cells of a partition as the rules have left them, with a mark for each that was a target, and, where it is asked for,
+/// what stood when a turn began. Contracts see it as `State` of specs/Steps.
 #[derive(Drop)]
 pub struct Grid {
-    cells: Tracked,
-    shape: PartShape,
-    marks: Vec<bool>,
+    cells: MarkedCells,
+    noted: Option<Noted>,
     width: usize,
 }
 
 impl Model for Grid {
-    ghost use Rattle.std.specs.Prelude.{◌≡◌, length};
-    ghost use Rattle.std.specs.List.Sorted.{IsStrictlySortedBy};
     ghost use Rattle.std.specs.Map.{keys_of};
-    ghost use Rattle.mq_values.specs.Order.{cmp_key};
     ghost use Rattle.mq_ir.specs.Ready.{HaveLength};
-    ghost use Rattle.mq_seq.specs.Marks.{marked_keys};
     ghost use Rattle.mq_seq.specs.Steps.{State};
 
     ghost Value = { State };
 
-    ghost view = { λ g. record { input = g.shape.base; track = g.cells; updated = marked_keys g.shape.cells g.marks.items; width = g.width } };
+    ghost view = { λ g. record {
+      input = g.cells.input;
+      track = record { cells = g.cells.cells; firsts = g.noted };
+      updated = g.cells.updated;
+      width = g.width;
+      count = g.cells.count;
+    } };
 
-    ghost invariant = { λ g. (g.shape.cells ≡ keys_of g.cells.cells)
-        × HaveLength g.width (keys_of g.cells.cells) × IsStrictlySortedBy cmp_key g.shape.base
-        × (length g.marks.items ≡ length g.shape.cells) };
+    ghost invariant = { λ g. HaveLength g.width (keys_of g.cells.cells) };
 }
 
 impl Grid {
-    /// These cells, which are the input.
-    pub fn new(alloc: Global, width: usize, cells: CellMap) -> Result<Grid, Memory>
-        requires { HaveLength width (keys_of cells) }
-        ensures { IfOk result (λ g. g ≡ record { input = keys_of cells; track = record { cells = cells; firsts = None }; updated = []; width = width }) }
+    /// The cells of a partition's input, whose keys have `width` values each. `count` is how many measures a cell has that is
+    /// created.
+    pub fn new(alloc: Global, width: usize, count: usize, p: &PartInput) -> Result<Grid, Memory>
+        requires wide { HaveLength width (keys_of p.now.cells) }
+        requires ascend { IsStrictlySortedBy cmp_key (keys_of p.now.cells) }
+        ensures { IfOk result (λ g. g ≡ record {
+          input = keys_of p.now.cells;
+          track = record { cells = p.now.cells; firsts = None };
+          updated = [];
+          width = width;
+          count = count;
+        }) }
     {
-        let base = keys_in(alloc, &cells)?;
-        let marks = vec![in alloc; false; cells.len()]?;
-        seated(alloc, Tracked::new(cells), base, marks, width)
+        Ok(Grid {
+            cells: MarkedCells::new(alloc, count, p)?,
+            noted: None,
+            width,
+        })
     }
 
-    /// The keys of the input, and those of the cells; both ascend.
-    pub fn shape(&self) -> &PartShape
-        ensures base { result.now.base ≡ self.now.input }
-        ensures cells { result.now.cells ≡ keys_of self.now.track.cells }
-        ensures base_ascends { IsStrictlySortedBy cmp_key result.now.base }
-        ensures cells_ascend { IsStrictlySortedBy cmp_key result.now.cells }
+    /// The cells by their keys.
+    pub fn store(&self) -> &IndexedCells
+        ensures keys { keys_in result.now ≡ keys_of self.now.track.cells }
+        ensures base { base_in result.now ≡ self.now.input }
     {
-        // The cells know that their keys ascend.
-        let _keys = self.cells.cells().keys();
-        &self.shape
+        self.cells.store()
     }
 
-    /// The keys of the cells.
+    /// The index of the cells by their keys.
     pub fn index(&self) -> &DimIndex
         ensures keys { result.now ≡ keys_of self.now.track.cells }
         ensures wide { HaveLength self.now.width result.now }
     {
-        self.cells.cells().index()
+        self.cells.index()
     }
 
-    /// The cells.
-    pub fn cells(&self) -> &CellMap
-        ensures { result.now ≡ self.now.track.cells }
+    /// The values of all measures, lent.
+    pub fn lent(&self) -> LentStore<'_>
+        ensures { value_in result ≡ measure_at self.now.track.cells }
     {
-        self.cells.cells()
+        self.cells.lent()
     }
 
-    /// The cells, and what stood when the turn began.
-    pub fn tracked(&self) -> &Tracked
-        ensures { result.now ≡ self.now.track }
+    /// The place at which a cell that is there stands. It is looked for at `near` and beside it before all other places.
+    pub fn place_near(&self, key: &Key, near: u32) -> u32
+        requires { is_there (keys_of self.now.track.cells) key.now ≡ true }
+        ensures { place_of (keys_of self.now.track.cells) key.now ≡ Some result }
     {
-        &self.cells
+        match self.cells.index().place_near(key.as_slice(), near) {
+            Some(at) => at,
+            None => unreachable!(),
+        }
+    }
+
+    /// Measure `m` of the cell at `key` when the turn began, or null where there was none.
+    pub fn value_before(&self, alloc: Global, key: &[Value], m: u32) -> Result<Value, Memory>
+        ensures { IfOk result (λ v. v ≡ measure_from self.now.track (cell_name key.now m)) }
+    {
+        let Some(noted) = &self.noted else {
+            return Ok(Value::Null);
+        };
+        let own = Key::new(alloc, Items::from_vec(key.to_vec(alloc)?))?;
+        match noted.get(&own) {
+            Some(first) => first_value(first, m),
+            None => self.cells.value(key, m),
+        }
     }
 
     /// The same cells, where a turn begins.
     pub fn begun(self, alloc: Global) -> Grid
         ensures { result ≡ begun self }
     {
-        let Grid {
-            cells,
-            shape,
-            marks,
-            width,
-        } = self;
         Grid {
-            cells: cells.begun(alloc),
-            shape,
-            marks,
-            width,
+            cells: self.cells,
+            noted: Some(Noted::new(alloc)),
+            width: self.width,
         }
     }
 
-    /// The cells with those that are created, which have as many values as the others.
-    pub fn with_created(self, alloc: Global, m: &Lent<'_>, created: &[Key]) -> Result<Grid, Memory>
-        requires { HaveLength self.width created.now }
-        ensures { IfOk result (λ g. g ≡ created_in (model_of m.now) created.now self) }
+    /// The cells with those that are created, which were not there and have as many values as the others.
+    pub fn with_created(self, alloc: Global, created: &[Key]) -> Result<Grid, Memory>
+        requires wide { HaveLength self.width created.now }
+        requires new { All (λ key. is_there (keys_of self.track.cells) key ≡ false) created.now }
+        ensures { IfOk result (λ g. g ≡ created_in created.now self) }
     {
-        if created.is_empty() {
-            return Ok(self);
+        let mut grid = self;
+        'created: for key in created {
+            grid = grid.with_one(alloc, key)?;
         }
+        Ok(grid)
+    }
+
+    // The cells with one that is created.
+    fn with_one(self, alloc: Global, key: &Key) -> Result<Grid, Memory>
+        requires wide { length key.now ≡ self.width }
+        requires fresh { IsFresh self.count self.track.cells key.now }
+        ensures { IfOk result (λ g. g ≡ created_in (key.now ∷ []) self) }
+    {
         let Grid {
             cells,
-            shape,
-            marks,
+            noted,
             width,
         } = self;
-        if created.len() == 1
-            && cells
-                .cells()
-                .index()
-                .stored(created[0].as_slice())
-                .is_none()
-        {
-            let cells = with_created(alloc, m, cells, created)?;
-            let (keys, marks) = with_one(cells.cells().index(), shape.cells, marks, &created[0])?;
-            return Ok(Grid {
-                cells,
-                shape: PartShape {
-                    base: shape.base,
-                    cells: keys,
-                    assigned: shape.assigned,
-                },
-                marks,
-                width,
-            });
-        }
-        let cells = with_created(alloc, m, cells, created)?;
-        let marks = marks_among(alloc, shape.cells.as_slice(), &marks, cells.cells().keys())?;
-        seated(alloc, cells, shape.base, marks, width)
+        let noted = noted_with(alloc, noted, key, &cells)?;
+        let cells = cells.with(key.copy()?)?;
+        Ok(Grid {
+            cells,
+            noted,
+            width,
+        })
     }
 
-    /// The cells with measure `m` of the target at `key` set to `v`. The target is looked for at `near` first.
+    /// The cells with measure `m` of the target at `key`, which stands at the place `at`, set to `v`.
     pub fn assigned(
         self,
         alloc: Global,
         key: &Key,
-        near: usize,
+        at: u32,
         m: u32,
         v: Value,
     ) -> Result<Grid, Memory>
-        ensures { IfOk result (λ g. g ≡ record self { track = assign self.track key.now m v; updated = with_key self.updated key.now }) }
+        requires { place_of (keys_of self.track.cells) key.now ≡ Some at }
+        ensures set { IfOk result (λ g. g ≡ record self { track = assign self.track key.now m v; updated = with_key self.updated key.now }) }
+        ensures same_keys { IfOk result (λ g. keys_of g.track.cells ≡ keys_of self.track.cells) }
     {
         let Grid {
             cells,
-            shape,
-            mut marks,
+            noted,
             width,
         } = self;
-        // The cells know that their keys ascend.
-        let _keys = cells.cells().keys();
-        let Some(at) = cells.cells().place_near(key.as_slice(), near) else {
-            // A target is always a cell.
-            return Err(Memory);
-        };
-        let cells = cells.assigned_at(alloc, key, at, m, v)?;
-        marks[at] = true;
+        // The index knows that its keys ascend.
+        let _index = cells.index();
+        let noted = noted_with(alloc, noted, key, &cells)?;
+        let cells = cells.assigned(key, at, m, v)?;
         Ok(Grid {
             cells,
-            shape,
-            marks,
+            noted,
             width,
         })
     }
 
     /// The cells as they are handed out, each with whether it was a target.
     pub fn rows(&self, alloc: Global) -> Result<Items<OutCell>, Memory>
-        ensures { IfOk result (λ rows. rows ≡ map (spec_out_cell self.now.updated) self.now.track.cells) }
+        ensures { IfOk result (λ rows. rows ≡ map (out_cell self.now.updated) self.now.track.cells) }
     {
-        let cells = self.cells.cells();
-        out_cells(alloc, cells.keys(), cells.measures(), &self.marks)
+        self.cells.rows(alloc)
     }
 }
 
-// The grid over these cells.
-fn seated(
+// What is noted, with the cell at `key` before it changes.
+fn noted_with(
     alloc: Global,
-    cells: Tracked,
-    base: Items<Key>,
-    marks: Vec<bool>,
-    width: usize,
-) -> Result<Grid, Memory>
-    requires wide { HaveLength width (keys_of cells.cells) }
-    requires ascends { IsStrictlySortedBy cmp_key base }
-    requires one_each { length marks.items ≡ length (keys_of cells.cells) }
-    ensures { IfOk result (λ g. g ≡ record { input = base; track = cells; updated = marked_keys (keys_of cells.cells) marks.items; width = width }) }
-{
-    let keys = keys_in(alloc, cells.cells())?;
-    Ok(Grid {
-        cells,
-        shape: PartShape {
-            base,
-            cells: keys,
-            assigned: Items::new(alloc),
-        },
-        marks,
-        width,
-    })
-}
-
-// The keys with one more, which the index has already and which is not marked. Most left sides create one cell at most, and
-// then it is put at its place; where there are several, all keys are listed anew.
-fn with_one(
-    index: &DimIndex,
-    keys: Items<Key>,
-    marks: Vec<bool>,
+    noted: Option<Noted>,
     key: &Key,
-) -> Result<(Items<Key>, Vec<bool>), Memory>
-    requires one_more { index.now ≡ with_key keys key.now }
-    requires new { is_there keys key.now ≡ false }
-    requires one_each { length marks.items ≡ length keys }
-    ensures keys { IfOk result (λ r. r.0 ≡ index.now) }
-    ensures one_each { IfOk result (λ r. length r.1.items ≡ length index.now) }
-    ensures same { IfOk result (λ r. marked_keys index.now r.1.items ≡ marked_keys keys marks.items) }
+    cells: &MarkedCells,
+) -> Result<Option<Noted>, Memory>
+    ensures { IfOk result (λ more. more ≡ noted_if_any noted key.now cells.now.cells) }
 {
-    let Some(at) = index.find(key.as_slice()) else {
-        return Err(Memory);
-    };
-    let at = at as usize;
-    let mut keys = keys.into_vec();
-    let mut marks = marks;
-    if at > keys.len() {
-        return Err(Memory);
-    }
-    keys.insert(at, key.copy()?)?;
-    marks.insert(at, false)?;
-    Ok((Items::from_vec(keys), marks))
-}
-
-// The marks of the keys in `now`: each of the keys in `before` keeps its mark, and the others have none.
-fn marks_among(
-    alloc: Global,
-    before: &[Key],
-    marks: &[bool],
-    now: &[Key],
-) -> Result<Vec<bool>, Memory>
-    requires { length marks.now ≡ length before.now }
-    ensures one_each { IfOk result (λ found. length found.items ≡ length now.now) }
-    ensures same { IfOk result (λ found. marked_keys now.now found.items ≡ marked_keys before.now marks.now) }
-{
-    let mut found = Vec::with_capacity(alloc, now.len())?;
-    let mut at = 0usize;
-    'keys: for key in now {
-        if at < before.len() && before[at].cmp(key).is_eq() {
-            found.push(marks[at])?;
-            at += 1;
-        } else {
-            found.push(false)?;
+    match noted {
+        Some(mut firsts) => {
+            firsts.note(alloc, key, cells)?;
+            Ok(Some(firsts))
         }
+        None => Ok(None),
     }
-    if at < before.len() {
-        // Both ascend, and each of the earlier keys is there still.
-        return Err(Memory);
-    }
-    Ok(found)
 }
 
-fn out_cells(
-    alloc: Global,
-    keys: &[Key],
-    measures: &[Key],
-    marks: &[bool],
-) -> Result<Items<OutCell>, Memory>
-    ensures { IfOk result (λ rows. rows ≡ map row_of (zip (zip keys.now measures.now) marks.now)) }
+// A measure of a cell as it was first, or null where there was no such cell.
+fn first_value(first: &Option<Key>, m: u32) -> Result<Value, Memory>
+    ensures { IfOk result (λ v. v ≡ option_map_or (λ measures. slice_index_or measures m value.Null) first.now value.Null) }
 {
-    let mut rows = Items::with_room(alloc, keys.len());
-    'cells: for ((key, measures), mark) in keys.iter().zip(measures).zip(marks) {
-        rows.push(out_cell(key, measures, *mark)?)?;
+    match first {
+        Some(measures) => measure_in(measures, m),
+        None => Ok(Value::Null),
     }
-    Ok(rows)
 }
 
-fn out_cell(key: &Key, measures: &Key, updated: bool) -> Result<OutCell, Memory>
-    ensures { IfOk result (λ cell. cell ≡ row_of ((key.now, measures.now), updated)) }
+// A measure of these, or null where there is none.
+fn measure_in(measures: &Key, m: u32) -> Result<Value, Memory>
+    ensures { IfOk result (λ v. v ≡ slice_index_or measures.now m value.Null) }
 {
-    Ok(OutCell {
-        key: key.copy()?,
-        measures: measures.copy()?,
-        updated,
-    })
+    match measures.as_slice().get(m as usize) {
+        Some(v) => v.copy(),
+        None => Ok(Value::Null),
+    }
 }

@@ -7,7 +7,7 @@ ghost use Rattle.mq_ir.specs.Keys.{is_among};
 ghost use Rattle.mq_ir.specs.Sequential as spec;
 ghost use Rattle.mq_ir.specs.Targets.{targets as spec_targets};
 ghost use Rattle.mq_ir.specs.Ready.{HavePlaces};
-ghost use Rattle.mq_dim_index.specs.Places.{place_of as spec_place_of};
+ghost use Rattle.mq_dim_index.specs.Places.{is_there, place_of as spec_place_of};
 ghost use Rattle.mq_unfold.specs.FixedLefts.{NamesKey};
 ghost use Rattle.mq_seq.specs.Steps.{act_in, left_done};
 
@@ -51,7 +51,7 @@ fn act_one(
     ensures width { IfOk result (λ g. g.width ≡ grid.width) }
 {
     let found = targets(alloc, left, act.rule.mode, grid.index())?;
-    let grid = grid.with_created(alloc, act.model, found.created.as_slice())?;
+    let grid = grid.with_created(alloc, found.created.as_slice())?;
     match left_fault(alloc, act, left, found.cells.as_slice(), &grid)? {
         Some(fault) => Err(Fail::Cause(fault)),
         None => assign_all(alloc, act, found.cells.as_slice(), 0, grid),
@@ -82,9 +82,10 @@ pub fn act_fixed(
 }
 
 // The place of the cell of this key, where that is seen to be the only target, and to be there.
-fn own_place(fixed: &Fixed, mode: Mode, grid: &Grid) -> Option<usize>
+fn own_place(fixed: &Fixed, mode: Mode, grid: &Grid) -> Option<u32>
     requires { NamesKey fixed.now.left.places fixed.now.key }
-    ensures { is_some result ≡ true → spec_targets fixed.now.left mode (keys_of grid.now.track.cells) ≡ record { cells = fixed.now.key ∷ []; created = [] } }
+    ensures alone { is_some result ≡ true → spec_targets fixed.now.left mode (keys_of grid.now.track.cells) ≡ record { cells = fixed.now.key ∷ []; created = [] } }
+    ensures there { is_some result ≡ true → is_there (keys_of grid.now.track.cells) fixed.now.key ≡ true }
 {
     match mode {
         Mode::Update => None,
@@ -94,14 +95,11 @@ fn own_place(fixed: &Fixed, mode: Mode, grid: &Grid) -> Option<usize>
 }
 
 // The place at which the cell of a key stands, where it is there.
-fn place_of(grid: &Grid, key: &Key) -> Option<usize>
+fn place_of(grid: &Grid, key: &Key) -> Option<u32>
     ensures place { result ≡ spec_place_of (keys_of grid.now.track.cells) key.now }
     ensures there { is_some result ≡ is_among (keys_of grid.now.track.cells) key.now }
 {
-    match grid.index().find(key.as_slice()) {
-        Some(at) => Some(at as usize),
-        None => None,
-    }
+    grid.index().find(key.as_slice())
 }
 
 // Why a single left side may not act on these targets, over the cells with those that it creates.

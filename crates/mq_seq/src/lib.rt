@@ -5,17 +5,14 @@
 
 mod acting;
 mod assigning;
-mod cell_map;
-mod changing;
 mod grid;
 mod lefts;
-mod lent_values;
+mod marked_cells;
 mod noted;
 mod outcomes;
 mod prepared;
 mod rules;
 mod self_order;
-mod tracked;
 mod turns;
 mod until;
 

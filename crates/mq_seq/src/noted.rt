@@ -1,9 +1,9 @@
 //! What stood at cells before they changed.
-ghost use Rattle.std.specs.Prelude.{◌≡◌, [], IfOk, OnOk, OnErr};
+ghost use Rattle.std.specs.Prelude.{◌≡◌, [], OnOk, OnErr};
 ghost use Rattle.std.specs.Option.{option_copied};
 ghost use Rattle.mq_seq.specs.Tracks.{first_at, noted};
 
-use crate::cell_map::CellMap;
+use crate::marked_cells::MarkedCells;
 use mq_values::{Key, Memory};
 use std::alloc::Global;
 use std::collections::BTreeMap;
@@ -42,25 +42,15 @@ impl Noted {
     }
 
     /// Notes the cell at `key` before it changes, where it has not changed before. After `Memory` all is as before.
-    pub fn note(&mut self, key: &Key, cells: &CellMap) -> Result<(), Memory>
-        ensures ok { OnOk result (self.new ≡ noted self.old key.now cells.now) }
+    pub fn note(&mut self, alloc: Global, key: &Key, cells: &MarkedCells) -> Result<(), Memory>
+        ensures ok { OnOk result (self.new ≡ noted self.old key.now cells.now.cells) }
         ensures err { OnErr result (self.new ≡ self.old) }
     {
         if self.get(key).is_some() {
             return Ok(());
         }
-        let first = copy_of(cells.get(key))?;
+        let first = cells.measures(alloc, key)?;
         self.firsts.insert(key.copy()?, first)?;
         Ok(())
-    }
-}
-
-// These measures once more, where there are any.
-fn copy_of(measures: Option<&Key>) -> Result<Option<Key>, Memory>
-    ensures { IfOk result (λ copy. copy ≡ option_copied measures.entry) }
-{
-    match measures {
-        Some(measures) => Ok(Some(measures.copy()?)),
-        None => Ok(None),
     }
 }

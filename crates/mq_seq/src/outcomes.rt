@@ -11,11 +11,9 @@ ghost use Rattle.mq_ir.specs.Unfolding.{model_of};
 ghost use Rattle.mq_ir.specs.Ready.{HaveLength, IsReady, LeftsHavePlaces};
 ghost use Rattle.mq_seq.specs.Outcomes.{rows_left, rows_over};
 
-use crate::cell_map::map_of;
 use crate::grid::Grid;
 use crate::turns::take_turns;
 use mq_ir::{Model, OutCell, PartInput, PartResult, PlacedFault};
-use mq_refs::arrays_ascend;
 use mq_values::{Fail, FaultKind, Items, Key, MAX_CELLS_OF_PARTITION, Memory};
 use std::alloc::Global;
 
@@ -47,23 +45,22 @@ fn cells_left(
     if p.cells.len() > MAX_CELLS_OF_PARTITION {
         return Err(fault_of(Key::empty(), FaultKind::TooManyCells));
     }
-    cells_after(alloc, m, p.cells.as_slice())
+    cells_after(alloc, m, p)
 }
 
-// The cells that the rules leave of these.
+// The cells that the rules leave of those of the input.
 fn cells_after(
     alloc: Global,
     m: &Model<'_>,
-    cells: &[(Key, Key)],
+    p: &PartInput,
 ) -> Result<Items<OutCell>, Fail<PlacedFault>>
     requires lefts { LeftsHavePlaces m.now.part.now }
-    requires wide { HaveLength (length m.now.part.now.dims) (keys_of cells.now) }
-    requires ascend { IsStrictlySortedBy cmp_key (keys_of cells.now) }
-    ensures { Gives result (rows_over (model_of m.now) cells.now) }
+    requires wide { HaveLength (length m.now.part.now.dims) (keys_of p.now.cells) }
+    requires ascend { IsStrictlySortedBy cmp_key (keys_of p.now.cells) }
+    ensures { Gives result (rows_over (model_of m.now) p.now.cells) }
 {
-    let cells = map_of(alloc, cells)?;
-    let grid = Grid::new(alloc, m.part.dims.len(), cells)?;
-    let grid = take_turns(alloc, m, arrays_ascend(m.refs), grid)?;
+    let grid = Grid::new(alloc, m.part.dims.len(), m.part.measures.len(), p)?;
+    let grid = take_turns(alloc, m, grid)?;
     Ok(grid.rows(alloc)?)
 }
 

@@ -5,16 +5,16 @@ ghost use Rattle.mq_ir.specs.Ready.{LeftsHavePlaces};
 ghost use Rattle.mq_unfold.specs.FixedLefts.{AreFixed, IsFixed};
 
 use mq_ir::Model;
+use mq_refs::RefsOrder;
 use mq_unfold::{Fixed, fixed_left};
 use mq_values::Memory;
 use std::alloc::Global;
 
-/// What is found of a model once: whether the cells of every reference are known to ascend, and, for its rules in text
-/// order, the left sides that are known to be the same in every turn. Definitions see that it is so by `IsPrepared`
-/// (specs/Known).
+/// What is found of a model once: what is known of the order of the references' cells, and, for its rules in text order, the
+/// left sides that are known to be the same in every turn. Definitions see that it is so by `IsPrepared` (specs/Known).
 #[derive(Clone, Copy)]
 pub struct Prepared<'a> {
-    pub refs_ascend: bool,
+    pub refs: RefsOrder,
     pub fixed: &'a [Option<Fixed>],
 }
 

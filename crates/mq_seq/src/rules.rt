@@ -65,7 +65,7 @@ fn act_rule(
         number,
         rule,
         turn,
-        refs_ascend: prepared.refs_ascend,
+        refs: prepared.refs,
     };
     match fixed_at(prepared.fixed, number) {
         Some(fixed) => act_fixed(alloc, &act, fixed, grid),

@@ -11,7 +11,7 @@ ghost use Rattle.mq_seq.specs.Steps.{act_in, first_past, looks_past as spec_look
 use crate::acting::Acting;
 use crate::grid::Grid;
 use mq_ir::{Look, SingleLeft, SinglePlace};
-use mq_refs::looks_in;
+use mq_refs::looks_over;
 use mq_values::{Key, KeySet, Memory, set_of};
 use std::alloc::Global;
 
@@ -78,15 +78,7 @@ fn looks_past(
     requires { HasKeysOf targets.now set.now }
     ensures { IfOk result (λ past. past ≡ spec_looks_past (act_in act.now grid.now.input) (keys_of grid.now.track.cells) targets.now target.now) }
 {
-    let looks = looks_in(
-        alloc,
-        act.rule,
-        act.model,
-        target,
-        act.turn,
-        grid.shape(),
-        act.order(),
-    )?;
+    let looks = looks_over(alloc, act.rule, act.model, target, act.turn, grid.store())?;
     Ok(any_of_other(looks.as_slice(), set, act.rule.measure, target))
 }
 

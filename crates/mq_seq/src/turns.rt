@@ -5,7 +5,7 @@ ghost use Rattle.mq_values.specs.Answers.{Gives};
 ghost use Rattle.mq_ir.specs.Iteration.{turn_count};
 ghost use Rattle.mq_ir.specs.Unfolding.{model_of};
 ghost use Rattle.mq_ir.specs.Ready.{LeftsHavePlaces};
-ghost use Rattle.mq_seq.specs.Known.{IsPrepared, RefsInOrder};
+ghost use Rattle.mq_seq.specs.Known.{IsPrepared};
 ghost use Rattle.mq_seq.specs.Steps.{turn_with, turns_done, until_in};
 
 use crate::grid::Grid;
@@ -13,26 +13,21 @@ use crate::prepared::{Prepared, fixed_lefts};
 use crate::rules::act_rules;
 use crate::until::until_true;
 use mq_ir::{Expr, Model, PlacedFault};
+use mq_refs::refs_order;
 use mq_values::Fail;
 use std::alloc::Global;
 
 /// The cells after the turns, or the first fault: without ITERATE there is one, with it so many at most, and the one
 /// after which UNTIL is true is the last (docs/MEANING.md, "Iteration").
-pub fn take_turns(
-    alloc: Global,
-    m: &Model<'_>,
-    refs_ascend: bool,
-    grid: Grid,
-) -> Result<Grid, Fail<PlacedFault>>
+pub fn take_turns(alloc: Global, m: &Model<'_>, grid: Grid) -> Result<Grid, Fail<PlacedFault>>
     requires lefts { LeftsHavePlaces m.now.part.now }
     requires wide { grid.width ≡ length m.now.part.now.dims }
-    requires refs { RefsInOrder refs_ascend m.now }
     ensures { Gives result (turns_done (model_of m.now) 0 (turn_count (model_of m.now)) grid) }
 {
     let count = count_of(m);
     let fixed = fixed_lefts(alloc, m, count)?;
     let prepared = Prepared {
-        refs_ascend,
+        refs: refs_order(m),
         fixed: fixed.as_slice(),
     };
     let mut grid = grid;
@@ -103,6 +98,6 @@ fn take_until(
     ensures width { IfOk result (λ r. r.0.width ≡ grid.width) }
 {
     let next = act_rules(alloc, m, prepared, turn, grid.begun(alloc))?;
-    let last = until_true(alloc, m, turn, &next, e)?;
+    let last = until_true(alloc, m, prepared.refs, turn, &next, e)?;
     Ok((next, last))
 }

@@ -32,7 +32,7 @@ use Rattle.mq_ir.specs.FitsStatement.{inserts_fit, is_row_of, may_hold, value_fi
 use Rattle.mq_ir.specs.Items.{row_leaves}
 use Rattle.mq_ir.specs.Keys.{Tuple}
 use Rattle.mq_ir.specs.Results.{◌>>=◌, each, marked}
-use Rattle.mq_tables.specs.Drafts.{asked_for_null, column_found, set_value}
+use Rattle.mq_tables.specs.Columns.{asked_for_null, column_found, set_value}
 use Rattle.mq_tables.proofs.SetLemmas.{set_of}
 
 pub and_left : (a b : Bool) → (a && b) ≡ true → a ≡ true

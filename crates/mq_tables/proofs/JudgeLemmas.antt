@@ -11,11 +11,10 @@ use Rattle.mq_ir.specs.Changes.{rows_added, rows_changed, size_fault, table_of}
 use Rattle.mq_ir.specs.Results.{◌>>=◌}
 use Rattle.mq_ir.specs.Statement.{staged, unless_refused}
 use Rattle.mq_ir.specs.Tables.{Table, Tables, table_at}
-use Rattle.mq_tables.specs.declared.drafts.Draft.{Draft}
-use Rattle.mq_tables.specs.Drafts.{drafted, keyed}
 use Rattle.mq_tables.specs.Held.{RowsFit}
+use Rattle.mq_tables.specs.Pending.{step_of}
 use Rattle.mq_tables.specs.Staging.{ChangeFits, Staged, StandsOn, origins_of, staging}
-use Rattle.mq_tables.proofs.StageLemmas.{from_draft, in_order}
+use Rattle.mq_tables.proofs.StageLemmas.{in_order}
 use Rattle.mq_tables.proofs.StandLemmas.{staging_stands, within_limit}
 
 -- what a judgement said
@@ -34,13 +33,12 @@ no_table tables change h =
     Ok (record { table = t.name; had = length t.rows; rows = changed.0; counted = changed.1; origins = origins }))))) h
 
 of_table : (tables : Tables) (change : Change) (t : Table) → table_at tables (table_of change) ≡ Some t
-    → staging tables change ≡ unless_refused (size_fault tables t (rows_added change)) (drafted t change >>= keyed t)
+    → staging tables change ≡ unless_refused (size_fault tables t (rows_added change)) (step_of t change)
 of_table tables change t h =
     ap (λ o. ok_or o (refused.UnknownName (table_of change)) >>= (λ (t : Table).
     staged tables t change >>= (λ changed. origins_of t change >>= (λ origins.
     Ok (record { table = t.name; had = length t.rows; rows = changed.0; counted = changed.1; origins = origins }))))) h
     ∙ in_order (size_fault tables t (rows_added change)) t (rows_changed t change) (origins_of t change)
-    ∙ ap (unless_refused (size_fault tables t (rows_added change))) (from_draft t change)
 
 -- a change whose size is no refusal adds rows within the limit
 pub sized : (tables seen : Tables) (change : Change) (t : Table) (added : ℕ) (u : Unit {0}) → seen ≡ tables → added ≡ rows_added change → unless_refused (size_fault seen t added) (Ok tt) ≡ Ok u
@@ -59,18 +57,13 @@ pub size_refused : (tables seen : Tables) (change : Change) (name : List ℕ) (t
     → added ≡ rows_added change → ◌≡◌ {A = Result (Unit {0}) Refused} (unless_refused (size_fault seen t added) (Ok tt)) (Err e) → staging tables change ≡ Err e
 size_refused tables seen change name t added e n h q a s =
     of_table tables change t (ap (table_at tables) (sym n) ∙ h)
-    ∙ ap (λ o. unless_refused o (drafted t change >>= keyed t))
+    ∙ ap (λ o. unless_refused o (step_of t change))
     (ap (λ (ts : Tables). size_fault ts t (rows_added change)) (sym q) ∙ ap (size_fault seen t) (sym a) ∙ judged_some (size_fault seen t added) e s)
 
 pub after_size : (tables : Tables) (change : Change) (name : List ℕ) (t : Table) → name ≡ table_of change → table_at tables name ≡ Some t → size_fault tables t (rows_added change) ≡ None
-    → staging tables change ≡ (drafted t change >>= keyed t)
+    → staging tables change ≡ step_of t change
 after_size tables change name t n h s =
-    of_table tables change t (ap (table_at tables) (sym n) ∙ h) ∙ ap (λ o. unless_refused o (drafted t change >>= keyed t)) s
-
--- a draft is what it comes to once its keys are judged
-pub after_draft : (tables : Tables) (change : Change) (name : List ℕ) (t : Table) (draft : Draft) → name ≡ table_of change → table_at tables name ≡ Some t
-    → size_fault tables t (rows_added change) ≡ None → drafted t change ≡ Ok draft → staging tables change ≡ keyed t draft
-after_draft tables change name t draft n h z d = after_size tables change name t n h z ∙ ap (λ r. r >>= keyed t) d
+    of_table tables change t (ap (table_at tables) (sym n) ∙ h) ∙ ap (λ o. unless_refused o (step_of t change)) s
 
 -- what comes of a change stands on the tables
 pub gives_stands : (tables : Tables) (change : Change) (r : Result Staged (Fail Refused)) → Gives r (staging tables change) → RowsFit tables → ChangeFits tables change → IfOk r (StandsOn tables)

@@ -1,9 +1,8 @@
 -- Keys that are kept in runs, and new keys behind them.
-use Rattle.std.proofs.Common.{◌≡◌, ℕ, ◌+◌, ◌<◌, ◌≤◌, List, [], ◌∷◌, ◌++◌, Bool, true, false, not, ◌||◌, length, map, take, drop, get_or, Some, refl, sym, ap, ◌∙◌}
+use Rattle.std.proofs.Common.{◌≡◌, ℕ, ◌+◌, ◌<◌, List, ◌∷◌, ◌++◌, Bool, true, false, not, ◌||◌, length, map, drop, get_or, Some, refl, sym, ap, ◌∙◌}
 use Rattle.std.specs.Prelude.{if◌then◌else◌}
 use Rattle.std.specs.BTreeSet.{insert_key}
 use Rattle.std.proofs.lemmas.Grind.{flat_map-append}
-use Rattle.std.proofs.lemmas.List.{take-append-drop}
 use Rattle.std.proofs.lemmas.List.Folds.{list_any-append}
 use Rattle.mq_values.specs.Order.{cmp_key}
 use Rattle.mq_ir.specs.declared.statement.Schema.{Schema}
@@ -44,28 +43,6 @@ joining_key some others there after left rest key copy e c a j q =
     ∙ sym (moved (is_same q key) (is_among rest q) (is_among there q))
     ∙ sym (ap (λ l. is_among l q || is_among there q) e)
     ∙ j q
-
--- the runs that stay, and what the others come to with new keys
-pub own_with : (runs stay : List (List Tuple)) (n : ℕ) (keys own all : List Tuple) → stay ≡ take n runs → HoldsBoth (all_keys (drop n runs)) keys own → all_keys runs ≡ all → HoldsBoth keys all (all_keys stay ++ own)
-own_with runs stay n keys own all e b h q =
-    ap (λ l. is_among (all_keys l ++ own) q) e
-    ∙ among_both (all_keys (take n runs)) own q
-    ∙ ap (λ t. s || t) (b q)
-    ∙ turned s d (is_among keys q)
-    ∙ ap (λ t. is_among keys q || t) (sym (among_both (all_keys (take n runs)) (all_keys (drop n runs)) q) ∙ ap (λ l. is_among l q) (sym (all_behind (take n runs) (drop n runs)) ∙ ap all_keys (take-append-drop n runs) ∙ h))
-  where
-    s : Bool
-    s = is_among (all_keys (take n runs)) q
-
-    d : Bool
-    d = is_among (all_keys (drop n runs)) q
-
-    turned : (a b c : Bool) → (a || (b || c)) ≡ (c || (a || b))
-    turned true b true = refl
-    turned true b false = refl
-    turned false true true = refl
-    turned false true false = refl
-    turned false false c = sym (or_false c)
 
 -- ---- keys are put to those that nobody else holds
 pub own_put : (before own new after keys : List Tuple) → HoldsBoth new own after → ((q : Tuple) → is_among new q ≡ is_among keys q)

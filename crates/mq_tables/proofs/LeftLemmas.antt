@@ -1,5 +1,5 @@
 -- Rows of which some are gone: those that are left come together at the front.
-use Rattle.std.proofs.Common.{◌≡◌, ℕ, ◌+◌, ◌<◌, ◌≤◌, List, [], ◌∷◌, ◌++◌, Bool, true, false, length, map, take, drop, get_or, set, Result, Ok, Err, refl, sym, ap, ◌∙◌, arith, ◌⊎◌, inl, inr}
+use Rattle.std.proofs.Common.{◌≡◌, ℕ, ◌+◌, ◌<◌, ◌≤◌, List, [], ◌∷◌, ◌++◌, Bool, true, false, length, map, take, drop, get_or, set, Result, Ok, Err, refl, sym, ap, ◌∙◌, arith, length-append, ◌⊎◌, inl, inr}
 use Rattle.std.specs.Prelude.{if◌then◌else◌}
 use Rattle.std.specs.List.{SwappedAt, enumerate_from}
 use Rattle.std.proofs.lemmas.Bool.{cases_lt}
@@ -9,9 +9,10 @@ use Rattle.mq_ir.specs.declared.statement.Schema.{Schema}
 use Rattle.mq_ir.specs.Changes.{Visited, row_key, visited_as}
 use Rattle.mq_ir.specs.Keys.{Tuple}
 use Rattle.mq_ir.specs.Results.{◌>>=◌, each}
-use Rattle.mq_tables.specs.InPlace.{gone, items_left}
-use Rattle.mq_tables.proofs.VisitLemmas.{chosen_push, chosen_same}
-use Rattle.mq_tables.proofs.Walks.{Numbered, number_next, number_end, number_fault}
+use Rattle.mq_tables.specs.InPlace.{items_left}
+use Rattle.mq_tables.specs.Visits.{flags_of, gone, taken}
+use Rattle.mq_tables.proofs.VisitLemmas.{chosen_push, chosen_same, none_taken, taken_push}
+use Rattle.mq_tables.proofs.Walks.{Numbered, number_start, number_next, number_end, number_fault}
 
 left_push : {A : Type 0} (rows : List A) (gone : List Bool) (row : A) (g : Bool) → length gone ≡ length rows → items_left (rows ++ row ∷ []) (gone ++ g ∷ []) ≡ items_left rows gone ++ (if g then [] else row ∷ [])
 left_push [] [] row true h = refl
@@ -20,6 +21,12 @@ left_push [] (g ∷ gone) row f h = absurd (cc)
 left_push (r ∷ rows) [] row g h = absurd (cc)
 left_push (r ∷ rows) (true ∷ gone) row g h = left_push rows gone row g (omega (arith, h))
 left_push (r ∷ rows) (false ∷ gone) row g h = ap (λ l. r ∷ l) (left_push rows gone row g (omega (arith, h)))
+
+pub left_front : {A : Type 0} (items : List A) (gone : List Bool) → items_left items (take (length items) gone) ≡ items_left items gone
+left_front [] gone = refl
+left_front (x ∷ items) [] = refl
+left_front (x ∷ items) (true ∷ gone) = left_front items gone
+left_front (x ∷ items) (false ∷ gone) = ap (λ l. x ∷ l) (left_front items gone)
 
 -- the first `at` rows were looked at, and those of them that are left stand in the first `kept` places; the others are as they were
 pub record Leaving {A : Type 0} (rows : List A) (gone : List Bool) (now : List A) (kept at : ℕ) : Type 0 where
@@ -98,41 +105,52 @@ module _ {A : Type 0} (rows : List A) (gone : List Bool) (told : length gone ≡
 
 -- ---- rows that DELETE visits as true
 module _ (schema : Schema) (f : ℕ × Tuple → Result Visited Refused) (xs : List Tuple) where
-  -- the first i rows were visited, and it is told which of them as true, and the keys of these
-  pub record Taking (i : ℕ) (flags : List Bool) (keys : List Tuple) : Type 0 where
+  -- the first i rows were visited, and it is told which of them as true, the keys of these, and these with their places
+  pub record Taking (i : ℕ) (flags : List Bool) (keys : List Tuple) (rows : List (ℕ × Tuple)) : Type 0 where
     pub visited : List Visited
     pub walk : Numbered f xs i visited
-    pub flags_are : flags ≡ map (λ (row : Visited). row.1) visited
+    pub count : length visited ≡ i
+    pub flags_are : flags ≡ flags_of visited
     pub keys_are : keys ≡ map (row_key schema) (visited_as true visited)
+    pub rows_are : rows ≡ taken xs visited
 
-  module _ (i : ℕ) (flags after : List Bool) (keys : List Tuple) (x : Tuple) (h : i < length xs) (e : x ≡ get_or xs i x) (t : Taking i flags keys) where
-    next : (b : Bool) (more : List Tuple) → f (i + 1, x) ≡ Ok (x, b) → after ≡ flags ++ b ∷ [] → more ≡ map (row_key schema) (visited_as true (t.visited ++ (x, b) ∷ [])) → Taking (i + 1) after more
-    next b more g a k =
+  pub taking_start : (flags : List Bool) (keys : List Tuple) (rows : List (ℕ × Tuple)) → flags ≡ [] → keys ≡ [] → rows ≡ [] → Taking 0 flags keys rows
+  taking_start flags keys rows a k r = record { visited = []; walk = number_start f xs [] refl; count = refl; flags_are = a; keys_are = k; rows_are = r ∙ sym (none_taken xs) }
+
+  module _ (i : ℕ) (flags after : List Bool) (keys : List Tuple) (rows : List (ℕ × Tuple)) (x : Tuple) (h : i < length xs) (e : x ≡ get_or xs i x) (t : Taking i flags keys rows) where
+    next : (b : Bool) (more : List Tuple) (gone : List (ℕ × Tuple)) → f (i + 1, x) ≡ Ok (x, b) → after ≡ flags ++ b ∷ []
+        → more ≡ map (row_key schema) (visited_as true (t.visited ++ (x, b) ∷ [])) → gone ≡ rows ++ (if b then (i, x) ∷ [] else []) → Taking (i + 1) after more gone
+    next b more gone g a k r =
         let vs = t.visited in
         record {
           visited = vs ++ (x, b) ∷ [];
           walk = number_next f xs i vs (vs ++ (x, b) ∷ []) x (x, b) h e g refl t.walk;
+          count = length-append vs ((x, b) ∷ []) ∙ (let c = t.count in omega (arith, c));
           flags_are = a ∙ ap (λ l. l ++ b ∷ []) t.flags_are ∙ sym (map_push (λ (row : Visited). row.1) vs (x, b));
           keys_are = k;
+          rows_are = r ∙ ap (λ l. l ++ (if b then (i, x) ∷ [] else [])) t.rows_are ∙ sym (taken_push xs vs (x, b) i x t.count h e);
         }
 
-    pub taking_gone : (more : List Tuple) (key : Tuple) → f (i + 1, x) ≡ Ok (x, true) → after ≡ flags ++ true ∷ [] → key ≡ row_key schema x → more ≡ keys ++ key ∷ [] → Taking (i + 1) after more
-    taking_gone more key g a k m =
-        next true more g a
+    pub taking_gone : (more : List Tuple) (key : Tuple) (gone : List (ℕ × Tuple)) → f (i + 1, x) ≡ Ok (x, true) → after ≡ flags ++ true ∷ [] → key ≡ row_key schema x
+        → more ≡ keys ++ key ∷ [] → gone ≡ rows ++ (i, x) ∷ [] → Taking (i + 1) after more gone
+    taking_gone more key gone g a k m r =
+        next true more gone g a
         (m
         ∙ ap (λ (l : List Tuple). l ++ key ∷ []) t.keys_are
         ∙ ap (λ (q : Tuple). map (row_key schema) (visited_as true t.visited) ++ q ∷ []) k
-        ∙ sym (ap (map (row_key schema)) (chosen_push t.visited x) ∙ map_push (row_key schema) (visited_as true t.visited) x))
+        ∙ sym (ap (map (row_key schema)) (chosen_push t.visited x) ∙ map_push (row_key schema) (visited_as true t.visited) x)) r
 
-    pub taking_left : f (i + 1, x) ≡ Ok (x, false) → after ≡ flags ++ false ∷ [] → Taking (i + 1) after keys
-    taking_left g a = next false keys g a (t.keys_are ∙ sym (ap (map (row_key schema)) (chosen_same t.visited x)))
+    pub taking_left : f (i + 1, x) ≡ Ok (x, false) → after ≡ flags ++ false ∷ [] → Taking (i + 1) after keys rows
+    taking_left g a = next false keys rows g a (t.keys_are ∙ sym (ap (map (row_key schema)) (chosen_same t.visited x))) (sym (append-nil rows))
 
-  pub taking_fault : (i : ℕ) (flags : List Bool) (keys : List Tuple) (x : Tuple) (fault : Refused) → i < length xs → x ≡ get_or xs i x → f (i + 1, x) ≡ Err fault → Taking i flags keys
-      → (each f (enumerate_from 1 xs) >>= (λ visited. Ok (gone schema visited))) ≡ Err fault
-  taking_fault i flags keys x fault h e g t = ap (λ r. r >>= (λ visited. Ok (gone schema visited))) (number_fault f xs i t.visited x fault h e g t.walk)
+  pub taking_fault : (i : ℕ) (flags : List Bool) (keys : List Tuple) (rows : List (ℕ × Tuple)) (x : Tuple) (fault : Refused) → i < length xs → x ≡ get_or xs i x → f (i + 1, x) ≡ Err fault
+      → Taking i flags keys rows → (each f (enumerate_from 1 xs) >>= (λ visited. Ok (gone schema xs visited))) ≡ Err fault
+  taking_fault i flags keys rows x fault h e g t = ap (λ r. r >>= (λ visited. Ok (gone schema xs visited))) (number_fault f xs i t.visited x fault h e g t.walk)
 
-  pub taking_end : (i : ℕ) (flags : List Bool) (keys : List Tuple) → length xs ≤ i → Taking i flags keys → (each f (enumerate_from 1 xs) >>= (λ visited. Ok (gone schema visited))) ≡ Ok (record { flags = flags; keys = keys })
-  taking_end i flags keys h t =
-      ap (λ r. r >>= (λ visited. Ok (gone schema visited))) (number_end f xs i t.visited h t.walk)
-      ∙ ap (λ l. Ok (record { flags = l; keys = map (row_key schema) (visited_as true t.visited) })) (sym t.flags_are)
-      ∙ ap (λ l. Ok (record { flags = flags; keys = l })) (sym t.keys_are)
+  pub taking_end : (i : ℕ) (flags : List Bool) (keys : List Tuple) (rows : List (ℕ × Tuple)) → length xs ≤ i → Taking i flags keys rows
+      → (each f (enumerate_from 1 xs) >>= (λ visited. Ok (gone schema xs visited))) ≡ Ok (record { flags = flags; keys = keys; rows = rows })
+  taking_end i flags keys rows h t =
+      ap (λ r. r >>= (λ visited. Ok (gone schema xs visited))) (number_end f xs i t.visited h t.walk)
+      ∙ ap (λ l. Ok (record { flags = l; keys = map (row_key schema) (visited_as true t.visited); rows = taken xs t.visited })) (sym t.flags_are)
+      ∙ ap (λ l. Ok (record { flags = flags; keys = l; rows = taken xs t.visited })) (sym t.keys_are)
+      ∙ ap (λ l. Ok (record { flags = flags; keys = keys; rows = l })) (sym t.rows_are)

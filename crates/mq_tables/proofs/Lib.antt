@@ -1,8 +1,10 @@
 pub mod AppliedLemmas
-pub mod ApplyLemmas
 pub mod AscendingLemmas
+pub mod ChangingLemmas
 pub mod FitLemmas
 pub mod HeldLemmas
+pub mod HeldStandLemmas
+pub mod HoldLemmas
 pub mod JudgeLemmas
 pub mod KeyLemmas
 pub mod KeyOrderLemmas
@@ -10,9 +12,10 @@ pub mod KeyedLemmas
 pub mod LeftLemmas
 pub mod LoseLemmas
 pub mod MarkLemmas
+pub mod NoteLemmas
 pub mod OldPlaceLemmas
-pub mod OriginLemmas
 pub mod OwnLemmas
+pub mod PendingLemmas
 pub mod PutLemmas
 pub mod RemovalLemmas
 pub mod SetLemmas

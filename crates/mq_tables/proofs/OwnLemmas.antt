@@ -1,5 +1,5 @@
 -- Keys that nobody else holds, in two parts.
-use Rattle.std.proofs.Common.{◌≡◌, List, [], ◌∷◌, ◌++◌, Bool, true, false, not, ◌&&◌, ◌||◌, refl, sym, ap, ◌∙◌}
+use Rattle.std.proofs.Common.{◌≡◌, List, ◌++◌, Bool, true, false, not, ◌||◌, refl, sym, ap, ◌∙◌}
 use Rattle.mq_ir.specs.Keys.{Tuple, is_among, is_same}
 use Rattle.mq_tables.specs.KeyOrder.{HoldsBoth, PutsTo}
 use Rattle.mq_tables.proofs.KeyOrderLemmas.{among_both, or_false}

@@ -8,9 +8,10 @@ use Rattle.mq_values.specs.declared.faults.Refused.{Refused}
 use Rattle.mq_ir.specs.Changes.{Visited}
 use Rattle.mq_ir.specs.Keys.{Tuple}
 use Rattle.mq_ir.specs.Results.{◌>>=◌, each}
-use Rattle.mq_tables.specs.InPlace.{if_true, put_at, replaced}
-use Rattle.mq_tables.proofs.VisitLemmas.{enumerate_push}
-use Rattle.mq_tables.proofs.Walks.{Numbered, number_next, number_end, number_fault}
+use Rattle.mq_tables.specs.InPlace.{put_at}
+use Rattle.mq_tables.specs.Visits.{found, if_true, replaced, taken}
+use Rattle.mq_tables.proofs.VisitLemmas.{enumerate_push, none_taken, taken_push}
+use Rattle.mq_tables.proofs.Walks.{Numbered, number_start, number_next, number_end, number_fault}
 
 put_before : (puts : List (ℕ × Tuple)) (put : ℕ × Tuple) (rows : List Tuple) → put_at (puts ++ put ∷ []) rows ≡ put_at puts (slice_set rows put.0 put.1)
 put_before [] put rows = refl
@@ -41,59 +42,70 @@ replaced_push vs v n e =
 
 module _ (f : ℕ × Tuple → Result Visited Refused) (xs : List Tuple) where
   -- the first i rows were visited, and those that were visited as true are told with their places
-  pub record Replacing (i : ℕ) (puts : List (ℕ × Tuple)) : Type 0 where
+  pub record Replacing (i : ℕ) (puts were : List (ℕ × Tuple)) : Type 0 where
     pub visited : List Visited
     pub walk : Numbered f xs i visited
     pub count : length visited ≡ i
     pub puts_are : puts ≡ replaced visited
+    pub were_are : were ≡ taken xs visited
+
+  pub replacing_start : (puts were : List (ℕ × Tuple)) → puts ≡ [] → were ≡ [] → Replacing 0 puts were
+  replacing_start puts were p w = record { visited = []; walk = number_start f xs [] refl; count = refl; puts_are = p; were_are = w ∙ sym (none_taken xs) }
 
   -- what a visit comes to, where only a row that is visited as true is told
   abbrev told : ℕ × Tuple → Result (Option Tuple) Refused
   told row = f row >>= (λ v. Ok (if_true v))
 
-  module _ (i : ℕ) (puts : List (ℕ × Tuple)) (x : Tuple) (h : i < length xs) (e : x ≡ get_or xs i x) (r : Replacing i puts) where
-    next : (after : List (ℕ × Tuple)) (y : Tuple) (b : Bool) → f (i + 1, x) ≡ Ok (y, b) → after ≡ puts ++ (if b then (i, y) ∷ [] else []) → Replacing (i + 1) after
-    next after y b g a =
+  module _ (i : ℕ) (puts were : List (ℕ × Tuple)) (x : Tuple) (h : i < length xs) (e : x ≡ get_or xs i x) (r : Replacing i puts were) where
+    next : (after stood : List (ℕ × Tuple)) (y : Tuple) (b : Bool) → f (i + 1, x) ≡ Ok (y, b)
+        → after ≡ puts ++ (if b then (i, y) ∷ [] else []) → stood ≡ were ++ (if b then (i, x) ∷ [] else []) → Replacing (i + 1) after stood
+    next after stood y b g a s =
         let vs = r.visited in
         record {
           visited = vs ++ (y, b) ∷ [];
           walk = number_next f xs i vs (vs ++ (y, b) ∷ []) x (y, b) h e g refl r.walk;
           count = length-append vs ((y, b) ∷ []) ∙ (let c = r.count in omega (arith, c));
           puts_are = a ∙ ap (λ l. l ++ (if b then (i, y) ∷ [] else [])) r.puts_are ∙ sym (replaced_push vs (y, b) i r.count);
+          were_are = s ∙ ap (λ l. l ++ (if b then (i, x) ∷ [] else [])) r.were_are ∙ sym (taken_push xs vs (y, b) i x r.count h e);
         }
 
-    pub replacing_left : f (i + 1, x) ≡ Ok (x, false) → Replacing (i + 1) puts
-    replacing_left g = next puts x false g (sym (append-nil puts))
+    pub replacing_left : f (i + 1, x) ≡ Ok (x, false) → Replacing (i + 1) puts were
+    replacing_left g = next puts were x false g (sym (append-nil puts)) (sym (append-nil were))
 
-    pub replacing_some : (after : List (ℕ × Tuple)) (row : Tuple) → told (i + 1, x) ≡ Ok (Some row) → after ≡ puts ++ (i, row) ∷ [] → Replacing (i + 1) after
-    replacing_some after row g a = by (f (i + 1, x)) refl g
+    pub replacing_some : (after stood : List (ℕ × Tuple)) (row : Tuple) → told (i + 1, x) ≡ Ok (Some row) → after ≡ puts ++ (i, row) ∷ [] → stood ≡ were ++ (i, x) ∷ []
+        → Replacing (i + 1) after stood
+    replacing_some after stood row g a s = by (f (i + 1, x)) refl g
       where
-        chosen : (y : Tuple) (b : Bool) → f (i + 1, x) ≡ Ok (y, b) → if_true (y, b) ≡ Some row → Replacing (i + 1) after
-        chosen y true k m = next after y true k (a ∙ ap (λ z. puts ++ (i, z) ∷ []) (let q : row ≡ y = cc in q))
+        chosen : (y : Tuple) (b : Bool) → f (i + 1, x) ≡ Ok (y, b) → if_true (y, b) ≡ Some row → Replacing (i + 1) after stood
+        chosen y true k m = next after stood y true k (a ∙ ap (λ z. puts ++ (i, z) ∷ []) (let q : row ≡ y = cc in q)) s
         chosen y false k m = absurd (cc)
 
-        by : (s : Result Visited Refused) → f (i + 1, x) ≡ s → (s >>= (λ v. Ok (if_true v))) ≡ Ok (Some row) → Replacing (i + 1) after
+        by : (s : Result Visited Refused) → f (i + 1, x) ≡ s → (s >>= (λ v. Ok (if_true v))) ≡ Ok (Some row) → Replacing (i + 1) after stood
         by (Ok (y, b)) k m = chosen y b k (let q : if_true (y, b) ≡ Some row = cc in q)
         by (Err d) k m = absurd (cc)
 
-    pub replacing_none : told (i + 1, x) ≡ Ok None → Replacing (i + 1) puts
+    pub replacing_none : told (i + 1, x) ≡ Ok None → Replacing (i + 1) puts were
     replacing_none g = by (f (i + 1, x)) refl g
       where
-        chosen : (y : Tuple) (b : Bool) → f (i + 1, x) ≡ Ok (y, b) → if_true (y, b) ≡ None → Replacing (i + 1) puts
+        chosen : (y : Tuple) (b : Bool) → f (i + 1, x) ≡ Ok (y, b) → if_true (y, b) ≡ None → Replacing (i + 1) puts were
         chosen y true k m = absurd (cc)
-        chosen y false k m = next puts y false k (sym (append-nil puts))
+        chosen y false k m = next puts were y false k (sym (append-nil puts)) (sym (append-nil were))
 
-        by : (s : Result Visited Refused) → f (i + 1, x) ≡ s → (s >>= (λ v. Ok (if_true v))) ≡ Ok None → Replacing (i + 1) puts
+        by : (s : Result Visited Refused) → f (i + 1, x) ≡ s → (s >>= (λ v. Ok (if_true v))) ≡ Ok None → Replacing (i + 1) puts were
         by (Ok (y, b)) k m = chosen y b k (let q : if_true (y, b) ≡ None = cc in q)
         by (Err d) k m = absurd (cc)
 
-    pub replacing_fault : (fault : Refused) → told (i + 1, x) ≡ Err fault → (each f (enumerate_from 1 xs) >>= (λ visited. Ok (replaced visited))) ≡ Err fault
+    pub replacing_fault : (fault : Refused) → told (i + 1, x) ≡ Err fault → (each f (enumerate_from 1 xs) >>= (λ visited. Ok (found xs visited))) ≡ Err fault
     replacing_fault fault g =
-        ap (λ s. s >>= (λ visited. Ok (replaced visited))) (number_fault f xs i r.visited x fault h e (by (f (i + 1, x)) refl g) r.walk)
+        ap (λ s. s >>= (λ visited. Ok (found xs visited))) (number_fault f xs i r.visited x fault h e (by (f (i + 1, x)) refl g) r.walk)
       where
         by : (s : Result Visited Refused) → f (i + 1, x) ≡ s → (s >>= (λ v. Ok (if_true v))) ≡ Err fault → f (i + 1, x) ≡ Err fault
         by (Ok v) k m = absurd (cc)
         by (Err d) k m = k ∙ ap Err (let q : d ≡ fault = cc in q)
 
-  pub replacing_end : (i : ℕ) (puts : List (ℕ × Tuple)) → length xs ≤ i → Replacing i puts → (each f (enumerate_from 1 xs) >>= (λ visited. Ok (replaced visited))) ≡ Ok puts
-  replacing_end i puts h r = ap (λ s. s >>= (λ visited. Ok (replaced visited))) (number_end f xs i r.visited h r.walk) ∙ ap Ok (sym r.puts_are)
+  pub replacing_end : (i : ℕ) (puts were : List (ℕ × Tuple)) → length xs ≤ i → Replacing i puts were
+      → (each f (enumerate_from 1 xs) >>= (λ visited. Ok (found xs visited))) ≡ Ok (record { puts = puts; were = were })
+  replacing_end i puts were h r =
+      ap (λ s. s >>= (λ visited. Ok (found xs visited))) (number_end f xs i r.visited h r.walk)
+      ∙ ap (λ l. Ok (record { puts = l; were = taken xs r.visited })) (sym r.puts_are)
+      ∙ ap (λ l. Ok (record { puts = puts; were = l })) (sym r.were_are)

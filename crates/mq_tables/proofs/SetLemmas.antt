@@ -1,5 +1,5 @@
 -- The columns that are set, one after another.
-use Rattle.std.proofs.Common.{◌≡◌, ℕ, ◌+◌, ◌<◌, ◌≤◌, List, [], ◌∷◌, ◌++◌, length, get_or, Result, Ok, refl, ap, sym, ◌∙◌}
+use Rattle.std.proofs.Common.{◌≡◌, ℕ, ◌+◌, ◌<◌, List, [], ◌∷◌, ◌++◌, length, get_or, Result, Ok, refl, ap, sym, ◌∙◌}
 use Rattle.std.specs.Prelude.{slice_set}
 use Rattle.std.proofs.lemmas.List.Sums.{fold_push}
 use Rattle.mq_values.specs.declared.faults.Refused.{Refused}
@@ -9,7 +9,7 @@ use Rattle.mq_ir.specs.declared.statement.Schema.{Schema}
 use Rattle.mq_ir.specs.Changes.{with_values}
 use Rattle.mq_ir.specs.Keys.{Tuple}
 use Rattle.mq_ir.specs.Results.{◌>>=◌}
-use Rattle.mq_tables.specs.Drafts.{set_value}
+use Rattle.mq_tables.specs.Columns.{set_value}
 use Rattle.mq_tables.proofs.Walks.{Walked, walk_next}
 
 -- what a SET gives: the column with its value

@@ -1,5 +1,5 @@
 -- Conditions that begin with comparisons of columns with values.
-use Rattle.std.proofs.Common.{◌≡◌, ◌≢◌, ℕ, zero, suc, ◌+◌, ◌<◌, List, [], ◌∷◌, map, drop, length, get_or, Bool, true, false, not, ◌&&◌, ◌||◌, Option, Some, None, Ok, refl, sym, ap, ◌∙◌, eqb, is_eq, Ordering, Less, Equal, Greater, arith}
+use Rattle.std.proofs.Common.{◌≡◌, ◌≢◌, ℕ, zero, suc, ◌+◌, ◌<◌, List, [], ◌∷◌, map, drop, length, get_or, Bool, true, false, not, ◌&&◌, Option, Some, None, Ok, refl, sym, ap, ◌∙◌, eqb, is_eq, Ordering, Less, Equal, Greater, arith}
 use Rattle.std.specs.Prelude.{IfSome, nat_eq, slice_get, slice_index_or}
 use Rattle.std.specs.Ordering.{nat_cmp, ordering_then}
 use Rattle.std.specs.Cmp.{nat_cmp_total, tied_itself, unsigned_Decides}

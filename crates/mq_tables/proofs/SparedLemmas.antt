@@ -1,26 +1,20 @@
 -- Rows whose keys a change does not alter.
-use Rattle.std.proofs.Common.{◌≡◌, ℕ, ◌+◌, List, [], ◌∷◌, Bool, true, false, not, ◌||◌, Option, length, map, take, Result, Ok, Err, refl, sym, ap, ◌∙◌, subst}
+use Rattle.std.proofs.Common.{◌≡◌, ℕ, ◌+◌, List, [], ◌∷◌, Bool, true, false, not, ◌||◌, Option, map, Result, Ok, Err, refl, sym, ap, ◌∙◌}
 use Rattle.std.specs.Prelude.{slice_get, slice_index_or, slice_set, nat_eq}
 use Rattle.std.specs.List.{enumerate_from, list_all, list_any}
 use Rattle.std.specs.Option.{option_map_or}
-use Rattle.std.proofs.Math.Seq.{take-append_seam}
 use Rattle.std.proofs.lemmas.Bool.{eqb-false}
 use Rattle.std.proofs.lemmas.List.{get_or-set_other}
 use Rattle.mq_values.specs.declared.faults.Refused.{Refused}
 use Rattle.mq_values.specs.declared.value.Value.{Value}
 use Rattle.mq_values.specs.declared.value.Value.TheVariants.{Null}
 use Rattle.mq_ir.specs.declared.expression.Expr.{Expr}
-use Rattle.mq_ir.specs.declared.statement.Change.{Change}
-use Rattle.mq_ir.specs.declared.statement.Change.TheVariants.{Insert, Append, Update, Delete}
 use Rattle.mq_ir.specs.declared.statement.Schema.{Schema}
-use Rattle.mq_ir.specs.Changes.{Visited, column_value, inserted_row, is_chosen, row_key, set_values, updated_row, with_values}
+use Rattle.mq_ir.specs.Changes.{Visited, column_value, is_chosen, row_key, set_values, updated_row, with_values}
 use Rattle.mq_ir.specs.Keys.{Tuple}
 use Rattle.mq_ir.specs.Results.{◌>>=◌, each}
-use Rattle.mq_ir.specs.Tables.{Table}
-use Rattle.mq_tables.specs.declared.drafts.Draft.{Draft}
-use Rattle.mq_tables.specs.Drafts.{KeepsKeys, appended, drafted, spares_key, updated}
+use Rattle.mq_tables.specs.Columns.{spares_key}
 use Rattle.mq_tables.proofs.FitLemmas.{and_left, and_right, both_true, each_cons, each_nil}
-use Rattle.mq_tables.proofs.StandLemmas.{ok_is, then_is}
 
 abbrev is_spared : List ℕ → ℕ → Bool
 is_spared key column = not (list_any (nat_eq column) key)
@@ -89,15 +83,3 @@ rows_spared key f s n (x ∷ xs) vs h =
     let first = s n x v e in
     let others = rows_spared key f s (n + 1) xs rest g in
     λ i. first i ∷ others i)
-
-pub made_keeps : (t : Table) (change : Change) (draft : Draft) → drafted t change ≡ Ok draft → KeepsKeys t change draft.rows
-made_keeps t (Insert name rows) draft h =
-    then_is (each (inserted_row t.schema) (enumerate_from 1 rows)) (λ new. Ok (appended t.rows new)) draft (KeepsKeys t (Insert name rows) draft.rows) h (λ new e g.
-    subst (λ (d : Draft). take (length t.rows) d.rows ≡ t.rows) (ok_is (appended t.rows new) draft g) (take-append_seam t.rows new))
-made_keeps t (Append name rows) draft h =
-    subst (λ (d : Draft). take (length t.rows) d.rows ≡ t.rows) (ok_is (appended t.rows rows) draft h) (take-append_seam t.rows rows)
-made_keeps t (Update name sets filter) draft h =
-    then_is (each (updated_row t.schema sets filter) (enumerate_from 1 t.rows)) (λ rows. Ok (updated rows)) draft (KeepsKeys t (Update name sets filter) draft.rows) h (λ vs e g s.
-    subst (λ (d : Draft). map (row_key t.schema) d.rows ≡ map (row_key t.schema) t.rows) (ok_is (updated vs) draft g)
-    (rows_spared (row_key t.schema) (updated_row t.schema sets filter) (row_spared t.schema sets filter s) 1 t.rows vs e))
-made_keeps t (Delete name filter) draft h = tt

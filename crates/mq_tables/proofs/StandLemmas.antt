@@ -17,22 +17,22 @@ use Rattle.mq_ir.specs.declared.expression.Expr.{Expr}
 use Rattle.mq_ir.specs.declared.statement.Change.{Change}
 use Rattle.mq_ir.specs.declared.statement.Change.TheVariants.{Insert, Append, Update, Delete}
 use Rattle.mq_ir.specs.declared.statement.Schema.{Schema}
-use Rattle.mq_ir.specs.Changes.{Visited, deleted_row, inserted_row, is_chosen, key_fault, rows_added, rows_changed, set_values, size_fault, table_of, updated_row, value_count, with_values}
+use Rattle.mq_ir.specs.Changes.{Changed, Visited, deleted_row, inserted_row, is_chosen, key_fault, rows_added, rows_changed, set_values, size_fault, table_of, updated_row, value_count, visited_as, with_values}
 use Rattle.mq_ir.specs.FitsStatement.{change_fits_schema, inserts_fit, is_row_of}
 use Rattle.mq_ir.specs.Keys.{Tuple}
 use Rattle.mq_values.specs.declared.value.Value.{Value}
 use Rattle.mq_ir.specs.Results.{◌>>=◌, each}
 use Rattle.mq_ir.specs.Statement.{staged, unless_refused}
 use Rattle.mq_ir.specs.Tables.{Table, Tables, is_name, table_at}
-use Rattle.mq_tables.specs.declared.drafts.Draft.{Draft}
-use Rattle.mq_tables.specs.Drafts.{appended, deleted, drafted, keyed, staged_from, updated}
 use Rattle.mq_tables.specs.Held.{RowsFit}
-use Rattle.mq_tables.specs.Staging.{ChangeFits, Staged, StandsOn, StoodAt, new_places, origins_of, place_unless_true, staging, stays}
+use Rattle.mq_tables.specs.KeyOrder.{judged}
+use Rattle.mq_tables.specs.Pending.{step_of}
+use Rattle.mq_tables.specs.Staging.{ChangeFits, Staged, StandsOn, StoodAt, new_places, origins_of, place_unless_true, places_left, staging, stays}
 use Rattle.mq_tables.proofs.FitLemmas.{all_filtered, all_pass, both_true, deleted_is, each_cons, each_length, each_nil, inserted_fits, updated_fits}
-use Rattle.mq_tables.proofs.StageLemmas.{from_draft, in_order}
+use Rattle.mq_tables.proofs.StageLemmas.{in_order, inserted_places}
 
 -- ---- the table of a name
-found_passes : {A : Type 0} (p : A → Bool) (xs : List A) (x : A) → find p xs ≡ Some x → p x ≡ true
+pub found_passes : {A : Type 0} (p : A → Bool) (xs : List A) (x : A) → find p xs ≡ Some x → p x ≡ true
 found_passes p [] x h = absurd (cc)
 found_passes p (y ∷ ys) x h = by (p y) refl (found_passes p ys x) h
   where
@@ -130,11 +130,11 @@ kept_row schema sets filter n row v h c = by (is_chosen filter (n, row)) h
     by (Ok false) g = let q : (row, false) ≡ v = cc in ap (λ (w : Visited). w.0) (sym q)
     by (Err d) g = absurd (cc)
 
--- ---- drafts
-record Sound (t : Table) (change : Change) (draft : Draft) : Type 0 where
-  size : length draft.rows ≤ length t.rows + rows_added change
-  fit : list_all (is_row_of t.schema) draft.rows ≡ true
-  stood : AllZip (StoodAt t.rows) draft.rows draft.origins
+-- ---- what the rows come to
+record Sound (t : Table) (change : Change) (rows : List Tuple) (origins : List (Option ℕ)) : Type 0 where
+  size : length rows ≤ length t.rows + rows_added change
+  fit : list_all (is_row_of t.schema) rows ≡ true
+  stood : AllZip (StoodAt t.rows) rows origins
 
 pub then_is : {A B : Type 0} (r : Result A Refused) (f : A → Result B Refused) (y : B) (P : Type 0) → (r >>= f) ≡ Ok y → ((x : A) → r ≡ Ok x → f x ≡ Ok y → P) → P
 then_is (Ok x) f y P h k = k x refl h
@@ -151,35 +151,47 @@ filtered_le p (x ∷ xs) = by (p x) (filtered_le p xs)
     by true h = omega (arith, h)
     by false h = omega (arith, h)
 
-appended_sound : (t : Table) (change : Change) (new : List Tuple) → length new ≡ rows_added change → list_all (is_row_of t.schema) t.rows ≡ true → list_all (is_row_of t.schema) new ≡ true → Sound t change (appended t.rows new)
-appended_sound t change new n f g = record {
+appended_sound : {A : Type 0} (t : Table) (change : Change) (new : List Tuple) (known : List A) → new_places known ≡ new_places new → length new ≡ rows_added change
+    → list_all (is_row_of t.schema) t.rows ≡ true → list_all (is_row_of t.schema) new ≡ true → Sound t change (t.rows ++ new) (stays t.rows ++ new_places known)
+appended_sound t change new known k n f g = record {
   size = let e = length-append t.rows new in omega (arith, e, n);
   fit = list_all-append (is_row_of t.schema) t.rows new ∙ both_true (list_all (is_row_of t.schema) t.rows) (list_all (is_row_of t.schema) new) f g;
-  stood = appended_stood t.rows new;
+  stood = subst (λ (l : List (Option ℕ)). AllZip (StoodAt t.rows) (t.rows ++ new) (stays t.rows ++ l)) (sym k) (appended_stood t.rows new);
 }
 
-sound : (t : Table) (change : Change) (draft : Draft) → list_all (is_row_of t.schema) t.rows ≡ true → change_fits_schema t.schema change ≡ true → drafted t change ≡ Ok draft → Sound t change draft
-sound t (Insert name rows) draft f c h =
-    then_is (each (inserted_row t.schema) (enumerate_from 1 rows)) (λ new. Ok (appended t.rows new)) draft (Sound t (Insert name rows) draft) h (λ new e g.
-    subst (Sound t (Insert name rows)) (ok_is (appended t.rows new) draft g)
-    (appended_sound t (Insert name rows) new (each_length (inserted_row t.schema) (enumerate_from 1 rows) new e ∙ length-enumerate_from 1 rows) f
-    (all_pass (inserted_row t.schema) (inserts_fit t.schema) (is_row_of t.schema) (inserted_fits t.schema) 1 rows new c e)))
-sound t (Append name rows) draft f c h = subst (Sound t (Append name rows)) (ok_is (appended t.rows rows) draft h) (appended_sound t (Append name rows) rows refl f c)
-sound t (Update name sets filter) draft f c h =
+sound : (t : Table) (change : Change) (changed : Changed) (origins : List (Option ℕ)) → list_all (is_row_of t.schema) t.rows ≡ true → change_fits_schema t.schema change ≡ true
+    → rows_changed t change ≡ Ok changed → origins_of t change ≡ Ok origins → Sound t change changed.0 origins
+sound t (Insert name rows) changed origins f c h o =
+    then_is (each (inserted_row t.schema) (enumerate_from 1 rows)) (λ new. Ok (t.rows ++ new, length new)) changed (Sound t (Insert name rows) changed.0 origins) h (λ new e g.
+    subst (λ (l : List (Option ℕ)). Sound t (Insert name rows) changed.0 l) (ok_is (stays t.rows ++ new_places rows) origins o)
+    (subst (λ (it : Changed). Sound t (Insert name rows) it.0 (stays t.rows ++ new_places rows)) (ok_is (t.rows ++ new, length new) changed g)
+    (appended_sound t (Insert name rows) new rows (inserted_places (inserted_row t.schema) rows new e)
+    (each_length (inserted_row t.schema) (enumerate_from 1 rows) new e ∙ length-enumerate_from 1 rows) f
+    (all_pass (inserted_row t.schema) (inserts_fit t.schema) (is_row_of t.schema) (inserted_fits t.schema) 1 rows new c e))))
+sound t (Append name rows) changed origins f c h o =
+    subst (λ (l : List (Option ℕ)). Sound t (Append name rows) changed.0 l) (ok_is (stays t.rows ++ new_places rows) origins o)
+    (subst (λ (it : Changed). Sound t (Append name rows) it.0 (stays t.rows ++ new_places rows)) (ok_is (t.rows ++ rows, length rows) changed h)
+    (appended_sound t (Append name rows) rows rows refl refl f c))
+sound t (Update name sets filter) changed origins f c h o =
     let step : ℕ × Tuple → Result Visited Refused = updated_row t.schema sets filter in
-    then_is (each step (enumerate_from 1 t.rows)) (λ rows. Ok (updated rows)) draft (Sound t (Update name sets filter) draft) h (λ vs e g.
-    subst (Sound t (Update name sets filter)) (ok_is (updated vs) draft g) (record {
+    then_is (each step (enumerate_from 1 t.rows)) (λ vs. Ok (map (λ (row : Visited). row.0) vs, length (visited_as true vs))) changed (Sound t (Update name sets filter) changed.0 origins) h (λ vs e g.
+    let places : List (Option ℕ) = map place_unless_true (enumerate_from 0 vs) in
+    subst (λ (l : List (Option ℕ)). Sound t (Update name sets filter) changed.0 l)
+    (ok_is places origins (sym (ap (λ (r : Result (List Visited) Refused). r >>= (λ vs. Ok (map place_unless_true (enumerate_from 0 vs)))) e) ∙ o))
+    (subst (λ (it : Changed). Sound t (Update name sets filter) it.0 places) (ok_is (map (λ (row : Visited). row.0) vs, length (visited_as true vs)) changed g) (record {
       size = let n = each_length step (enumerate_from 1 t.rows) vs e ∙ length-enumerate_from 1 t.rows in let m = length-map vs (λ (row : Visited). row.0) in omega (arith, n, m);
       fit =
           list_all-map (is_row_of t.schema) (λ (row : Visited). row.0) vs
           ∙ all_pass step (is_row_of t.schema) (λ (row : Visited). is_row_of t.schema row.0) (λ n x y q e. updated_fits t.schema sets filter n x y q e) 1 t.rows vs f e;
       stood = updated_stood step (kept_row t.schema sets filter) t.rows t.rows 1 0 vs (all_of t.rows) e;
-    }))
-sound t (Delete name where_) draft f c h =
+    })))
+sound t (Delete name where_) changed origins f c h o =
     let step : ℕ × Tuple → Result Visited Refused = deleted_row where_ in
-    then_is (each step (enumerate_from 1 t.rows)) (λ rows. Ok (deleted rows)) draft (Sound t (Delete name where_) draft) h (λ vs e g.
+    then_is (each step (enumerate_from 1 t.rows)) (λ vs. Ok (visited_as false vs, length (visited_as true vs))) changed (Sound t (Delete name where_) changed.0 origins) h (λ vs e g.
     let left : List Visited = filter (λ (row : Visited). not row.1) vs in
-    subst (Sound t (Delete name where_)) (ok_is (deleted vs) draft g) (record {
+    subst (λ (l : List (Option ℕ)). Sound t (Delete name where_) changed.0 l)
+    (ok_is (places_left vs) origins (sym (ap (λ (r : Result (List Visited) Refused). r >>= (λ vs. Ok (places_left vs))) e) ∙ o))
+    (subst (λ (it : Changed). Sound t (Delete name where_) it.0 (places_left vs)) (ok_is (visited_as false vs, length (visited_as true vs)) changed g) (record {
       size =
           let n = each_length step (enumerate_from 1 t.rows) vs e ∙ length-enumerate_from 1 t.rows in
           let m = length-map left (λ (row : Visited). row.0) in
@@ -190,7 +202,7 @@ sound t (Delete name where_) draft f c h =
           ∙ all_filtered (λ (row : Visited). is_row_of t.schema row.0) (λ (row : Visited). not row.1) vs
           (all_pass step (is_row_of t.schema) (λ (row : Visited). is_row_of t.schema row.0) (λ n x y q e. ap (is_row_of t.schema) (deleted_is where_ n x y e) ∙ q) 1 t.rows vs f e);
       stood = deleted_stood step (deleted_is where_) t.rows t.rows 1 0 vs (all_of t.rows) e;
-    }))
+    })))
 
 -- ---- what is judged
 unless_is : {A : Type 0} (o : Option Refused) (r : Result A Refused) (x : A) (P : Type 0) → unless_refused o r ≡ Ok x → (o ≡ None → r ≡ Ok x → P) → P
@@ -210,16 +222,26 @@ within_limit tables t added h =
     at_most : (a b : ℕ) → nat_lt a b ≡ false → b ≤ a
     at_most a b e = grind (arith, nat_tests)
 
-judged_stands : (tables : Tables) (name : List ℕ) (t : Table) (change : Change) (s : Staged) → table_at tables name ≡ Some t → list_all (is_row_of t.schema) t.rows ≡ true
-    → change_fits_schema t.schema change ≡ true → unless_refused (size_fault tables t (rows_added change)) (drafted t change >>= keyed t) ≡ Ok s → StandsOn tables s
+pub judged_stands : (tables : Tables) (name : List ℕ) (t : Table) (change : Change) (s : Staged) → table_at tables name ≡ Some t → list_all (is_row_of t.schema) t.rows ≡ true
+    → change_fits_schema t.schema change ≡ true → unless_refused (size_fault tables t (rows_added change)) (step_of t change) ≡ Ok s → StandsOn tables s
 judged_stands tables name t change s there f c h =
-    unless_is (size_fault tables t (rows_added change)) (drafted t change >>= keyed t) s (StandsOn tables s) h (λ size g.
-    then_is (drafted t change) (keyed t) s (StandsOn tables s) g (λ draft d k.
-    unless_is (key_fault t.schema draft.rows) (Ok (staged_from t draft)) s (StandsOn tables s) k (λ apart e.
-    subst (StandsOn tables) (ok_is (staged_from t draft) s e) (stands draft (sound t change draft f c d) size apart))))
+    unless_is (size_fault tables t (rows_added change)) (step_of t change) s (StandsOn tables s) h (λ size g.
+    then_is (rows_changed t change) (λ changed. judged t.schema changed.0 >>= placed changed) s (StandsOn tables s) g (λ changed d k.
+    then_is (judged t.schema changed.0) (placed changed) s (StandsOn tables s) k (λ after j l.
+    unless_is (key_fault t.schema changed.0) (Ok changed.0) after (StandsOn tables s) j (λ apart same.
+    then_is (origins_of t change) (λ origins. Ok (noted changed after origins)) s (StandsOn tables s) l (λ origins o e.
+    subst (StandsOn tables) (ok_is (noted changed after origins) s e)
+    (stands changed after origins (sym (ok_is changed.0 after same)) (sound t change changed origins f c d o) size apart))))))
   where
-    stands : (draft : Draft) → Sound t change draft → size_fault tables t (rows_added change) ≡ None → key_fault t.schema draft.rows ≡ None → StandsOn tables (staged_from t draft)
-    stands draft d size apart = record {
+    noted : Changed → List Tuple → List (Option ℕ) → Staged
+    noted changed after origins = record { table = t.name; had = length t.rows; rows = after; counted = changed.1; origins = origins }
+
+    placed : Changed → List Tuple → Result Staged Refused
+    placed changed after = origins_of t change >>= (λ origins. Ok (noted changed after origins))
+
+    stands : (changed : Changed) (after : List Tuple) (origins : List (Option ℕ)) → after ≡ changed.0 → Sound t change changed.0 origins → size_fault tables t (rows_added change) ≡ None
+        → key_fault t.schema changed.0 ≡ None → StandsOn tables (noted changed after origins)
+    stands changed after origins same d size apart = subst (λ (l : List Tuple). StandsOn tables (noted changed l origins)) (sym same) (record {
       table = t;
       is_there = own_name tables name t there;
       as_many = refl;
@@ -227,7 +249,7 @@ judged_stands tables name t change s there f c h =
       within = let l = d.size in let m = within_limit tables t (rows_added change) size in omega (arith, l, m);
       fit = d.fit;
       apart = apart;
-    }
+    })
 
 pub staging_stands : (tables : Tables) (change : Change) (s : Staged) → RowsFit tables → ChangeFits tables change → staging tables change ≡ Ok s → StandsOn tables s
 staging_stands tables change s f c h = by (table_at tables (table_of change)) refl c h
@@ -240,14 +262,4 @@ staging_stands tables change s f c h = by (table_at tables (table_of change)) re
     by None e c g = absurd (cc)
     by (Some t) e c g =
         judged_stands tables (table_of change) t change s e (found_fits tables (table_of change) t f e) c
-        (sym (in_order (size_fault tables t (rows_added change)) t (rows_changed t change) (origins_of t change)
-        ∙ ap (unless_refused (size_fault tables t (rows_added change))) (from_draft t change)) ∙ g)
-
--- INSERT makes no more rows than it has lists of expressions
-pub inserted_within : {E : Type 0} (f : ℕ × List Expr → Result Tuple E) (change : Change) (name : List ℕ) (rows lent : List (List Expr)) (new seen : List Tuple)
-    → change ≡ Insert name rows → lent ≡ rows → rows_added change ≤ MAX_ROWS → each f (enumerate_from 1 lent) ≡ Ok new → seen ≡ new → length seen ≤ MAX_ROWS
-inserted_within f change name rows lent new seen i l m h s =
-    let a = ap length s in
-    let b = each_length f (enumerate_from 1 lent) new h ∙ length-enumerate_from 1 lent ∙ ap length l in
-    let c = ap rows_added i in
-    omega (arith, a, b, c, m)
+        (sym (in_order (size_fault tables t (rows_added change)) t (rows_changed t change) (origins_of t change)) ∙ g)

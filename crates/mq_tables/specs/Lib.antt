@@ -1,10 +1,13 @@
-pub mod Drafts
+pub mod Columns
 pub mod Held
 pub mod InPlace
 pub mod KeyOrder
 pub mod Marks
 pub mod OldPlaces
+pub mod Pending
 pub mod Rows
 pub mod Sieves
 pub mod Sizes
 pub mod Staging
+pub mod Touching
+pub mod Visits

@@ -1,5 +1,5 @@
 -- The marks of rows.
-use Rattle.std.specs.Prelude.{◌≡◌, ℕ, ◌+◌, ◌*◌, ◌%◌, ℤ, unsigned_abs, List, length, map, take, Bool, false, not, ◌&&◌, nat_eq, slice_index_or}
+use Rattle.std.specs.Prelude.{◌≡◌, ℕ, ◌+◌, ◌*◌, ◌%◌, ℤ, unsigned_abs, List, length, map, take, Bool, not, ◌&&◌, nat_eq, slice_index_or}
 use Rattle.std.specs.List.{fold}
 use Rattle.mq_values.specs.declared.value.Value.{Value}
 use Rattle.mq_values.specs.declared.value.Value.TheVariants as value

@@ -1,12 +1,14 @@
 //! The values that a change puts into columns.
-ghost use Rattle.std.specs.Prelude.{◌≡◌, true, false, Ok, IfOk};
+ghost use Rattle.std.specs.Prelude.{◌≡◌, ◌≤◌, length, true, false, Ok, IfOk};
+ghost use Rattle.std.specs.List.{enumerate_from};
 ghost use Rattle.mq_values.specs.Answers.{Gives};
 ghost use Rattle.mq_values.specs.declared.faults.Refused.TheVariants as refused;
+ghost use Rattle.mq_values.specs.declared.limits.TheConstants.{MAX_ROWS};
 ghost use Rattle.mq_ir.specs.Changes as spec;
-ghost use Rattle.mq_ir.specs.Results.{marked};
+ghost use Rattle.mq_ir.specs.Results.{each, marked};
 ghost use Rattle.mq_ir.specs.Unfolding.{converted as spec_converted};
-ghost use Rattle.mq_tables.specs.Drafts.{asked_for_null, column_found, row_set, set_value as spec_set_value};
-ghost use Rattle.mq_tables.specs.InPlace.{row_replaced};
+ghost use Rattle.mq_tables.specs.Columns.{asked_for_null, column_found, row_set, set_value as spec_set_value};
+ghost use Rattle.mq_tables.specs.Visits.{row_replaced};
 
 use crate::rows::put;
 use crate::scopes::{NoRow, OneRow};
@@ -86,6 +88,22 @@ pub fn inserted_row(
         }
     }
     Ok(Key::new(alloc, values)?)
+}
+
+/// The rows of INSERT, in order.
+pub fn inserted_rows(
+    alloc: Global,
+    schema: &Schema,
+    rows: &[Items<Expr>],
+) -> Result<Items<Row>, Fail<Refused>>
+    requires { length rows.now ≤ MAX_ROWS }
+    ensures { Gives result (each (spec.inserted_row schema.now) (enumerate_from 1 rows.now)) }
+{
+    let mut new = Items::new(alloc);
+    'rows: for (at, es) in rows.iter().enumerate() {
+        new.push(inserted_row(alloc, schema, at as u32 + 1, es.as_slice())?)?;
+    }
+    Ok(new)
 }
 
 /// Whether UPDATE or DELETE visits the row of this number as true.
@@ -169,24 +187,6 @@ fn copied_values(alloc: Global, row: &Row) -> Result<Vec<Value>, Memory>
         values.push(v.copy()?)?;
     }
     Ok(values)
-}
-
-/// A row after UPDATE, and whether it was visited as true.
-pub fn updated_row(
-    alloc: Global,
-    schema: &Schema,
-    sets: &[(u32, Expr)],
-    filter: &Option<Expr>,
-    number: u32,
-    row: &Row,
-) -> Result<(Row, bool), Fail<Refused>>
-    ensures { Gives result (spec.updated_row schema.now sets.now filter.now (number, row.now)) }
-{
-    if is_chosen(alloc, filter, number, row)? {
-        Ok((row_with(alloc, schema, sets, number, row)?, true))
-    } else {
-        Ok((row.copy()?, false))
-    }
 }
 
 /// A row after UPDATE, where it is visited as true.

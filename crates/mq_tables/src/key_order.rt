@@ -2,7 +2,7 @@
 ghost use Rattle.std.specs.Prelude.{◌≡◌, ◌≤◌, [], ◌++◌, ◌||◌, true, false, not, map, length, flat_map, IfOk, OnOk};
 ghost use Rattle.mq_ir.specs.Changes as spec;
 ghost use Rattle.mq_ir.specs.Keys.{is_among};
-ghost use Rattle.mq_tables.specs.KeyOrder.{Adds, Grows, GrowsTo, HoldsBoth, Loses, PutsTo, all_keys};
+ghost use Rattle.mq_tables.specs.KeyOrder.{Adds, GrowsTo, HoldsBoth, HoldsSame, Loses, PutsTo, all_keys};
 
 use crate::keys::row_key;
 use crate::own_keys::OwnKeys;
@@ -60,13 +60,15 @@ impl KeyOrder {
         }
     }
 
-    /// The same keys once more, to be held beside these.
+    /// The same keys once more, to be changed beside these. Short runs are joined, so that there are few.
     pub fn copy(&self, alloc: Global) -> Result<KeyOrder, Memory>
-        ensures { IfOk result (λ order. order ≡ self.now) }
+        ensures { IfOk result (HoldsSame self.now) }
     {
+        let runs = self.shared_runs(alloc)?;
+        let (stay, joined) = runs.as_slice().split_at(staying(runs.as_slice()));
         Ok(KeyOrder {
-            runs: Shared::new(alloc, self.shared_runs(alloc)?)?,
-            own: OwnKeys::empty(alloc),
+            own: joined_keys(joined, OwnKeys::empty(alloc))?,
+            runs: Shared::new(alloc, run_copies(alloc, stay)?)?,
         })
     }
 
@@ -77,22 +79,8 @@ impl KeyOrder {
         is_in_runs(self.runs.as_slice(), key) || self.own.contains(key)
     }
 
-    /// These keys and those of new rows. A key that is among these, or is that of an earlier new row, refuses the rows:
-    /// that at the least place comes back.
-    pub fn grown(
-        &self,
-        alloc: Global,
-        schema: &Schema,
-        rows: &[Row],
-    ) -> Result<KeyOrder, Fail<Refused>>
-        ensures { Grows self.now (map (spec.row_key schema.now) rows.now) result }
-    {
-        let keys = new_keys(alloc, schema, self, rows)?;
-        Ok(self.with(alloc, keys)?)
-    }
-
-    /// Puts the keys of new rows to these, where none is refused as in `grown`; else nothing is changed. After `Memory`
-    /// some of them may be here.
+    /// Puts the keys of new rows to these. A key that is among these, or is that of an earlier new row, refuses the rows:
+    /// that at the least place comes back, and nothing is changed. After `Memory` some of the new keys may be here.
     pub fn grow(
         &mut self,
         alloc: Global,
@@ -115,20 +103,6 @@ impl KeyOrder {
             return false;
         }
         self.own.lose(keys)
-    }
-
-    // These keys and others. Short runs at the end are joined with the new ones, so that there are few.
-    fn with(&self, alloc: Global, keys: OwnKeys) -> Result<KeyOrder, Memory>
-        ensures { IfOk result (HoldsBoth keys self.now) }
-    {
-        let runs = self.shared_runs(alloc)?;
-        let (stay, joined) = runs
-            .as_slice()
-            .split_at(staying(runs.as_slice(), keys.len()));
-        Ok(KeyOrder {
-            own: joined_keys(joined, keys)?,
-            runs: Shared::new(alloc, run_copies(alloc, stay)?)?,
-        })
     }
 
     // All of these keys in runs.
@@ -154,14 +128,26 @@ fn is_in_runs(runs: &[Run], key: &Key) -> bool
     false
 }
 
-// How many runs stay as they are where so many keys come. It decides what later calls cost, and no answer.
-fn staying(runs: &[Run], more: usize) -> usize
+// How many runs stay as they are, so that each is long beside those behind it. It decides what later calls cost, and no
+// answer.
+fn staying(runs: &[Run]) -> usize
     ensures { result ≤ length runs.now }
 {
-    let mut behind = more;
+    let long = runs_before_short(runs);
+    if runs.len() - long == 1 {
+        return runs.len();
+    }
+    long
+}
+
+// How many runs stand before the last one and those that are short beside the ones behind them.
+fn runs_before_short(runs: &[Run]) -> usize
+    ensures { result ≤ length runs.now }
+{
+    let mut behind: usize = 0;
     let mut stay = runs.len();
     'runs: for run in runs.iter().rev() {
-        if run.keys.len() / LONGER >= behind {
+        if behind > 0 && run.keys.len() / LONGER >= behind {
             return stay;
         }
         behind = behind.saturating_add(run.keys.len());

@@ -1,10 +1,9 @@
 //! Rows with their keys.
-ghost use Rattle.std.specs.Prelude.{◌≡◌, ◌≢◌, ◌≤◌, ◌++◌, [], true, false, map, take, drop, length, IfOk, OnOk, OnErr};
+ghost use Rattle.std.specs.Prelude.{◌≡◌, ◌≢◌, ◌++◌, [], true, map, length, IfOk, OnErr};
 ghost use Rattle.mq_values.specs.Answers.{Gives, result_map};
 ghost use Rattle.mq_ir.specs.Changes as spec;
-ghost use Rattle.mq_ir.specs.Keys.{is_among};
 ghost use Rattle.mq_tables.specs.InPlace.{PutsBehind, put_at, rows_gone, rows_left};
-ghost use Rattle.mq_tables.specs.KeyOrder.{AreKeys, judged};
+ghost use Rattle.mq_tables.specs.KeyOrder.{judged};
 
 use crate::key_order::KeyOrder;
 use crate::rows::{put_rows, row_copies, take_away};
@@ -58,42 +57,15 @@ impl KeyedRows {
         if schema.key.is_empty() {
             return Ok(without_key(alloc, rows));
         }
-        with_new_keys(alloc, schema, &KeyOrder::empty(alloc), 0, rows)
+        with_keys(alloc, schema, rows)
     }
 
-    /// The same for rows that begin with these here. The keys of these here are not looked at again, where they are
-    /// kept by the columns that are the key.
-    pub fn grown(
-        &self,
-        alloc: Global,
-        schema: &Schema,
-        rows: Items<Row>,
-    ) -> Result<KeyedRows, Fail<Refused>>
-        requires { take (length self.now) rows ≡ self.now }
-        ensures { Gives result (judged schema.now rows) }
+    /// The same rows under the same keys once more, to be changed beside these. Rows and keys are shared, not copied.
+    pub fn copy(&self, alloc: Global) -> Result<KeyedRows, Memory>
+        ensures { IfOk result (λ copy. copy ≡ self.now) }
     {
-        if !is_key_of(self.columns.as_slice(), schema) {
-            return KeyedRows::new(alloc, schema, rows);
-        }
-        with_new_keys(alloc, schema, &self.order, self.rows.len(), rows)
-    }
-
-    /// The same for rows whose keys are those of the rows here. No key is looked at again, where they are kept by the
-    /// columns that are the key.
-    pub fn with_same_keys(
-        &self,
-        alloc: Global,
-        schema: &Schema,
-        rows: Items<Row>,
-    ) -> Result<KeyedRows, Fail<Refused>>
-        requires { map (spec.row_key schema.now) rows ≡ map (spec.row_key schema.now) self.now }
-        ensures { Gives result (judged schema.now rows) }
-    {
-        if !is_key_of(self.columns.as_slice(), schema) {
-            return KeyedRows::new(alloc, schema, rows);
-        }
         Ok(KeyedRows {
-            rows: rows.into_vec(),
+            rows: row_copies(alloc, self.rows.as_slice(), 0)?,
             columns: self.columns.copy()?,
             order: self.order.copy(alloc)?,
         })
@@ -238,34 +210,18 @@ fn without_key(alloc: Global, rows: Items<Row>) -> KeyedRows
     }
 }
 
-// Rows of which the keys of the first `old` ones are in `order`.
-fn with_new_keys(
-    alloc: Global,
-    schema: &Schema,
-    order: &KeyOrder,
-    old: usize,
-    rows: Items<Row>,
-) -> Result<KeyedRows, Fail<Refused>>
-    requires within { old ≤ length rows }
-    requires keyed { schema.now.key ≢ [] }
-    requires known { AreKeys (map (spec.row_key schema.now) (take old rows)) order.now }
+// Rows of a table with a key.
+fn with_keys(alloc: Global, schema: &Schema, rows: Items<Row>) -> Result<KeyedRows, Fail<Refused>>
+    requires { schema.now.key ≢ [] }
     ensures { Gives result (judged schema.now rows) }
 {
-    let order = order.grown(alloc, schema, rows_from(rows.as_slice(), old))?;
+    let mut order = KeyOrder::empty(alloc);
+    order.grow(alloc, schema, rows.as_slice())?;
     Ok(KeyedRows {
         rows: rows.into_vec(),
         columns: copied_columns(alloc, schema.key.as_slice())?,
         order,
     })
-}
-
-// The rows from this place on.
-fn rows_from(rows: &[Row], place: usize) -> &[Row]
-    requires { place ≤ length rows.now }
-    ensures { result.now ≡ drop place rows.now }
-{
-    let (_, from) = rows.split_at(place);
-    from
 }
 
 fn copied_columns(alloc: Global, columns: &[u32]) -> Result<Shared<u32>, Memory>

@@ -1,7 +1,7 @@
 //! The keys of rows.
 ghost use Rattle.std.specs.Prelude.{◌≡◌, IfOk};
 ghost use Rattle.mq_ir.specs.Changes as spec;
-ghost use Rattle.mq_tables.specs.Drafts as drafts;
+ghost use Rattle.mq_tables.specs.Columns as drafts;
 
 use crate::scopes::value_at;
 use mq_ir::{Expr, Row, Schema};

@@ -3,16 +3,17 @@
 //! It is exactly what mq_ir's `specs/Tables`, `specs/Changes` and `specs/Statement` say.
 #![tactic(auto)]
 
-mod apply;
 mod ascending;
+mod changing;
 mod columns;
-mod drafts;
+mod holding;
 mod key_order;
 mod keyed_rows;
 mod keys;
 mod laws;
 mod marks;
 mod own_keys;
+mod pending;
 mod row_view;
 mod rows;
 mod scopes;
@@ -22,10 +23,13 @@ mod stage;
 mod staged;
 mod table;
 mod tables;
+mod touched;
 mod visits;
 
 pub use laws::old_places_ascend;
+pub use pending::Pending;
 pub use row_view::RowView;
 pub use staged::Staged;
 pub use table::Table;
 pub use tables::{TableSet, Tables};
+pub use touched::Touched;

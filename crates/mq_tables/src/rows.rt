@@ -1,5 +1,5 @@
 //! Lists of rows that are copied, and changed where they stand.
-ghost use Rattle.std.specs.Prelude.{◌≡◌, [], ◌++◌, length, slice_set, IfOk, OnOk};
+ghost use Rattle.std.specs.Prelude.{◌≡◌, ◌≤◌, [], ◌++◌, length, slice_set, IfOk, OnOk};
 ghost use Rattle.mq_tables.specs.InPlace.{items_left, put_at, rows_left};
 
 use mq_ir::Row;
@@ -65,4 +65,13 @@ pub fn take_items<T: Drop>(items: &mut Vec<T>, gone: &[bool])
         }
     }
     items.truncate(kept);
+}
+
+/// The same for items of which the last ones may be missing.
+pub fn lose_front<T: Drop>(items: &mut Vec<T>, gone: &[bool])
+    requires { length items.old.items ≤ length gone.now }
+    ensures { items.new.items ≡ items_left items.old.items gone.now }
+{
+    let (front, _) = gone.split_at(items.len());
+    take_items(items, front);
 }

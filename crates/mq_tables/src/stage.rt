@@ -1,21 +1,15 @@
 //! A change is judged, and its rows are made, before anything is altered.
-ghost use Rattle.std.specs.Prelude.{◌≡◌, Ok, IfOk};
+ghost use Rattle.std.specs.Prelude.{◌≡◌, IfOk};
 ghost use Rattle.mq_values.specs.Answers.{Gives};
 ghost use Rattle.mq_ir.specs.Changes as spec;
-ghost use Rattle.mq_tables.specs.Drafts as drafts;
 ghost use Rattle.mq_tables.specs.Held.{RowsFit};
-ghost use Rattle.mq_tables.specs.KeyOrder.{judged};
 ghost use Rattle.mq_tables.specs.Staging as staging;
 
-use crate::drafts::{Draft, drafted};
-use crate::keyed_rows::KeyedRows;
-use crate::keys::spares_key;
 use crate::sizes::{judge_size, rows_added};
 use crate::staged::Staged;
-use crate::table::Table;
 use crate::tables::Tables;
-use mq_ir::{Change, Row};
-use mq_values::{Fail, Items, Refused, Words};
+use mq_ir::Change;
+use mq_values::{Fail, Refused, Words};
 use std::alloc::Global;
 
 impl Tables {
@@ -31,8 +25,7 @@ impl Tables {
             return Err(Fail::Cause(Refused::UnknownName(name.copy()?)));
         };
         judge_size(self.as_slice(), table, rows_added(c))?;
-        let draft = drafted(alloc, table, c)?;
-        keyed(alloc, table, c, draft)
+        Staged::of_change(alloc, table, c)
     }
 }
 
@@ -45,45 +38,5 @@ pub fn table_of(c: &Change) -> &Words
         Change::Append { table, .. } => table,
         Change::Update { table, .. } => table,
         Change::Delete { table, .. } => table,
-    }
-}
-
-// What a draft comes to, once its keys are judged.
-fn keyed(alloc: Global, table: &Table, c: &Change, draft: Draft) -> Result<Staged, Fail<Refused>>
-    requires { drafts.drafted table.now c.now ≡ Ok draft }
-    ensures { Gives result (drafts.keyed table.now draft) }
-{
-    let rows = keyed_rows(alloc, table, c, draft.rows)?;
-    Ok(Staged {
-        table: table.copy_name()?,
-        had: table.rows().len(),
-        rows,
-        counted: draft.counted,
-        origins: draft.origins,
-    })
-}
-
-// The rows that a change makes, under their keys. Those of old rows are looked at again only where they may differ.
-fn keyed_rows(
-    alloc: Global,
-    table: &Table,
-    c: &Change,
-    rows: Items<Row>,
-) -> Result<KeyedRows, Fail<Refused>>
-    requires { drafts.KeepsKeys table.now c.now rows }
-    ensures { Gives result (judged table.now.schema rows) }
-{
-    let schema = table.schema();
-    match c {
-        Change::Insert { .. } => table.keyed_rows().grown(alloc, schema, rows),
-        Change::Append { .. } => table.keyed_rows().grown(alloc, schema, rows),
-        Change::Update { sets, .. } => {
-            if spares_key(sets.as_slice(), schema.key.as_slice()) {
-                table.keyed_rows().with_same_keys(alloc, schema, rows)
-            } else {
-                KeyedRows::new(alloc, schema, rows)
-            }
-        }
-        Change::Delete { .. } => KeyedRows::new(alloc, schema, rows),
     }
 }

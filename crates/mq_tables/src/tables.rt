@@ -1,22 +1,25 @@
 //! The tables, in order of creation.
-ghost use Rattle.std.specs.Prelude.{◌≡◌, [], ◌∷◌, ◌++◌, None, not, position, OnOk, OnErr};
+ghost use Rattle.std.specs.Prelude.{◌≡◌, ◌≤◌, ◌<◌, [], ◌∷◌, ◌++◌, Some, None, Ok, length, not, position, slice_get, IfOk, OnOk, OnErr};
 ghost use Rattle.std.specs.List.{filter};
 ghost use Rattle.std.specs.Option.{option_copied};
 ghost use Rattle.mq_values.specs.Answers.{Gives, result_map};
+ghost use Rattle.mq_values.specs.declared.limits.TheConstants.{MAX_ROWS};
+ghost use Rattle.mq_ir.specs.Changes as changes;
 ghost use Rattle.mq_ir.specs.Statement.{with_rows};
-ghost use Rattle.mq_ir.specs.Tables.{is_name, table_at};
+ghost use Rattle.mq_ir.specs.Tables.{Table as Seen, is_name, table_at};
 ghost use Rattle.mq_tables.specs.Held.{HaveOwnNames, RowsFit};
 ghost use Rattle.mq_tables.specs.InPlace.{applied};
 ghost use Rattle.mq_tables.specs.Rows.{row_at, rows_at};
 ghost use Rattle.mq_tables.specs.Staging.{ChangeFits, StandsOn};
+ghost use Rattle.mq_tables.specs.Touching.{changed_at, count_of, touched_by};
 
-use crate::apply::change_at;
 use crate::keyed_rows::KeyedRows;
 use crate::row_view::RowView;
 use crate::sizes::{judge_size, rows_added};
 use crate::stage::table_of;
 use crate::staged::Staged;
 use crate::table::Table;
+use crate::touched::Touched;
 use mq_ir::{Change, Row, TableDef};
 use mq_values::{Fail, Memory, Refused};
 use std::alloc::Global;
@@ -123,12 +126,7 @@ impl Tables {
         ensures counted { result ≡ s.counted }
         ensures fit { StandsOn self.old s → RowsFit self.old → RowsFit self.new }
     {
-        let Staged {
-            table,
-            rows,
-            counted,
-            ..
-        } = s;
+        let (table, rows, counted) = s.into_parts();
         put_rows(&mut self.tables, table.as_str(), rows);
         counted as u64
     }
@@ -141,14 +139,40 @@ impl Tables {
         ensures err { OnErr result (self.new ≡ self.old) }
         ensures fit { RowsFit self.old → ChangeFits self.old c.now → RowsFit self.new }
     {
+        let touched = self.change(alloc, c)?;
+        Ok(touched.count() as u64)
+    }
+
+    /// The same, and tells what the change touched.
+    pub fn change(&mut self, alloc: Global, c: &Change) -> Result<Touched, Fail<Refused>>
+        ensures exact { Gives (result_map (λ touched. (self.new, count_of touched)) result) (applied self.old c.now) }
+        ensures touched { IfOk result (λ touched. touched_by self.old c.now ≡ Ok touched) }
+        ensures err { OnErr result (self.new ≡ self.old) }
+        ensures fit { RowsFit self.old → ChangeFits self.old c.now → RowsFit self.new }
+    {
         let name = table_of(c);
         let Some(place) = place_of(&self.tables, name.as_str()) else {
             return Err(Fail::Cause(Refused::UnknownName(name.copy()?)));
         };
         judge_size(&self.tables, &self.tables[place], rows_added(c))?;
-        let counted = change_at(alloc, &mut self.tables, place, c)?;
-        Ok(counted as u64)
+        change_at(alloc, &mut self.tables, place, c)
     }
+}
+
+// A change of the table at this place, whose size is judged.
+fn change_at(
+    alloc: Global,
+    tables: &mut Vec<Table>,
+    place: usize,
+    c: &Change,
+) -> Result<Touched, Fail<Refused>>
+    requires there { place < length tables.old.items }
+    requires rows { (t : Seen) → slice_get tables.old.items place ≡ Some t → length t.rows ≤ MAX_ROWS }
+    requires added { changes.rows_added c.now ≤ MAX_ROWS }
+    ensures exact { (t : Seen) → slice_get tables.old.items place ≡ Some t → Gives (result_map (λ touched. (tables.new.items, touched)) result) (changed_at tables.old.items place t c.now) }
+    ensures err { OnErr result (tables.new.items ≡ tables.old.items) }
+{
+    tables[place].change(alloc, c)
 }
 
 // Puts rows into the table of this name, where there is one.

@@ -1,23 +1,17 @@
-use Rattle.std.proofs.Common.{sym, subst, ◌∙◌}
+use Rattle.std.proofs.Common.{◌∙◌}
 use Rattle.mq_ir.specs.Unfolding.{model_of}
-use Rattle.mq_auto_shape.specs.Found.{AreRoundsOf}
 use Rattle.mq_auto.proofs.JudgeLemmas.{broken_is, done_is}
 use Rattle.mq_auto.proofs.computing.compute.Goals as goal
 
 pub walk_rounds-requires : goal.walk_rounds-requires
 walk_rounds-requires g c =
     let judged = rw c.in-Ok.is at c.in_ok-judged.ensures in
-    record {
-      own = judged.rounds.own;
-      ascend = judged.rounds.ascend;
-      refs = c.arrays_ascend-refs_ascend.ensures.0;
-      rounds = subst (AreRoundsOf (model_of c.args.m.now) c.in-Ok.shape) (sym c.as_slice.ensures) judged.rounds.rounds;
-    }
+    record { levelled = judged.rounds; refs = c.refs_order.ensures }
 
 pub returns-in_ok-walk_rounds-in-Ok-clause-verdict : goal.returns-in_ok-walk_rounds-in-Ok-clause-verdict
 returns-in_ok-walk_rounds-in-Ok-clause-verdict g c =
     let judged = rw c.in-Ok.is at c.in_ok-judged.ensures in
-    done_is (model_of c.args.m.now) c.args.p.now c.in-Ok.shape judged.exact
+    done_is (model_of c.args.m.now) c.args.p.now c.in-Ok.found.shape judged.exact
 
 pub returns-in_ok-walk_rounds-in-Ok-clause-values : goal.returns-in_ok-walk_rounds-in-Ok-clause-values
 returns-in_ok-walk_rounds-in-Ok-clause-values g c =

@@ -1,9 +1,8 @@
-use Rattle.std.proofs.Common.{◌≡◌, false, length, take, sym, ap, ◌∙◌, arith}
+use Rattle.std.proofs.Common.{◌≡◌, false, sym, ap, ◌∙◌, arith}
 use Rattle.std.specs.Map.{keys_of}
 use Rattle.std.specs.Ordering.{is_ne}
 use Rattle.std.proofs.lemmas.List.{take_all}
 use Rattle.mq_values.specs.Order.{cmp_key}
-use Rattle.mq_ir.specs.Partitions.{Cells}
 use Rattle.mq_auto.proofs.JudgeLemmas.{one_more_at}
 use Rattle.mq_auto.proofs.judging.are_at.Goals as goal
 

@@ -14,8 +14,8 @@ use Rattle.mq_auto.proofs.judging.judge.Goals as goal
 pub returns-in-Some : goal.returns-in-Some
 returns-in-Some c = input_faulted (model_of c.args.m.now) c.args.p.now c.in-Some.fault (sym c.in-Some.is ∙ c.in_ok-fault.ensures)
 
-pub shape_of-requires : goal.shape_of-requires
-shape_of-requires c =
+pub indexed_shape_of-requires : goal.indexed_shape_of-requires
+indexed_shape_of-requires c =
     let part = c.args.m.now.part.now in
     let p = c.args.p.now in
     let none : None ≡ option_map (at_partition p.key) (input_fault p) = sym c.in-None.is ∙ c.in_ok-fault.ensures in
@@ -28,8 +28,8 @@ returns-in-Ok c =
     let found = c.in-Ok.found in
     let none : None ≡ option_map (at_partition p.key) (input_fault p) = sym c.in-None.is ∙ c.in_ok-fault.ensures in
     let same : c.as_slice-2.result.now ≡ keys_of p.cells = c.as_slice-2.ensures ∙ c.in_ok-keys.ensures ∙ ap keys_of c.as_slice.ensures in
-    shape_judged model p none found.0 found.1 (subst (λ keys. Ok found.0 ≡ shape_meant model keys) same (rw c.in-Ok.is at c.in_ok-shape.ensures.exact))
-    (subst (λ keys. IsShapeOf model keys found.0) same (rw c.in-Ok.is at c.in_ok-shape.ensures.shape)) (rw c.in-Ok.is at c.in_ok-shape.ensures.rounds)
+    shape_judged model p none found (subst (λ keys. Ok found.shape ≡ shape_meant model keys) same (rw c.in-Ok.is at c.in_ok-shape.ensures.exact))
+    (subst (λ keys. IsShapeOf model keys found.shape) same (rw c.in-Ok.is at c.in_ok-shape.ensures.shape)) (rw c.in-Ok.is at c.in_ok-shape.ensures.rounds) (rw c.in-Ok.is at c.in_ok-shape.ensures.indexed)
 
 pub returns : goal.returns
 returns c =

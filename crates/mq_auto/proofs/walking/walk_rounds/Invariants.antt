@@ -8,7 +8,7 @@ use Rattle.mq_auto.proofs.walking.walk_rounds.Given as goal
 abbrev pub invariant-rounds : goal.invariant-rounds
 invariant-rounds g l = record {
   right : (input : Cells) → g.C.Cells.input l.fn.cells ≡ cell_at input → g.C.Cells.results l.fn.cells ≡ no_results
-      → AreRightWithin (model_of l.fn.m) l.s input l.round-index (g.C.Cells.results l.cells);
+      → AreRightWithin (model_of l.fn.m) l.found.shape input l.round-index (g.C.Cells.results l.cells);
   same : g.C.Cells.input l.cells ≡ g.C.Cells.input l.fn.cells;
   within : l.round-index ≤ length l.rounds;
 }

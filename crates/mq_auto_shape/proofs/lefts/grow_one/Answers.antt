@@ -1,9 +1,37 @@
-use Rattle.std.proofs.Common.{List, map, sym, ap, ◌∙◌}
+use Rattle.std.proofs.Common.{◌≡◌, List, [], None, map, sym, ap, subst, ◌∙◌}
+use Rattle.std.specs.List.{filter, list_any}
+use Rattle.mq_values.specs.Order.{cmp_key}
+use Rattle.mq_dim_index.specs.Places.{is_there}
 use Rattle.mq_ir.specs.Keys.{Tuple}
-use Rattle.mq_ir.specs.Shape.{cmp_assignment}
-use Rattle.mq_auto_shape.specs.Walk.{assigned_by, fault_in, placed_all}
-use Rattle.mq_auto_shape.proofs.LeftLemmas.{left_fails, left_passes}
+use Rattle.mq_ir.specs.Shape.{Assignment, assigns, cmp_assignment, least_of}
+use Rattle.mq_ir.specs.Targets.{targets}
+use Rattle.mq_auto_shape.specs.Walk.{AreUnassigned, Fresh, assigned_by, fault_in, placed_all}
+use Rattle.mq_auto_shape.proofs.CycleLemmas.{least_none}
+use Rattle.mq_auto_shape.proofs.FreshLemmas.{created_fresh, targets_fresh}
+use Rattle.mq_auto_shape.proofs.LeftLemmas.{left_fails, left_passes, none_again}
 use Rattle.mq_auto_shape.proofs.lefts.grow_one.Goals as goal
+
+pub with_created-requires : goal.with_created-requires
+with_created-requires c =
+    subst (Fresh (is_there c.args.growth.set)) (sym (c.as_slice-2.ensures ∙ c.in_ok-found.ensures.created))
+    (created_fresh c.args.left.now c.args.growth.set c.targets.ensures.ascend c.args.rule.now.mode)
+
+pub with_assigned-requires : goal.with_assigned-requires
+with_assigned-requires c =
+    let m = c.args.rule.now.measure in
+    let mode = c.args.rule.now.mode in
+    let left = c.args.left.now in
+    let set = c.args.growth.set in
+    let before = c.args.growth.assigned in
+    let cells = (targets left mode set).cells in
+    let had = λ (key : Tuple). list_any (assigns m key) before in
+    let none : None ≡ c.in_ok-again.again =
+    none_again c.args.number c.in_ok-again.again _ (sym c.in-None.is ∙ c.fault_of.ensures) in
+    let passes : filter had cells ≡ [] =
+    least_none cmp_key (filter had cells) (none ∙ c.in_ok-again.ensures ∙ ap (λ (l : List Tuple). least_of cmp_key (filter had l)) (c.as_slice.ensures ∙ c.in_ok-found.ensures.cells)) in
+    subst (λ (nodes : List Assignment). AreUnassigned m nodes c.as_slice-in-None.result.now) (sym c.in_ok-there.ensures.assigned)
+    (subst (AreUnassigned m before) (sym (c.as_slice-in-None.ensures ∙ c.in_ok-found.ensures.cells))
+    (targets_fresh left set c.targets.ensures.ascend mode had passes))
 
 pub returns-in-Some : goal.returns-in-Some
 returns-in-Some c =

@@ -4,8 +4,8 @@ use Rattle.mq_values.specs.Order.{cmp_key}
 use Rattle.mq_dim_index.proofs.NearLemmas.{stands_here}
 use Rattle.mq_dim_index.proofs.near.place_around.Goals as goal
 
-pub returns-in-Equal : goal.returns-in-Equal
-returns-in-Equal c =
+pub returns-in-Equal-clause-found : goal.returns-in-Equal-clause-found
+returns-in-Equal-clause-found c =
     let key = c.args.key.now in
     let found = c.in-Some.ensures.lookup.3 in
     stands_here c.args.keys.now key c.in-Some.own.now c.args.near c.requires found.0 found.1

@@ -4,8 +4,8 @@ use Rattle.mq_values.specs.Order.{cmp_key}
 use Rattle.mq_dim_index.proofs.NearLemmas.{stands_here}
 use Rattle.mq_dim_index.proofs.near.place_if_there.Goals as goal
 
-pub returns-in-Some : goal.returns-in-Some
-returns-in-Some c =
+pub returns-in-Some-clause-found : goal.returns-in-Some-clause-found
+returns-in-Some-clause-found c =
     let key = c.args.key.now in
     let found = c.in-Some.ensures.lookup.3 in
     stands_here c.args.keys.now key c.in-Some.own.now c.args.at c.requires found.0 found.1

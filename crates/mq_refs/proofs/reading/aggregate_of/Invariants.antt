@@ -1,4 +1,4 @@
-use Rattle.std.proofs.Common.{◌≡◌, drop, map}
+use Rattle.std.proofs.Common.{◌≡◌, [], drop, map, slice_index_or}
 use Rattle.std.specs.List.{filter}
 use Rattle.mq_values.specs.Aggregate.{aggregate}
 use Rattle.mq_ir.specs.Targets.{meets_every}
@@ -6,10 +6,10 @@ use Rattle.mq_reads.specs.Aggregation.{comes_to}
 use Rattle.mq_cells.specs.Stores.{cell_name}
 use Rattle.mq_refs.proofs.reading.aggregate_of.Given as goal
 
-abbrev pub invariant-loop-key : goal.invariant-loop-key
-invariant-loop-key g l = record {
+abbrev pub invariant-loop-place : goal.invariant-loop-place
+invariant-loop-place g l = record {
   same : g.W.Worths.worth l.worths ≡ g.W.Worths.worth l.fn.worths;
   meant :
-      comes_to l.aggregation (map (λ key. g.W.Worths.worth l.fn.worths (cell_name key l.measure)) (filter (meets_every l.tests) (drop l.key-index l.run)))
-      ≡ aggregate l.fn.agg (map (λ key. g.W.Worths.worth l.fn.worths (cell_name key l.measure)) (filter (meets_every l.tests) l.set));
+      comes_to l.aggregation (map (λ key. g.W.Worths.worth l.fn.worths (cell_name key l.measure)) (map (λ place. slice_index_or (g.K.CellKeys.set l.keys) place []) (drop l.place-index l.place-items)))
+      ≡ aggregate l.fn.agg (map (λ key. g.W.Worths.worth l.fn.worths (cell_name key l.measure)) (filter (meets_every l.tests) (g.K.CellKeys.set l.keys)));
 }

@@ -1,45 +1,47 @@
-use Rattle.std.proofs.Common.{◌≡◌, List, Bool, true, Some, sym, ap, subst, ◌∙◌}
-use Rattle.std.specs.List.Sorted.{IsStrictlySortedBy}
+use Rattle.std.proofs.Common.{arith, ap, sym, subst, ◌∙◌}
 use Rattle.std.specs.Map.{keys_of}
-use Rattle.std.specs.Prelude.{slice_set}
-use Rattle.mq_values.specs.Order.{cmp_key}
-use Rattle.mq_ir.specs.Keys.{Tuple}
+use Rattle.std.proofs.lemmas.Map.Entries.{length-keys_of}
 use Rattle.mq_dim_index.specs.Places.{place_of, with_key}
-use Rattle.mq_seq.specs.Marks.{marked_keys}
+use Rattle.mq_ir.specs.Ready.{HaveLength}
+use Rattle.mq_seq.specs.Marks.{Marked}
 use Rattle.mq_seq.specs.Steps.{State}
-use Rattle.mq_seq.specs.Tracks.{assign}
-use Rattle.mq_seq.proofs.MarkLemmas.{marked_where_found}
+use Rattle.mq_seq.specs.Tracks.{Track, assign}
+use Rattle.mq_seq.proofs.CreatedLemmas.{assign_there, assigned_keys}
+use Rattle.mq_seq.proofs.PlaceLemmas.{place_below}
 use Rattle.mq_seq.proofs.grid.Grid.assigned.Goals as goal
 
-pub returns : goal.returns
-returns c = λ i. record { input = input i; track = track i; updated = updated i; width = width i }
-  where
-    key : Tuple
-    key = c.args.key.now
+pub assigned-requires-clause-within : goal.assigned-requires-clause-within
+assigned-requires-clause-within c =
+    let g = c.self.inside in
+    let found = ap (λ (s : State). place_of (keys_of s.track.cells) c.args.key.now) c.self.view_is ∙ c.requires in
+    let below = place_below c.args.key.now (keys_of g.cells.cells) c.args.at found in
+    let long = length-keys_of g.cells.cells in
+    omega (arith, below, long)
 
-    keys : List Tuple
-    keys = c.self.inside.shape.cells
+pub assigned-requires-clause-placed : goal.assigned-requires-clause-placed
+assigned-requires-clause-placed c = ap (λ (s : State). place_of (keys_of s.track.cells) c.args.key.now) c.self.view_is ∙ c.requires
 
-    marks : List Bool
-    marks = c.self.inside.marks.items
+pub invariant_of-result : goal.invariant_of-result
+invariant_of-result c =
+    let g = c.self.inside in
+    let found = ap (λ (s : State). place_of (keys_of s.track.cells) c.args.key.now) c.self.view_is ∙ c.requires in
+    subst (HaveLength g.width)
+    (sym (ap (λ (m : Marked). keys_of m.cells) c.in_ok-cells.ensures ∙ assigned_keys g.cells.cells c.args.key.now c.args.m c.args.v c.args.at c.index-index.ensures.ascending found)) c.self.invariant
 
-    ascend : IsStrictlySortedBy cmp_key keys
-    ascend = subst (IsStrictlySortedBy cmp_key) (ap keys_of c.cells-2.ensures ∙ sym c.self.invariant.0) c.keys-keys.ensures.ascending
+pub returns-clause-set : goal.returns-clause-set
+returns-clause-set c =
+    let g = c.self.inside in
+    let key = c.args.key.now in
+    let found = ap (λ (s : State). place_of (keys_of s.track.cells) key) c.self.view_is ∙ c.requires in
+    let cells = c.in_ok-cells.ensures in
+    let track : Track = record { cells = g.cells.cells; firsts = g.noted } in
+    (λ i. record { input = (cells i).input; track = record { cells = (cells i).cells; firsts = c.in_ok-noted.ensures i }; updated = (cells i).updated; width = g.width; count = (cells i).count })
+    ∙ (λ i. record { input = g.cells.input; track = assign_there track key c.args.m c.args.v c.args.at found i; updated = with_key g.cells.updated key; width = g.width; count = g.cells.count })
+    ∙ ap (λ (s : State). record s { track = assign s.track key c.args.m c.args.v; updated = with_key s.updated key }) c.self.view_is
 
-    lent : keys ≡ keys_of c.cells-3.result.now
-    lent = c.self.invariant.0 ∙ sym (ap keys_of c.cells-3.ensures)
-
-    place : place_of keys key ≡ Some c.in-Some.at
-    place = (λ i. place_of (lent i) (sym c.as_slice.ensures i)) ∙ sym c.in-Some.ensures
-
-    input : c.self.inside.shape.base ≡ c.args.self.input
-    input = ap (λ (s : State). s.input) c.self.view_is
-
-    track : c.in_ok-cells.cells ≡ assign c.args.self.track key c.args.m c.args.v
-    track = c.in_ok-cells.ensures.cells ∙ ap (λ (s : State). assign s.track key c.args.m c.args.v) c.self.view_is
-
-    updated : marked_keys keys (slice_set marks c.in-Some.at true) ≡ with_key c.args.self.updated key
-    updated = marked_where_found key keys marks c.in-Some.at c.self.invariant.3 ascend place ∙ ap (λ (s : State). with_key s.updated key) c.self.view_is
-
-    width : c.self.inside.width ≡ c.args.self.width
-    width = ap (λ (s : State). s.width) c.self.view_is
+pub returns-clause-same_keys : goal.returns-clause-same_keys
+returns-clause-same_keys c =
+    let g = c.self.inside in
+    let found = ap (λ (s : State). place_of (keys_of s.track.cells) c.args.key.now) c.self.view_is ∙ c.requires in
+    ap (λ (m : Marked). keys_of m.cells) c.in_ok-cells.ensures
+    ∙ assigned_keys g.cells.cells c.args.key.now c.args.m c.args.v c.args.at c.index-index.ensures.ascending found ∙ ap (λ (s : State). keys_of s.track.cells) c.self.view_is

@@ -1,25 +1,36 @@
-use Rattle.std.proofs.Common.{length, sym, ap, ◌∙◌}
+use Rattle.std.proofs.Common.{◌≡◌, false, ap, sym, subst, ◌∙◌}
 use Rattle.std.specs.Map.{keys_of}
-use Rattle.mq_ir.specs.Unfolding.{model_of}
+use Rattle.mq_dim_index.specs.Places.{is_there}
+use Rattle.mq_ir.specs.Keys.{Tuple}
+use Rattle.mq_seq.specs.Marks.{IsFresh}
 use Rattle.mq_seq.specs.Steps.{State}
-use Rattle.mq_seq.proofs.GridLemmas.{created_wide, one_created}
+use Rattle.mq_seq.proofs.CreatedLemmas.{created_all, created_one, fresh_next, fresh_none, lacking_cell}
+use Rattle.mq_seq.proofs.StepLemmas.{fold_end, fold_next, fold_start}
 use Rattle.mq_seq.proofs.grid.Grid.with_created.Goals as goal
 
-pub with_one-requires-clause-one_more : goal.with_one-requires-clause-one_more
-with_one-requires-clause-one_more c =
-    let grid = c.self.inside in
-    let first = c.index-created-0-then-is_none in
-    c.index-then-is_none.ensures ∙ ap keys_of c.cells-then-is_none-2.ensures
-    ∙ sym (one_created (model_of c.args.m.now) grid.cells c.in_ok-cells.cells c.args.created.now c.in_ok-cells.ensures grid.shape.cells first.result c.self.invariant.0 c.if-created-eq1.true first.is)
+pub with_one-requires-clause-fresh : goal.with_one-requires-clause-fresh
+with_one-requires-clause-fresh c =
+    let key = c.key-item.result in
+    c.created.invariant.fresh key (subst (λ (k : Tuple). is_there (keys_of c.args.self.track.cells) k ≡ false) (sym c.key-item.is) (c.requires.new c.created.key-index key c.created-test.true))
 
-pub invariant_of-result : goal.invariant_of-result
-invariant_of-result c =
-    let grid = c.self.inside in
-    let keys = c.in_ok-keys.ensures.keys ∙ c.index-then-is_none.ensures ∙ ap keys_of c.cells-then-is_none-2.ensures in
-    let wide = created_wide (model_of c.args.m.now) grid.cells c.in_ok-cells.cells c.args.created.now c.in_ok-cells.ensures grid.width c.args.self.width (ap (λ (s : State). s.width) c.self.view_is) c.self.invariant.1 c.requires in
-    (keys, wide, c.self.invariant.2, c.in_ok-keys.ensures.one_each ∙ ap length (sym c.in_ok-keys.ensures.keys))
+pub created-init : goal.created-init
+created-init c = record {
+  folded = fold_start created_one c.args.self c.args.created.now;
+  fresh = λ key t. fresh_none c.args.self.count c.args.self.track.cells key (lacking_cell c.args.self.track.cells key t);
+  same_width = λ i. c.args.self.width;
+}
 
-pub seated-requires-clause-wide : goal.seated-requires-clause-wide
-seated-requires-clause-wide c =
-    let grid = c.self.inside in
-    created_wide (model_of c.args.m.now) grid.cells c.in_ok-cells-2.cells c.args.created.now c.in_ok-cells-2.ensures grid.width c.args.self.width (ap (λ (s : State). s.width) c.self.view_is) c.self.invariant.1 c.requires
+pub created-preserved : goal.created-preserved
+created-preserved c =
+    let now = c.created.grid in
+    let is = c.in_ok-grid.ensures in
+    record {
+      folded =
+          fold_next created_one c.args.self c.args.created.now c.created.key-index now c.key-item.result c.in_ok-grid.grid c.created-test.true c.key-item.is is c.created.invariant.folded;
+      fresh = λ key t. subst (λ (s : State). IsFresh s.count s.track.cells key) (sym is) (fresh_next now.count now.track.cells c.key-item.result key (c.created.invariant.fresh key t));
+      same_width = ap (λ (s : State). s.width) is ∙ c.created.invariant.same_width;
+    }
+
+pub returns : goal.returns
+returns c =
+    fold_end created_one c.args.self c.args.created.now c.created.key-index c.created.grid c.created-test.false c.created.invariant.folded ∙ created_all c.args.self c.args.created.now

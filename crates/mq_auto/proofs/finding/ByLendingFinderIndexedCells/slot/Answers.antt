@@ -1,0 +1,12 @@
+use Rattle.std.proofs.Common.{◌≡◌, subst}
+use Rattle.std.specs.Prelude.{IfOk}
+use Rattle.mq_ir.specs.declared.query.Slot.{Slot}
+use Rattle.mq_cells.specs.IndexedStores.{slots_in}
+use Rattle.mq_refs.specs.SlotsOver.{cell_slot_over}
+use Rattle.mq_auto.specs.Walks.{model_in}
+use Rattle.mq_auto.proofs.finding.ByLendingFinderIndexedCells.slot.Goals as goal
+
+pub returns-in-None-clause-exact : goal.returns-in-None-clause-exact
+returns-in-None-clause-exact c =
+    subst (λ (meant : Slot). IfOk c.slot_over.result (λ slot. slot ≡ meant))
+    (λ i. cell_slot_over (model_in c.args.work.now) (c.requires.cells i) (c.requires.base i) 0 c.args.rule.now c.args.target.now (slots_in c.args.cells.now)) c.slot_over.ensures.exact

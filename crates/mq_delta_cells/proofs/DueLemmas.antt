@@ -1,0 +1,153 @@
+-- Which assignments are due for a visit: what is not due the change does not reach, by what is known.
+use Rattle.std.proofs.Common.{◌≡◌, ℕ, zero, suc, ◌+◌, ◌<◌, ◌≤◌, Bool, true, false, ◌&&◌, ◌||◌, not, List, [], ◌∷◌, ◌++◌, get_or, length, map, take, Option, Some, None, slice_get, refl, sym, ap, ◌∙◌, inl, inr}
+use Rattle.std.specs.Prelude.{if◌then◌else◌, is_some, slice_index_or}
+use Rattle.std.specs.List.{find, list_any}
+use Rattle.std.proofs.lemmas.Bool.{or_cases, or_left, or_parts, or_right}
+use Rattle.std.proofs.lemmas.List.{take_all, take_more}
+use Rattle.mq_ir.specs.declared.query.CellName.{CellName}
+use Rattle.mq_ir.specs.declared.query.Look.{Look}
+use Rattle.mq_ir.specs.declared.query.Look.TheVariants.{Measure, Presence}
+use Rattle.mq_ir.specs.declared.query.PartShape.{PartShape}
+use Rattle.mq_ir.specs.Affected.{is_in_one}
+use Rattle.mq_ir.specs.Automatic.{node_of, rule_at}
+use Rattle.mq_ir.specs.Keys.{Tuple, is_among}
+use Rattle.mq_ir.specs.Shape.{Assignment, assigns}
+use Rattle.mq_ir.specs.Unfolding.{Model}
+use Rattle.mq_cells.specs.Stores.{is_named}
+use Rattle.mq_change_laws.specs.ChangeLaws.{SameLooksAreOne}
+use Rattle.mq_auto.specs.Walks.{AreOwn}
+use Rattle.mq_auto_shape.specs.Edges.{looks_by}
+use Rattle.mq_delta_cells.specs.Nodes.{Nodes, Numbers, is_in, number_in}
+use Rattle.mq_delta_cells.specs.Readers.{HasMarked, HasReadersOf, Readers, is_due, is_looked_at, is_reader}
+use Rattle.mq_delta_cells.specs.Seeds.{is_moved, is_told_outside, outside_by}
+use Rattle.mq_delta_cells.specs.Walks.{Ground, IsDue, ground_for, is_known_in}
+use Rattle.mq_delta_cells.proofs.NodeLemmas.{named_itself, named_same}
+use Rattle.mq_delta_cells.proofs.StepLemmas.{at_place}
+use Rattle.mq_delta_cells.proofs.TargetLemmas.{target_same}
+
+or_false : (a : Bool) → (a || false) ≡ a
+or_false true = refl
+or_false false = refl
+
+-- two tests that agree on the presences and on what these look at
+any_looked : (p q : Look → Bool) → ((key : Tuple) → p (Presence key) ≡ q (Presence key)) → (xs : List Look)
+    → ((c : CellName) → is_looked_at xs c ≡ true → p (Measure c) ≡ q (Measure c)) → list_any p xs ≡ list_any q xs
+any_looked p q presences [] h = refl
+any_looked p q presences (Measure d ∷ xs) h =
+    λ i. h d (or_left (is_named d d) (is_looked_at xs d) (named_itself d)) i
+    || any_looked p q presences xs (λ c l. h c (or_right (is_named d c) (is_looked_at xs c) l)) i
+any_looked p q presences (Presence key ∷ xs) h = λ i. presences key i || any_looked p q presences xs h i
+
+none_any : (xs : List Look) → list_any (λ u. false) xs ≡ false
+none_any [] = refl
+none_any (x ∷ xs) = none_any xs
+
+-- the list that stands at the place of an item
+mapped_at : {A B : Type 0} (f : A → List B) (xs : List A) (k : ℕ) (x : A) → slice_get xs k ≡ Some x → slice_index_or (map f xs) k [] ≡ f x
+mapped_at f [] k x h = cc
+mapped_at f (y ∷ ys) zero x h = let e : y ≡ x = cc in ap f e
+mapped_at f (y ∷ ys) (suc k) x h = mapped_at f ys k x h
+
+not_read : (readers : Readers) (c : CellName) (place : ℕ) (looks : List (List Look)) → HasReadersOf looks readers → is_reader readers c place ≡ false
+    → is_looked_at (slice_index_or looks place []) c ≡ false
+not_read readers c place looks has h = by (is_looked_at (slice_index_or looks place []) c) refl
+  where
+    by : (b : Bool) → is_looked_at (slice_index_or looks place []) c ≡ b → b ≡ false
+    by true e = let k : true ≡ false = sym (has c place e) ∙ h in cc
+    by false e = refl
+
+-- one more measure changed, and its readers are due
+pub due_next : (g : Ground) (readers : Readers) (looks : List (List Look)) → HasReadersOf looks readers → looks ≡ map (looks_by g.model g.shape) g.shape.assigned
+    → (changed next : Nodes) (name : CellName) (number : ℕ) (before after : List Bool) → Numbers changed next name number
+    → HasMarked readers name before after → IsDue g changed before → IsDue g next after
+due_next g readers looks has are changed next name number before after put marked due place a at h =
+    let m = marked place h in
+    let was = or_parts (g.told (node_of a)) (list_any (is_known_in g changed) (looks_by g.model g.shape a)) (due place a at m.0) in
+    let its : slice_index_or looks place [] ≡ looks_by g.model g.shape a =
+    ap (λ (l : List (List Look)). slice_index_or l place []) are ∙ mapped_at (looks_by g.model g.shape) g.shape.assigned place a at in
+    let unread : is_looked_at (looks_by g.model g.shape a) name ≡ false =
+    ap (λ (xs : List Look). is_looked_at xs name) (sym its) ∙ not_read readers name place looks has m.1 in
+    ap (λ b. g.told (node_of a) || b) (any_looked (is_known_in g next) (is_known_in g changed) (λ key. refl) (looks_by g.model g.shape a) (λ c l. same c l unread))
+    ∙ ap (λ b. b || list_any (is_known_in g changed) (looks_by g.model g.shape a)) was.0 ∙ was.1
+  where
+    same : (c : CellName) → is_looked_at (looks_by g.model g.shape a) c ≡ true → is_looked_at (looks_by g.model g.shape a) name ≡ false
+        → is_known_in g next (Measure c) ≡ is_known_in g changed (Measure c)
+    same c l unread = ap (λ b. b || g.outside (Measure c)) (by (is_named name c) refl)
+      where
+        by : (b : Bool) → is_named name c ≡ b → is_in next c ≡ is_in changed c
+        by true e =
+            let one : name ≡ c = named_same name c e in
+            absurd (let k : true ≡ false = sym l ∙ ap (is_looked_at (looks_by g.model g.shape a)) (sym one) ∙ unread in cc)
+        by false e = ap is_some (put c ∙ ap (λ b. if b then Some number else number_in changed c) e)
+
+-- ---- at first
+pub moved_next : (readers : Readers) (moved : List CellName) (i : ℕ) (name : CellName) (before after : List Bool) → i < length moved → name ≡ get_or moved i name
+    → HasMarked readers name before after
+    → ((place : ℕ) → is_due before place ≡ false → (c : CellName) → is_moved (take i moved) c ≡ true → is_reader readers c place ≡ false)
+    → (place : ℕ) → is_due after place ≡ false → (c : CellName) → is_moved (take (i + 1) moved) c ≡ true → is_reader readers c place ≡ false
+moved_next readers moved i name before after l at marked so place h c m =
+    let both = marked place h in
+    let parted : is_moved (take (i + 1) moved) c ≡ (is_moved (take i moved) c || (is_named c name || false)) =
+    ap (λ (xs : List CellName). is_moved xs c) (take_more moved i name l ∙ ap (λ (d : CellName). take i moved ++ d ∷ []) (sym at))
+    ∙ any_append (λ d. is_named c d) (take i moved) (name ∷ []) in
+    elim (or_cases (is_moved (take i moved) c) (is_named c name || false) (sym parted ∙ m)) [
+      | inl a ↦ so place both.0 c a
+      | inr b ↦ ap (λ (d : CellName). is_reader readers d place) (named_same c name (sym (or_false (is_named c name)) ∙ b)) ∙ both.1
+    ]
+  where
+    any_append : {A : Type 0} (p : A → Bool) (xs ys : List A) → list_any p (xs ++ ys) ≡ (list_any p xs || list_any p ys)
+    any_append p [] ys = refl
+    any_append p (x ∷ xs) ys = ap (λ b. p x || b) (any_append p xs ys) ∙ grouped (p x) (list_any p xs) (list_any p ys)
+      where
+        grouped : (a b c : Bool) → (a || (b || c)) ≡ ((a || b) || c)
+        grouped true b c = refl
+        grouped false b c = refl
+
+pub moved_all : (readers : Readers) (moved : List CellName) (i : ℕ) (due : List Bool) → length moved ≤ i
+    → ((place : ℕ) → is_due due place ≡ false → (c : CellName) → is_moved (take i moved) c ≡ true → is_reader readers c place ≡ false)
+    → (place : ℕ) → is_due due place ≡ false → (c : CellName) → is_moved moved c ≡ true → is_reader readers c place ≡ false
+moved_all readers moved i due l so place h c m = so place h c (ap (λ (xs : List CellName). is_moved xs c) (take_all i moved l) ∙ m)
+
+module _ (model : Model) (old new : PartShape) (moved : List CellName) (readers : Readers) (looks : List (List Look)) (own : AreOwn new)
+    (has : HasReadersOf looks readers) (are : looks ≡ map (looks_by model new) new.assigned) (law : (xs ys : List Look) → SameLooksAreOne xs ys) (same : old ≡ new) where
+  -- of one shape a look that did not move begins nothing
+  outside_none : (c : CellName) → is_moved moved c ≡ false → is_told_outside old new moved (Measure c) ≡ false
+  outside_none c h =
+      ap (λ (s : PartShape). is_told_outside s new moved (Measure c)) same
+      ∙ ap (λ b. b || outside_by new new moved c (rule_at new (Measure c)) (rule_at new (Measure c))) (in_none (is_among new.cells c.key))
+      ∙ by (rule_at new (Measure c))
+    where
+      in_none : (b : Bool) → ((b && not b) || (b && not b)) ≡ false
+      in_none true = refl
+      in_none false = refl
+
+      by : (o : Option ℕ) → outside_by new new moved c o o ≡ false
+      by (Some n) = refl
+      by None = ap (λ b. b || is_moved moved c) (in_none (is_among new.base c.key)) ∙ h
+
+  presence_none : (key : Tuple) → is_told_outside old new moved (Presence key) ≡ false
+  presence_none key = ap (λ (s : PartShape). is_in_one s.base new.base key) same ∙ by (is_among new.base key)
+    where
+      by : (b : Bool) → ((b && not b) || (b && not b)) ≡ false
+      by true = refl
+      by false = refl
+
+  pub first_due : (due : List Bool) → ((place : ℕ) → is_due due place ≡ false → (c : CellName) → is_moved moved c ≡ true → is_reader readers c place ≡ false)
+      → IsDue (ground_for model old new moved) [] due
+  first_due due so place a at h =
+      let g = ground_for model old new moved in
+      let mine = at_place (λ (b : Assignment). find (assigns b.1 b.0) new.assigned ≡ Some b) new.assigned place a at own in
+      let its : slice_index_or looks place [] ≡ looks_by model new a =
+      ap (λ (l : List (List Look)). slice_index_or l place []) are ∙ mapped_at (looks_by model new) new.assigned place a at in
+      let none : list_any (is_known_in g []) (looks_by model new a) ≡ false =
+      any_looked (is_known_in g []) (λ u. false) presence_none (looks_by model new a)
+      (λ c l. outside_none c (unmoved c (ap (λ (xs : List Look). is_looked_at xs c) its ∙ l)))
+      ∙ none_any (looks_by model new a) in
+      ap (λ b. b || list_any (is_known_in g []) (looks_by model new a)) (sym (target_same model old new moved a mine law same)) ∙ none
+    where
+      unmoved : (c : CellName) → is_looked_at (slice_index_or looks place []) c ≡ true → is_moved moved c ≡ false
+      unmoved c l = by (is_moved moved c) refl
+        where
+          by : (b : Bool) → is_moved moved c ≡ b → b ≡ false
+          by true e = let k : true ≡ false = sym (has c place l) ∙ so place h c e in cc
+          by false e = refl

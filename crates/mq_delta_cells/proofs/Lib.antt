@@ -1,0 +1,15 @@
+mod BeginLemmas
+mod DueLemmas
+mod GroundLemmas
+mod ListLemmas
+mod NodeLemmas
+mod PropagateLemmas
+mod ReaderLemmas
+mod RoundLemmas
+mod SeedLemmas
+mod SettledLemmas
+mod StartLemmas
+mod StepLemmas
+mod TargetLemmas
+mod TotalLemmas
+mod WalkLemmas

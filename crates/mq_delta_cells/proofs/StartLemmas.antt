@@ -1,0 +1,183 @@
+-- What is gathered before a walk, item by item.
+use Rattle.std.proofs.Common.{◌≡◌, ℕ, ◌+◌, ◌<◌, ◌≤◌, Bool, true, false, ◌&&◌, ◌||◌, not, cond, List, [], ◌∷◌, drop, length, get_or, Option, Some, None, refl, sym, ap, ◌∙◌, eqb}
+use Rattle.std.specs.Prelude.{if◌then◌else◌, is_some}
+use Rattle.std.specs.BTreeSet.{insert_key}
+use Rattle.std.specs.List.{find, list_any}
+use Rattle.std.specs.Option.{option_map}
+use Rattle.std.proofs.lemmas.Bool.{eqb-true}
+use Rattle.std.proofs.lemmas.List.{drop_all}
+use Rattle.mq_values.specs.KeySetLaws.{among_with}
+use Rattle.mq_values.specs.KeySets.{HasKeysOf}
+use Rattle.mq_values.specs.ListLaws.{next_item}
+use Rattle.mq_values.specs.Order.{cmp_key}
+use Rattle.mq_ir.specs.declared.query.CellName.{CellName}
+use Rattle.mq_ir.specs.Affected.{is_in_one}
+use Rattle.mq_ir.specs.Keys.{Tuple, is_among, is_same}
+use Rattle.mq_ir.specs.Shape.{Assignment, assigns}
+use Rattle.mq_cells.specs.Stores.{Results, cell_name, is_named, name_assigned}
+use Rattle.mq_change_laws.specs.SoundLaws.{same_is}
+use Rattle.mq_delta_cells.specs.Nodes.{Nodes, Numbers, is_in, number_in}
+use Rattle.mq_delta_cells.specs.Seeds.{is_gone, is_gone_at, is_missing, is_missing_at, is_moved}
+use Rattle.mq_delta_cells.proofs.NodeLemmas.{named_turned}
+
+swapped : (a b c : Bool) → ((a || b) || c) ≡ (b || (a || c))
+swapped true true c = refl
+swapped true false c = refl
+swapped false b c = refl
+
+or_false : (a : Bool) → (a || false) ≡ a
+or_false true = refl
+or_false false = refl
+
+-- ---- names
+is_in_next : (before after : Nodes) (name c : CellName) (number : ℕ) → Numbers before after name number → is_in after c ≡ (is_named name c || is_in before c)
+is_in_next before after name c number h = ap is_some (h c) ∙ by (is_named name c)
+  where
+    by : (b : Bool) → is_some (if b then Some number else number_in before c) ≡ (b || is_in before c)
+    by true = refl
+    by false = refl
+
+pub names_start : (names : Nodes) (moved : List CellName) → names ≡ [] → (c : CellName) → (is_in names c || is_moved (drop 0 moved) c) ≡ is_moved moved c
+names_start names moved e c = ap (λ (n : Nodes). is_in n c || is_moved moved c) e
+
+pub names_next : (moved : List CellName) (i : ℕ) (name : CellName) (key : Tuple) (before after : Nodes) → i < length moved → name ≡ get_or moved i name → key ≡ name.key
+    → Numbers before after (cell_name key name.measure) 0
+    → ((c : CellName) → (is_in before c || is_moved (drop i moved) c) ≡ is_moved moved c)
+    → (c : CellName) → (is_in after c || is_moved (drop (i + 1) moved) c) ≡ is_moved moved c
+names_next moved i name key before after l at k put h c =
+    ap (λ b. b || is_moved (drop (i + 1) moved) c)
+    (is_in_next before after (cell_name key name.measure) c 0 put
+    ∙ ap (λ (key : Tuple). is_named (cell_name key name.measure) c || is_in before c) k
+    ∙ ap (λ b. b || is_in before c) (named_turned name c))
+    ∙ swapped (is_named c name) (is_in before c) (is_moved (drop (i + 1) moved) c)
+    ∙ ap (λ (l : List CellName). is_in before c || is_moved l c) (sym (next_item moved i name l at))
+    ∙ h c
+
+pub names_end : (moved : List CellName) (i : ℕ) (names : Nodes) → length moved ≤ i → ((c : CellName) → (is_in names c || is_moved (drop i moved) c) ≡ is_moved moved c)
+    → (c : CellName) → is_in names c ≡ is_moved moved c
+names_end moved i names l h c =
+    sym (or_false (is_in names c)) ∙ ap (λ (m : List CellName). is_in names c || is_moved m c) (sym (drop_all i moved l)) ∙ h c
+
+-- ---- rules
+pub rules_start : (assigned : List Assignment) (at : ℕ) (rules : Nodes) → rules ≡ [] → length assigned ≤ at → (c : CellName)
+    → number_in rules c ≡ option_map (λ a. a.2) (find (assigns c.measure c.key) (drop at assigned))
+rules_start assigned at rules e l c =
+    ap (λ (n : Nodes). number_in n c) e
+    ∙ ap (λ (l : List Assignment). option_map (λ (a : Assignment). a.2) (find (assigns c.measure c.key) l)) (sym (drop_all at assigned l))
+
+pub rules_next : (assigned : List Assignment) (i : ℕ) (a : Assignment) (key : Tuple) (before after : Nodes) → i < length assigned → a ≡ get_or assigned i a → key ≡ a.0
+    → Numbers before after (cell_name key a.1) a.2
+    → ((c : CellName) → number_in before c ≡ option_map (λ a. a.2) (find (assigns c.measure c.key) (drop (i + 1) assigned)))
+    → (c : CellName) → number_in after c ≡ option_map (λ a. a.2) (find (assigns c.measure c.key) (drop i assigned))
+rules_next assigned i a key before after l at k put h c =
+    put c
+    ∙ ap (λ (key : Tuple). if is_named (cell_name key a.1) c then Some a.2 else number_in before c) k
+    ∙ ap (λ b. if b then Some a.2 else number_in before c) (named_turned (name_assigned a) c)
+    ∙ ap (λ o. if is_named c (name_assigned a) then Some a.2 else o) (h c)
+    ∙ by (is_named c (name_assigned a))
+    ∙ ap (λ (l : List Assignment). option_map (λ (a : Assignment). a.2) (find (assigns c.measure c.key) l)) (sym (next_item assigned i a l at))
+  where
+    rest : Option Assignment
+    rest = find (assigns c.measure c.key) (drop (i + 1) assigned)
+
+    by : (b : Bool) → (if b then Some a.2 else option_map (λ (a : Assignment). a.2) rest) ≡ option_map (λ (a : Assignment). a.2) (cond b (Some a) rest)
+    by true = refl
+    by false = refl
+
+-- ---- keys that others do not have
+and_not : (s : Bool) → (s && not true) ≡ false
+and_not true = refl
+and_not false = refl
+
+pub missing_kept : (q k : Tuple) (odd others : List Tuple) → is_among others k ≡ true → is_among odd q ≡ (is_among odd q || is_missing_at others q k)
+missing_kept q k odd others h = sym (ap (λ b. is_among odd q || b) (by (is_same q k) refl) ∙ or_false (is_among odd q))
+  where
+    by : (s : Bool) → is_same q k ≡ s → is_missing_at others q k ≡ false
+    by true e = ap (λ b. is_same q k && not b) (ap (is_among others) (same_is q k e) ∙ h) ∙ and_not (is_same q k)
+    by false e = ap (λ b. b && not (is_among others q)) e
+
+pub missing_put : (q k key : Tuple) (odd after others : List Tuple) → is_among others k ≡ false → key ≡ k → after ≡ insert_key cmp_key odd key
+    → is_among after q ≡ (is_among odd q || is_missing_at others q k)
+missing_put q k key odd after others h e a =
+    ap (λ (l : List Tuple). is_among l q) a ∙ ap (λ (key : Tuple). is_among (insert_key cmp_key odd key) q) e ∙ among_with q k odd ∙ by (is_same q k) refl
+  where
+    turned : (b : Bool) → true ≡ (b || true)
+    turned true = refl
+    turned false = refl
+
+    by : (s : Bool) → is_same q k ≡ s → (is_same q k || is_among odd q) ≡ (is_among odd q || is_missing_at others q k)
+    by true e =
+        let none : is_among others q ≡ false = ap (is_among others) (same_is q k e) ∙ h in
+        ap (λ b. b || is_among odd q) e ∙ turned (is_among odd q) ∙ (λ i. is_among odd q || (sym e i && not (sym none i)))
+    by false e =
+        ap (λ b. b || is_among odd q) e ∙ sym (or_false (is_among odd q)) ∙ ap (λ b. is_among odd q || (b && not (is_among others q))) (sym e)
+
+grouped : (a b c : Bool) → ((a || b) || c) ≡ (a || (b || c))
+grouped true b c = refl
+grouped false b c = refl
+
+pub missing_next : (keys others first before after : List Tuple) (i : ℕ) (key : Tuple) → i < length keys → key ≡ get_or keys i key
+    → ((q : Tuple) → is_among after q ≡ (is_among before q || is_missing_at others q key))
+    → ((q : Tuple) → (is_among before q || is_missing (drop i keys) others q) ≡ (is_among first q || is_missing keys others q))
+    → (q : Tuple) → (is_among after q || is_missing (drop (i + 1) keys) others q) ≡ (is_among first q || is_missing keys others q)
+missing_next keys others first before after i key l at put h q =
+    ap (λ b. b || is_missing (drop (i + 1) keys) others q) (put q)
+    ∙ grouped (is_among before q) (is_missing_at others q key) (is_missing (drop (i + 1) keys) others q)
+    ∙ ap (λ (l : List Tuple). is_among before q || is_missing l others q) (sym (next_item keys i key l at))
+    ∙ h q
+
+pub missing_end : (keys others first odd : List Tuple) (i : ℕ) → length keys ≤ i
+    → ((q : Tuple) → (is_among odd q || is_missing (drop i keys) others q) ≡ (is_among first q || is_missing keys others q))
+    → (q : Tuple) → is_among odd q ≡ (is_among first q || is_missing keys others q)
+missing_end keys others first odd i l h q =
+    sym (or_false (is_among odd q)) ∙ ap (λ (m : List Tuple). is_among odd q || is_missing m others q) (sym (drop_all i keys l)) ∙ h q
+
+missing_is : (keys others : List Tuple) (q : Tuple) → is_missing keys others q ≡ (is_among keys q && not (is_among others q))
+missing_is keys others q = any_and (not (is_among others q)) keys
+  where
+    parted : (a b k : Bool) → ((a && k) || (b && k)) ≡ ((a || b) && k)
+    parted true true true = refl
+    parted true true false = refl
+    parted true false true = refl
+    parted true false false = refl
+    parted false b k = refl
+
+    any_and : (k : Bool) (xs : List Tuple) → list_any (λ x. is_same q x && k) xs ≡ (is_among xs q && k)
+    any_and k [] = refl
+    any_and k (x ∷ xs) = ap (λ b. (is_same q x && k) || b) (any_and k xs) ∙ parted (is_same q x) (is_among xs q) k
+
+-- a set of what each of two lists has alone
+pub odd_is : (a b of_a of_b none one both : List Tuple) → HasKeysOf a of_a → HasKeysOf b of_b → none ≡ []
+    → ((q : Tuple) → is_among one q ≡ (is_among none q || is_missing a of_b q)) → ((q : Tuple) → is_among both q ≡ (is_among one q || is_missing b of_a q))
+    → (q : Tuple) → is_among both q ≡ is_in_one a b q
+odd_is a b of_a of_b none one both ha hb e f g q =
+    g q
+    ∙ ap (λ s. s || is_missing b of_a q) (f q ∙ ap (λ (n : List Tuple). is_among n q || is_missing a of_b q) e)
+    ∙ (λ i. missing_is a of_b q i || missing_is b of_a q i)
+    ∙ (λ i. (is_among a q && not (hb q i)) || (is_among b q && not (ha q i)))
+
+-- ---- what is gone
+pub gone_next : (assigned : List Assignment) (rules : Nodes) (first before after : Results) (i : ℕ) (a : Assignment) → i < length assigned → a ≡ get_or assigned i a
+    → ((c : CellName) → after c ≡ (if is_gone_at rules c a then None else before c))
+    → ((c : CellName) → (if is_gone (drop i assigned) rules c then None else before c) ≡ (if is_gone assigned rules c then None else first c))
+    → (c : CellName) → (if is_gone (drop (i + 1) assigned) rules c then None else after c) ≡ (if is_gone assigned rules c then None else first c)
+gone_next assigned rules first before after i a l at cleared h c =
+    ap (λ o. if is_gone (drop (i + 1) assigned) rules c then None else o) (cleared c)
+    ∙ by (is_gone (drop (i + 1) assigned) rules c) (is_gone_at rules c a)
+    ∙ ap (λ (l : List Assignment). if is_gone l rules c then None else before c) (sym (next_item assigned i a l at))
+    ∙ h c
+  where
+    by : (r g : Bool) → (if r then None else (if g then None else before c)) ≡ (if g || r then None else before c)
+    by true true = refl
+    by true false = refl
+    by false true = refl
+    by false false = refl
+
+pub gone_end : (assigned : List Assignment) (rules : Nodes) (first now : Results) (i : ℕ) → length assigned ≤ i
+    → ((c : CellName) → (if is_gone (drop i assigned) rules c then None else now c) ≡ (if is_gone assigned rules c then None else first c))
+    → (c : CellName) → now c ≡ (if is_gone assigned rules c then None else first c)
+gone_end assigned rules first now i l h c = ap (λ (m : List Assignment). if is_gone m rules c then None else now c) (sym (drop_all i assigned l)) ∙ h c
+
+-- ---- assignments
+pub assignment_same : (a b : Assignment) → a.0 ≡ b.0 → a.1 ≡ b.1 → eqb a.2 b.2 ≡ true → a ≡ b
+assignment_same a b k m n = λ i. (k i, m i, eqb-true a.2 b.2 n i)

@@ -1,0 +1,19 @@
+//! A change of a partition's input, propagated to the cells that depend on it.
+#![tactic(auto)]
+
+mod course;
+mod dues;
+mod node_map;
+mod propagating;
+mod reader_map;
+mod seeds;
+mod starting;
+mod visiting;
+mod walking;
+mod work;
+
+pub use course::{Course, course_of};
+pub use mq_auto::Verdict;
+pub use node_map::NodeMap;
+pub use propagating::{propagate, propagate_over, propagate_values};
+pub use reader_map::ReaderMap;

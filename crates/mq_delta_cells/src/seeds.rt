@@ -1,0 +1,206 @@
+//! Where a change begins.
+ghost use Rattle.std.specs.Prelude.{◌≡◌, Some, IfOk};
+ghost use Rattle.std.specs.List.{find};
+ghost use Rattle.mq_ir.specs.declared.query.Look.TheVariants.{Measure};
+ghost use Rattle.mq_ir.specs.Affected as affected;
+ghost use Rattle.mq_ir.specs.Automatic.{node_of, rule_at};
+ghost use Rattle.mq_ir.specs.Shape.{assigns};
+ghost use Rattle.mq_ir.specs.Unfolding.{model_of};
+ghost use Rattle.mq_auto_shape.specs.Edges.{looks_by};
+ghost use Rattle.mq_cells.specs.Stores.{name_assigned};
+ghost use Rattle.mq_delta_cells.specs.Nodes.{HasRulesOf, is_in};
+ghost use Rattle.mq_delta_cells.specs.Seeds as spec;
+ghost use Rattle.mq_delta_cells.specs.Seeds.{AreDifferences, AreSeeds};
+
+use crate::course::looks_at;
+use crate::node_map::NodeMap;
+use crate::work::Work;
+use mq_change_laws::same_looks_are_one;
+use mq_ir::{CellName, Look, PartShape};
+use mq_values::{Key, KeySet, Memory};
+use std::alloc::Global;
+
+/// How a new shape differs from an old one: the cells that one of them has alone, the keys that one of their inputs has
+/// alone, and the rules of the old one by the measures that they assign.
+#[derive(Drop)]
+pub struct Differences {
+    pub cells: KeySet,
+    pub base: KeySet,
+    pub rules: NodeMap,
+}
+
+/// A change: the old shape, the measures that moved, the same to be looked up, and how the new shape differs from the old
+/// one, where it does.
+#[derive(Drop)]
+pub struct Seeds<'a> {
+    pub old: &'a PartShape,
+    pub moved: &'a [CellName],
+    pub names: NodeMap,
+    pub differ: Option<Differences>,
+}
+
+/// Whether the change begins at a look that no rule assigns; at one that a rule does, whether its cell comes or goes.
+pub fn begins_at_look(work: &Work<'_>, look: &Look) -> Result<bool, Memory>
+    requires rules { HasRulesOf work.now.shape.now work.now.course.now.rules }
+    requires seeds { AreSeeds work.now.shape.now work.now.seeds.now }
+    ensures { IfOk result (λ begins. begins
+        ≡ spec.is_told_outside work.now.seeds.now.old.now work.now.shape.now work.now.seeds.now.moved.now look.now) }
+{
+    match &work.seeds.differ {
+        None => moves_at(work, look),
+        Some(differences) => differs_at(work, differences, look),
+    }
+}
+
+// The same where the shapes are one.
+fn moves_at(work: &Work<'_>, look: &Look) -> Result<bool, Memory>
+    requires rules { HasRulesOf work.now.shape.now work.now.course.now.rules }
+    requires seeds { AreSeeds work.now.shape.now work.now.seeds.now }
+    requires same { work.now.seeds.now.old.now ≡ work.now.shape.now }
+    ensures { IfOk result (λ begins. begins
+        ≡ spec.is_told_outside work.now.seeds.now.old.now work.now.shape.now work.now.seeds.now.moved.now look.now) }
+{
+    let Look::Measure(name) = look else {
+        return Ok(false);
+    };
+    if has(&work.seeds.names, name)? {
+        Ok(!has(&work.course.rules, name)?)
+    } else {
+        Ok(false)
+    }
+}
+
+// The same where they differ in this way.
+fn differs_at(work: &Work<'_>, differences: &Differences, look: &Look) -> Result<bool, Memory>
+    requires rules { HasRulesOf work.now.shape.now work.now.course.now.rules }
+    requires seeds { AreSeeds work.now.shape.now work.now.seeds.now }
+    requires differ { AreDifferences work.now.seeds.now.old.now work.now.shape.now differences.now }
+    ensures { IfOk result (λ begins. begins
+        ≡ spec.is_told_outside work.now.seeds.now.old.now work.now.shape.now work.now.seeds.now.moved.now look.now) }
+{
+    match look {
+        Look::Presence(key) => Ok(differences.base.has(key)),
+        Look::Measure(name) => {
+            if differences.cells.has(&name.key) {
+                return Ok(true);
+            }
+            differs_by_rules(work, differences, name)
+        }
+    }
+}
+
+// Whether a change begins at a measure whose cell is in both shapes or in neither, and that no rule of the new one assigns.
+fn differs_by_rules(
+    work: &Work<'_>,
+    differences: &Differences,
+    name: &CellName,
+) -> Result<bool, Memory>
+    requires rules { HasRulesOf work.now.shape.now work.now.course.now.rules }
+    requires seeds { AreSeeds work.now.shape.now work.now.seeds.now }
+    requires differ { AreDifferences work.now.seeds.now.old.now work.now.shape.now differences.now }
+    ensures { IfOk result (λ begins. begins
+        ≡ spec.outside_by work.now.seeds.now.old.now work.now.shape.now work.now.seeds.now.moved.now name.now
+        (rule_at work.now.seeds.now.old.now (Measure name.now)) (rule_at work.now.shape.now (Measure name.now))) }
+{
+    if has(&work.course.rules, name)? {
+        return Ok(false);
+    }
+    if has(&differences.rules, name)? {
+        return Ok(true);
+    }
+    if differences.base.has(&name.key) {
+        return Ok(true);
+    }
+    has(&work.seeds.names, name)
+}
+
+// Whether a measure has a number.
+fn has(nodes: &NodeMap, name: &CellName) -> Result<bool, Memory>
+    ensures { IfOk result (λ has. has ≡ is_in nodes.now name.now) }
+{
+    let number = nodes.get(&name.key, name.measure)?;
+    Ok(number.is_some())
+}
+
+/// Whether the change begins at the measure of an assignment, which looks at these.
+pub fn begins_at_target(
+    alloc: Global,
+    work: &Work<'_>,
+    a: &(Key, u32, u32),
+    looks: &[Look],
+) -> Result<bool, Memory>
+    requires seeds { AreSeeds work.now.shape.now work.now.seeds.now }
+    requires own { find (assigns a.now.1 a.now.0) work.now.shape.now.assigned ≡ Some a.now }
+    requires looks { looks.now ≡ looks_by (model_of work.now.model.now) work.now.shape.now a.now }
+    ensures { IfOk result (λ begins. begins
+        ≡ spec.is_told (model_of work.now.model.now) work.now.seeds.now.old.now work.now.shape.now work.now.seeds.now.moved.now
+        (node_of a.now)) }
+{
+    match &work.seeds.differ {
+        None => {
+            same_looks_are_one();
+            Ok(false)
+        }
+        Some(differences) => {
+            if differences.cells.has(&a.0) {
+                return Ok(true);
+            }
+            differs_by_looks(alloc, work, differences, a, looks)
+        }
+    }
+}
+
+// Whether the old shape has no rule, another rule or other looks for an assignment.
+fn differs_by_looks(
+    alloc: Global,
+    work: &Work<'_>,
+    differences: &Differences,
+    a: &(Key, u32, u32),
+    looks: &[Look],
+) -> Result<bool, Memory>
+    requires differ { AreDifferences work.now.seeds.now.old.now work.now.shape.now differences.now }
+    requires own { find (assigns a.now.1 a.now.0) work.now.shape.now.assigned ≡ Some a.now }
+    requires looks { looks.now ≡ looks_by (model_of work.now.model.now) work.now.shape.now a.now }
+    ensures { IfOk result (λ begins. begins
+        ≡ spec.told_by (model_of work.now.model.now) work.now.seeds.now.old.now work.now.shape.now work.now.seeds.now.moved.now
+        (name_assigned a.now) (rule_at work.now.seeds.now.old.now (node_of a.now)) (rule_at work.now.shape.now (node_of a.now))) }
+{
+    match differences.rules.get(&a.0, a.1)? {
+        None => Ok(true),
+        Some(number) => {
+            if number == a.2 {
+                let were = looks_at(alloc, work.model, work.seeds.old, a)?;
+                return Ok(!are_same_looks(were.as_slice(), looks));
+            }
+            Ok(true)
+        }
+    }
+}
+
+// Whether two lists of looks are one.
+fn are_same_looks(a: &[Look], b: &[Look]) -> bool
+    ensures { result ≡ affected.are_same_looks a.now b.now }
+{
+    if a.len() != b.len() {
+        return false;
+    }
+    for i in 0..a.len() {
+        if !is_same_look(&a[i], &b[i]) {
+            return false;
+        }
+    }
+    true
+}
+
+// Whether two looks are one.
+fn is_same_look(a: &Look, b: &Look) -> bool
+    ensures { result ≡ affected.is_same_look a.now b.now }
+{
+    match (a, b) {
+        (Look::Measure(a), Look::Measure(b)) => {
+            a.key.cmp(&b.key).is_eq() && a.measure == b.measure
+        }
+        (Look::Presence(a), Look::Presence(b)) => a.cmp(b).is_eq(),
+        _ => false,
+    }
+}

@@ -1,0 +1,220 @@
+//! What is done before a walk.
+ghost use Rattle.std.specs.Prelude.{◌≡◌, ◌||◌, ◌&&◌, not, None, true, if◌then◌else◌, IfOk, OnOk};
+ghost use Rattle.mq_ir.specs.Keys.{Tuple, is_among};
+ghost use Rattle.mq_ir.specs.declared.query.CellName.{CellName};
+ghost use Rattle.mq_delta_cells.specs.Nodes.{HasRulesOf, is_in};
+ghost use Rattle.mq_delta_cells.specs.Seeds.{AreDifferences, AreSeeds, HasOddKeysOf, has_vanished, is_gone, is_gone_at, is_missing, is_missing_at, is_moved};
+
+use crate::course::rules_of;
+use crate::node_map::NodeMap;
+use crate::seeds::{Differences, Seeds};
+use mq_cells::Cells;
+use mq_ir::{CellName, PartShape};
+use mq_values::{Key, KeySet, Memory, set_of};
+use std::alloc::Global;
+
+/// What a change begins with, where the shape `old` becomes `new` and these measures moved.
+pub fn seeds_of<'a>(
+    alloc: Global,
+    old: &'a PartShape,
+    new: &PartShape,
+    moved: &'a [CellName],
+) -> Result<Seeds<'a>, Memory>
+    ensures seeds { IfOk result (AreSeeds new.now) }
+    ensures old { IfOk result (λ seeds. seeds.old.now ≡ old.now) }
+    ensures moved { IfOk result (λ seeds. seeds.moved.now ≡ moved.now) }
+{
+    let names = names_of(alloc, moved)?;
+    if are_one(old, new) {
+        return Ok(Seeds {
+            old,
+            moved,
+            names,
+            differ: None,
+        });
+    }
+    let differ = Some(differences(alloc, old, new)?);
+    Ok(Seeds {
+        old,
+        moved,
+        names,
+        differ,
+    })
+}
+
+/// The same where the shape stays.
+pub fn moved_alone<'a>(
+    alloc: Global,
+    shape: &'a PartShape,
+    moved: &'a [CellName],
+) -> Result<Seeds<'a>, Memory>
+    ensures seeds { IfOk result (AreSeeds shape.now) }
+    ensures old { IfOk result (λ seeds. seeds.old.now ≡ shape.now) }
+    ensures moved { IfOk result (λ seeds. seeds.moved.now ≡ moved.now) }
+{
+    Ok(Seeds {
+        old: shape,
+        moved,
+        names: names_of(alloc, moved)?,
+        differ: None,
+    })
+}
+
+// These measures, to be looked up.
+fn names_of(alloc: Global, moved: &[CellName]) -> Result<NodeMap, Memory>
+    ensures { IfOk result (λ names. (c : CellName) → is_in names c ≡ is_moved moved.now c) }
+{
+    let mut names = NodeMap::new(alloc);
+    'putting: for name in moved {
+        names.put(name.key.copy()?, name.measure, 0)?;
+    }
+    Ok(names)
+}
+
+// How the shapes differ.
+fn differences(alloc: Global, old: &PartShape, new: &PartShape) -> Result<Differences, Memory>
+    ensures { IfOk result (AreDifferences old.now new.now) }
+{
+    let cells = odd_keys(alloc, old.cells.as_slice(), new.cells.as_slice())?;
+    let base = odd_keys(alloc, old.base.as_slice(), new.base.as_slice())?;
+    let rules = rules_of(alloc, old)?;
+    Ok(Differences { cells, base, rules })
+}
+
+// The keys that are in one of these alone.
+fn odd_keys(alloc: Global, a: &[Key], b: &[Key]) -> Result<KeySet, Memory>
+    ensures { IfOk result (HasOddKeysOf a.now b.now) }
+{
+    let of_a = set_of(alloc, a)?;
+    let of_b = set_of(alloc, b)?;
+    let mut odd = KeySet::new(alloc);
+    put_missing(a, &of_b, &mut odd)?;
+    put_missing(b, &of_a, &mut odd)?;
+    Ok(odd)
+}
+
+// Puts those of `keys` to `odd` that are not among `others`.
+fn put_missing(keys: &[Key], others: &KeySet, odd: &mut KeySet) -> Result<(), Memory>
+    ensures { OnOk result ((key : Tuple) → is_among odd.new key ≡ (is_among odd.old key || is_missing keys.now others.now key)) }
+{
+    'putting: for key in keys {
+        put_if_missing(key, others, odd)?;
+    }
+    Ok(())
+}
+
+// The same of one key.
+fn put_if_missing(key: &Key, others: &KeySet, odd: &mut KeySet) -> Result<(), Memory>
+    ensures { OnOk result ((q : Tuple) → is_among odd.new q ≡ (is_among odd.old q || is_missing_at others.now q key.now)) }
+{
+    if others.has(key) {
+        return Ok(());
+    }
+    odd.put(key.copy()?)
+}
+
+// Whether the shapes are one.
+fn are_one(old: &PartShape, new: &PartShape) -> bool
+    ensures { result ≡ true → old.now ≡ new.now }
+{
+    are_same_keys(old.base.as_slice(), new.base.as_slice())
+        && are_same_keys(old.cells.as_slice(), new.cells.as_slice())
+        && are_same_assignments(old.assigned.as_slice(), new.assigned.as_slice())
+}
+
+// Whether these are the same keys, in the same order.
+fn are_same_keys(a: &[Key], b: &[Key]) -> bool
+    ensures { result ≡ true → a.now ≡ b.now }
+{
+    if a.len() != b.len() {
+        return false;
+    }
+    'comparing: for i in 0..a.len() {
+        if a[i].cmp(&b[i]).is_ne() {
+            return false;
+        }
+    }
+    true
+}
+
+// Whether these are the same assignments, in the same order.
+fn are_same_assignments(a: &[(Key, u32, u32)], b: &[(Key, u32, u32)]) -> bool
+    ensures { result ≡ true → a.now ≡ b.now }
+{
+    if a.len() != b.len() {
+        return false;
+    }
+    'comparing: for i in 0..a.len() {
+        if !is_same_assignment(&a[i], &b[i]) {
+            return false;
+        }
+    }
+    true
+}
+
+// Whether these are the same assignment.
+fn is_same_assignment(a: &(Key, u32, u32), b: &(Key, u32, u32)) -> bool
+    ensures { result ≡ true → a.now ≡ b.now }
+{
+    if a.0.cmp(&b.0).is_ne() {
+        return false;
+    }
+    if a.1 == b.1 {
+        return a.2 == b.2;
+    }
+    false
+}
+
+/// Takes away the results of what a rule of the old shape assigned and none of the new one does. `rules` has those of the new one.
+pub fn clear_vanished<C: Cells>(
+    seeds: &Seeds<'_>,
+    new: &PartShape,
+    rules: &NodeMap,
+    cells: &mut C,
+) -> Result<(), Memory>
+    requires seeds { AreSeeds new.now seeds.now }
+    requires rules { HasRulesOf new.now rules.now }
+    ensures cleared { OnOk result ((c : CellName) → C.results cells.new c
+        ≡ (if has_vanished seeds.now.old.now new.now c then None else C.results cells.old c)) }
+    ensures same_input { C.input cells.new ≡ C.input cells.old }
+    ensures same_looks { C.looks cells.new ≡ C.looks cells.old }
+{
+    match seeds.differ {
+        Some(_) => clear_gone(seeds.old.assigned.as_slice(), rules, cells),
+        None => Ok(()),
+    }
+}
+
+// The same of what these assign and the rules do not.
+fn clear_gone<C: Cells>(
+    assigned: &[(Key, u32, u32)],
+    rules: &NodeMap,
+    cells: &mut C,
+) -> Result<(), Memory>
+    ensures cleared { OnOk result ((c : CellName) → C.results cells.new c
+        ≡ (if is_gone assigned.now rules.now c then None else C.results cells.old c)) }
+    ensures same_input { C.input cells.new ≡ C.input cells.old }
+    ensures same_looks { C.looks cells.new ≡ C.looks cells.old }
+{
+    'clearing: for a in assigned {
+        clear_if_gone(a, rules, cells)?;
+    }
+    Ok(())
+}
+
+// The same for one assignment.
+fn clear_if_gone<C: Cells>(
+    a: &(Key, u32, u32),
+    rules: &NodeMap,
+    cells: &mut C,
+) -> Result<(), Memory>
+    ensures cleared { OnOk result ((c : CellName) → C.results cells.new c
+        ≡ (if is_gone_at rules.now c a.now then None else C.results cells.old c)) }
+    ensures same_input { C.input cells.new ≡ C.input cells.old }
+    ensures same_looks { C.looks cells.new ≡ C.looks cells.old }
+{
+    if rules.get(&a.0, a.1)?.is_none() {
+        cells.clear(&a.0, a.1);
+    }
+    Ok(())
+}

@@ -1,0 +1,160 @@
+//! An assignment that a change may reach.
+ghost use Rattle.std.specs.Prelude.{◌≡◌, ◌+◌, ◌≤◌, ◌<◌, Some, length, slice_get, if◌then◌else◌, IfOk, OnOk};
+ghost use Rattle.std.specs.List.{find, list_any};
+ghost use Rattle.mq_ir.specs.Shape.{Assignment, assigns};
+ghost use Rattle.mq_auto_shape.specs.Edges.{looks_by};
+ghost use Rattle.mq_auto_shape.specs.Found.{IsRuled};
+ghost use Rattle.mq_refs.specs.Sightings.{measures_in};
+ghost use Rattle.mq_delta_cells.specs.Courses.{IsCourse};
+ghost use Rattle.mq_cells.specs.Stores.{name_assigned};
+ghost use Rattle.mq_delta_cells.specs.Readers as readers;
+ghost use Rattle.mq_delta_cells.specs.Readers.{HasMarked};
+ghost use Rattle.mq_delta_cells.specs.Seeds.{AreSeeds};
+ghost use Rattle.mq_delta_cells.specs.Walks as spec;
+ghost use Rattle.mq_delta_cells.specs.Walks.{IsAssigned, IsDue, IsVisited, ground_of, is_known_in, model_at};
+
+use crate::course::rule_of;
+use crate::node_map::NodeMap;
+use crate::seeds::{begins_at_look, begins_at_target};
+use crate::work::Work;
+use mq_cells::Cells;
+use mq_ir::Look;
+use mq_refs::eval_cell;
+use mq_values::{Key, Memory};
+use std::alloc::Global;
+
+/// Visits the assignment at a place, where it is due: where the change reaches it its slot is found anew and put, it is among
+/// what `changed` then, and what looks at it is due.
+pub fn visit<C: Cells>(
+    alloc: Global,
+    work: &Work<'_>,
+    place: u32,
+    changed: &mut NodeMap,
+    due: &mut Vec<bool>,
+    cells: &mut C,
+) -> Result<(), Memory>
+    requires course { IsCourse (model_at work.now) work.now.shape.now work.now.course.now }
+    requires seeds { AreSeeds work.now.shape.now work.now.seeds.now }
+    requires place { place < length work.now.shape.now.assigned }
+    requires due { IsDue (ground_of work.now) changed.old due.old.items }
+    ensures visited { OnOk result ((a : Assignment) → slice_get work.now.shape.now.assigned place ≡ Some a
+        → IsVisited (ground_of work.now) (C.input cells.old) (C.results cells.old) (C.results cells.new) changed.old changed.new a) }
+    ensures due { OnOk result (IsDue (ground_of work.now) changed.new due.new.items) }
+    ensures reads { (a : Assignment) → slice_get work.now.shape.now.assigned place ≡ Some a
+        → C.looks cells.new ≤ C.looks cells.old + spec.reads_of_hit (ground_of work.now) changed.old a }
+    ensures same_input { C.input cells.new ≡ C.input cells.old }
+{
+    if is_due(due, place) {
+        return visit_due(alloc, work, place, changed, due, cells);
+    }
+    Ok(())
+}
+
+// Whether a place is due.
+fn is_due(due: &[bool], place: u32) -> bool
+    ensures { result ≡ readers.is_due due.now place }
+{
+    match due.get(place as usize) {
+        Some(due) => *due,
+        None => true,
+    }
+}
+
+// Visits one that is due.
+fn visit_due<C: Cells>(
+    alloc: Global,
+    work: &Work<'_>,
+    place: u32,
+    changed: &mut NodeMap,
+    due: &mut Vec<bool>,
+    cells: &mut C,
+) -> Result<(), Memory>
+    requires course { IsCourse (model_at work.now) work.now.shape.now work.now.course.now }
+    requires seeds { AreSeeds work.now.shape.now work.now.seeds.now }
+    requires place { place < length work.now.shape.now.assigned }
+    requires due { IsDue (ground_of work.now) changed.old due.old.items }
+    ensures visited { OnOk result ((a : Assignment) → slice_get work.now.shape.now.assigned place ≡ Some a
+        → IsVisited (ground_of work.now) (C.input cells.old) (C.results cells.old) (C.results cells.new) changed.old changed.new a) }
+    ensures due { OnOk result (IsDue (ground_of work.now) changed.new due.new.items) }
+    ensures reads { (a : Assignment) → slice_get work.now.shape.now.assigned place ≡ Some a
+        → C.looks cells.new ≤ C.looks cells.old + spec.reads_of_hit (ground_of work.now) changed.old a }
+    ensures same_input { C.input cells.new ≡ C.input cells.old }
+{
+    let a = &work.shape.assigned.as_slice()[place as usize];
+    let looks = &work.course.looks.as_slice()[place as usize];
+    if is_hit(alloc, work, a, looks.as_slice(), changed)? {
+        assign(alloc, work, a, changed, due, cells)?;
+    }
+    Ok(())
+}
+
+// Whether the change reaches an assignment, which looks at these.
+fn is_hit(
+    alloc: Global,
+    work: &Work<'_>,
+    a: &(Key, u32, u32),
+    looks: &[Look],
+    changed: &NodeMap,
+) -> Result<bool, Memory>
+    requires course { IsCourse (model_at work.now) work.now.shape.now work.now.course.now }
+    requires seeds { AreSeeds work.now.shape.now work.now.seeds.now }
+    requires own { find (assigns a.now.1 a.now.0) work.now.shape.now.assigned ≡ Some a.now }
+    requires looks { looks.now ≡ looks_by (model_at work.now) work.now.shape.now a.now }
+    ensures { IfOk result (λ hit. hit ≡ spec.is_hit (ground_of work.now) changed.now a.now) }
+{
+    if begins_at_target(alloc, work, a, looks)? {
+        return Ok(true);
+    }
+    is_some_known(work, looks, changed)
+}
+
+// Whether one of these looks is known to be reached.
+fn is_some_known(work: &Work<'_>, looks: &[Look], changed: &NodeMap) -> Result<bool, Memory>
+    requires course { IsCourse (model_at work.now) work.now.shape.now work.now.course.now }
+    requires seeds { AreSeeds work.now.shape.now work.now.seeds.now }
+    ensures { IfOk result (λ some. some ≡ list_any (is_known_in (ground_of work.now) changed.now) looks.now) }
+{
+    for look in looks {
+        if is_known(work, look, changed)? {
+            return Ok(true);
+        }
+    }
+    Ok(false)
+}
+
+// Whether a look is known to be reached.
+fn is_known(work: &Work<'_>, look: &Look, changed: &NodeMap) -> Result<bool, Memory>
+    requires course { IsCourse (model_at work.now) work.now.shape.now work.now.course.now }
+    requires seeds { AreSeeds work.now.shape.now work.now.seeds.now }
+    ensures { IfOk result (λ known. known ≡ is_known_in (ground_of work.now) changed.now look.now) }
+{
+    if let Look::Measure(name) = look {
+        if changed.get(&name.key, name.measure)?.is_some() {
+            return Ok(true);
+        }
+    }
+    begins_at_look(work, look)
+}
+
+// Puts at the measure of an assignment what its rule makes of the cell, and marks what looks at it.
+fn assign<C: Cells>(
+    alloc: Global,
+    work: &Work<'_>,
+    a: &(Key, u32, u32),
+    changed: &mut NodeMap,
+    due: &mut Vec<bool>,
+    cells: &mut C,
+) -> Result<(), Memory>
+    requires { IsRuled (model_at work.now) a.now }
+    ensures marked { OnOk result (HasMarked work.now.course.now.readers (name_assigned a.now) due.old.items due.new.items) }
+    ensures assigned { OnOk result (IsAssigned (ground_of work.now) (C.input cells.old) (C.results cells.old) (C.results cells.new)
+        changed.old changed.new a.now) }
+    ensures reads { C.looks cells.new ≤ C.looks cells.old + measures_in (looks_by (model_at work.now) work.now.shape.now a.now) }
+    ensures same_input { C.input cells.new ≡ C.input cells.old }
+{
+    let rule = rule_of(work.model, a);
+    let slot = eval_cell(alloc, rule, work.model, &a.0, 0, work.shape, cells)?;
+    cells.put(&a.0, a.1, slot)?;
+    changed.put(a.0.copy()?, a.1, a.2)?;
+    work.course.readers.mark(&a.0, a.1, due)
+}

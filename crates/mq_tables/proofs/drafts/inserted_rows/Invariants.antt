@@ -1,6 +1,0 @@
-use Rattle.mq_ir.specs.Changes.{inserted_row}
-use Rattle.mq_tables.proofs.Walks.{Numbered}
-use Rattle.mq_tables.proofs.drafts.inserted_rows.Given as goal
-
-abbrev pub invariant-rows : goal.invariant-rows
-invariant-rows l = Numbered (inserted_row l.schema) l.rows l.at l.new
