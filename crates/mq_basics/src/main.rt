@@ -5,7 +5,6 @@
 
 mod answers;
 mod changes;
-mod counted;
 mod held;
 mod joins;
 mod looks;
@@ -14,7 +13,6 @@ mod printing;
 mod ranges;
 mod reads;
 mod ready;
-mod refreshes;
 mod replays;
 mod rows;
 mod runs;

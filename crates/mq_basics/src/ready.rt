@@ -53,7 +53,7 @@ fn has_length(n: usize, key: &Key) -> bool
 }
 
 // The keys of these cells.
-pub(crate) fn keys_in(alloc: Global, cells: &[(Key, Key)]) -> Result<Vec<Key>, Memory>
+fn keys_in(alloc: Global, cells: &[(Key, Key)]) -> Result<Vec<Key>, Memory>
     ensures { IfOk result (λ keys. keys.items ≡ keys_of cells.now) }
 {
     let mut keys = Vec::with_capacity(alloc, cells.len())?;

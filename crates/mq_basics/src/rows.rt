@@ -4,8 +4,7 @@ use crate::answers::add;
 use crate::scene::Scene;
 use crate::texts::{Read, unread};
 use crate::{
-    changes, held, joins, looks, printing, ranges, reads, refreshes, replays, runs, scripts,
-    stores, values,
+    changes, held, joins, looks, printing, ranges, reads, replays, runs, scripts, stores, values,
 };
 use mq_values::{Fail, Memory};
 use std::alloc::Global;
@@ -62,7 +61,6 @@ fn told_of_cells(alloc: Global, scene: &mut Scene, asked: &str, text: &str) -> R
         "looks" => looks::looks(alloc, scene, text),
         "order" => looks::order(alloc, scene),
         "run" => runs::run(alloc, scene, text),
-        "refresh" => refreshes::refreshed(alloc, scene, text),
         _ => {
             set(alloc, scene, asked, text)?;
             Ok(Vec::new(alloc))

@@ -52,7 +52,7 @@ fn computed(alloc: Global, model: &Model<'_>, input: &PartInput) -> Result<Vec<u
 }
 
 // Each cell with its measures behind a slash, and a star where it was a target; or the line of the fault.
-pub(crate) fn shown(alloc: Global, found: PartResult) -> Result<Vec<u8>, Memory> {
+fn shown(alloc: Global, found: PartResult) -> Result<Vec<u8>, Memory> {
     let mut answer = Vec::new(alloc);
     match found {
         PartResult::Rows(cells) => {
