@@ -52,7 +52,7 @@ read_at [] p d a h = absurd (cc)
 read_at (x ∷ xs) zero d a h = let e : x ≡ a = cc in e
 read_at (x ∷ xs) (suc p) d a h = read_at xs p d a h
 
-dropped : {X : Type 0} (xs : List X) (p : ℕ) (a : X) → slice_get xs p ≡ Some a → drop p xs ≡ a ∷ drop (suc p) xs
+pub dropped : {X : Type 0} (xs : List X) (p : ℕ) (a : X) → slice_get xs p ≡ Some a → drop p xs ≡ a ∷ drop (suc p) xs
 dropped [] p a h = absurd (cc)
 dropped (x ∷ xs) zero a h = let e : x ≡ a = cc in ap (λ y. y ∷ xs) e
 dropped (x ∷ xs) (suc p) a h = dropped xs p a h

@@ -2,11 +2,17 @@ mod CycleLemmas
 mod EdgeLemmas
 mod FreshLemmas
 mod GrowthLemmas
+mod LaneLemmas
 mod LeftLemmas
 mod LevelLemmas
 mod MeaningLemmas
+mod MeetLemmas
 mod NodeLemmas
 mod NumberLemmas
 mod OutcomeLemmas
+mod PartLemmas
+mod PlaceLemmas
+mod StandLemmas
 mod StepLemmas
 mod WalkLemmas
+mod WantedLemmas

@@ -19,7 +19,7 @@ is_equal Less h = cc
 is_equal Equal h = refl
 is_equal Greater h = cc
 
-same_tuple : (a b : Tuple) → is_same a b ≡ true → a ≡ b
+pub same_tuple : (a b : Tuple) → is_same a b ≡ true → a ≡ b
 same_tuple a b h = same_key a b (is_equal (cmp_key a b) h)
 
 -- one place has one key

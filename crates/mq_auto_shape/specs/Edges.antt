@@ -1,6 +1,6 @@
 -- Which assignments of a shape look at which, by their places.
-use Rattle.std.specs.Prelude.{◌≡◌, ℕ, ◌-◌, List, [], Option, None, slice_get}
-use Rattle.std.specs.List.{filter_map, position_from}
+use Rattle.std.specs.Prelude.{◌≡◌, ℕ, ◌-◌, Bool, true, false, List, [], Option, None, slice_get, slice_index_or}
+use Rattle.std.specs.List.{All, filter_map, position_from}
 use Rattle.std.specs.Option.{option_map_or}
 use Rattle.mq_ir.specs.declared.query.Look.{Look}
 use Rattle.mq_ir.specs.declared.query.Look.TheVariants.{Measure, Presence}
@@ -42,3 +42,7 @@ looks_by model shape a = option_map_or (λ rule. looks_of (site_in model shape 0
 -- the places of what it looks at
 abbrev pub reads_of : Model → PartShape → Assignment → List ℕ
 reads_of model shape a = filter_map (place_looked shape.assigned) (looks_by model shape a)
+
+-- whether measures are wanted: each one that is assigned is
+abbrev pub AreWanted : List Bool → List Assignment → Type 0
+AreWanted wanted assigned = All (λ a. slice_index_or wanted a.1 false ≡ true) assigned

@@ -2,6 +2,8 @@ pub mod Conditions
 pub mod Edges
 pub mod Found
 pub mod Indexed
+pub mod LaneRuns
+pub mod LookParts
 pub mod Numbers
 pub mod Outcomes
 pub mod Walk

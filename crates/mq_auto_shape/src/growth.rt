@@ -11,9 +11,10 @@ ghost use Rattle.mq_ir.specs.Ready.{HaveLength};
 ghost use Rattle.mq_auto_shape.specs.Walk.{AreUnassigned, Fresh, assigned_by, placed_all};
 
 use crate::least::least;
+use crate::mapping::map_tested;
 use crate::nodes::NodeMap;
 use mq_dim_index::DimIndex;
-use mq_ir::{PartShape, SingleLeft};
+use mq_ir::{Model as Lent, PartShape, SingleLeft};
 use mq_targets::{Targets, targets};
 use mq_values::{Items, Key, Memory, Mode};
 use std::alloc::Global;
@@ -109,14 +110,22 @@ impl Growth {
         })
     }
 
-    /// The shape that has grown from an input with the keys `base`, and its cells.
-    pub fn shape(self, alloc: Global, base: &[Key]) -> Result<(PartShape, DimIndex), Memory>
+    /// The shape that has grown from an input with the keys `base`, and its cells, with maps of the dimensions that ranges
+    /// of the model test.
+    pub fn shape(
+        self,
+        alloc: Global,
+        m: &Lent<'_>,
+        base: &[Key],
+    ) -> Result<(PartShape, DimIndex), Memory>
         ensures shape { IfOk result (λ it. it.0 ≡ record { base = base.now; cells = self.set; assigned = self.assigned }) }
         ensures cells { IfOk result (λ it. it.1 ≡ self.set) }
         ensures ascend { OnOk result (IsStrictlySortedBy cmp_key self.set) }
         ensures own { OnOk result (All (λ a. find (assigns a.1 a.0) self.assigned ≡ Some a) self.assigned) }
     {
         let Growth { index, assigned } = self;
+        let mut index = index;
+        map_tested(alloc, m, &mut index)?;
         let shape = PartShape {
             base: copies(alloc, base)?,
             cells: copies(alloc, index.keys())?,

@@ -6,13 +6,18 @@
 mod cycles;
 mod growth;
 mod indexed;
+mod lane_reads;
 mod least;
 mod lefts;
+mod look_parts;
+mod mapping;
 mod nodes;
 mod numbers;
+mod parts;
 mod reads;
 mod rules;
 mod shapes;
+mod wanted;
 
 pub use indexed::IndexedShape;
 pub use reads::rule_numbered;

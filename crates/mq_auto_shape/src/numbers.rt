@@ -1,8 +1,13 @@
 //! The numbers of assigned measures.
-ghost use Rattle.std.specs.Prelude.{◌≡◌, [], true, Some, OnOk};
+ghost use Rattle.std.specs.Prelude.{◌≡◌, ◌<◌, ◌+◌, [], true, None, Some, IfSome, OnOk};
+ghost use Rattle.std.specs.List.{cons_option};
 ghost use Rattle.mq_dim_index.specs.Places.{is_there};
+ghost use Rattle.mq_cells.specs.LaneItems.{lane_item};
+ghost use Rattle.mq_auto_shape.specs.declared.lane_reads.LaneRun.{LaneRun};
+ghost use Rattle.mq_auto_shape.specs.LaneRuns.{numbers_in};
 ghost use Rattle.mq_auto_shape.specs.Numbers.{NumberDiffers, number_at};
 
+use crate::lane_reads::LaneRun;
 use mq_cells::Lanes;
 use mq_dim_index::DimIndex;
 use mq_values::{Memory, Value};
@@ -38,15 +43,25 @@ impl<'a> Numbers<'a> {
         }
     }
 
-    /// The number at measure `m` of the cell at `key`, or `None` where there is none.
-    pub fn get(&self, key: &[Value], m: u32, near: &mut u32) -> Option<u32>
-        ensures { result ≡ number_at self.now key.now m }
+    /// The number at measure `m` of the cell at a place, or `None` where there is none.
+    pub fn at(&self, m: u32, place: u32) -> Option<u32>
+        ensures { result ≡ lane_item self.now.lanes m place }
+    {
+        self.lanes.get(m, place).copied()
+    }
+
+    /// The place of the cell at `key` as a run of measure `m`, or `None` where the cell is not there.
+    pub fn run_at(&self, key: &[Value], m: u32, near: &mut u32) -> Option<LaneRun>
+        ensures none { result ≡ None → number_at self.now key.now m ≡ None }
+        ensures run { IfSome result (λ run. numbers_in self.now.lanes run ≡ cons_option (number_at self.now key.now m) []) }
     {
         let Some(place) = self.cells.place_near(key, *near) else {
             return None;
         };
+        // Every index says of its keys that a number is enough for them.
+        self.cells.keys();
         *near = place;
-        self.lanes.get(m, place).copied()
+        Some(one_place(m, place))
     }
 
     /// Puts `number` at measure `m` of the cell at `key`, in place of what stands there.
@@ -60,5 +75,17 @@ impl<'a> Numbers<'a> {
         };
         *near = place;
         self.lanes.put(m, place, number)
+    }
+}
+
+// One place, as a run.
+fn one_place(measure: u32, place: u32) -> LaneRun
+    requires { place < u32.MAX }
+    ensures { result ≡ record { measure = measure; first = place; past = place + 1 } }
+{
+    LaneRun {
+        measure,
+        first: place,
+        past: place + 1,
     }
 }

@@ -16,11 +16,12 @@ ghost use Rattle.mq_cells.specs.declared.bounds.TheConstants.{MAX_ASSIGNMENTS};
 use crate::cycles::cycle_among;
 use crate::growth::Growth;
 use crate::indexed::IndexedShape;
-use crate::reads::all_reads;
+use crate::lane_reads::LaneReads;
+use crate::reads::{all_runs, places_of};
 use crate::rules::grow_rules;
 use mq_dim_index::DimIndex;
 use mq_ir::{Model, PartShape, PlacedFault};
-use mq_levels::{Leveled, levels};
+use mq_levels::{Leveled, levels_over};
 use mq_values::{Fail, Key, Memory, QueryFault};
 use std::alloc::Global;
 
@@ -98,7 +99,7 @@ fn shape_over(
 {
     let begun = Growth::new(alloc, keys)?;
     let grown = grow_rules(alloc, m, begun)?;
-    let shape = grown.shape(alloc, keys)?;
+    let shape = grown.shape(alloc, m, keys)?;
     Ok(shape)
 }
 
@@ -118,8 +119,13 @@ fn leveled_over(
     ensures rounds { IfOk result (λ it. AreRoundsOf (model_of m.now) shape.now it.rounds) }
     ensures rest { IfOk result (λ it. it.rest ≡ []) }
 {
-    let reads = all_reads(alloc, m, shape, cells)?;
-    let leveled = levels(alloc, &reads)?;
+    let numbers = places_of(alloc, shape, cells)?;
+    let lists = all_runs(alloc, m, shape, cells, &numbers)?;
+    let reads = LaneReads {
+        numbers: &numbers,
+        lists: &lists,
+    };
+    let leveled = levels_over(alloc, &reads)?;
     match cycle_among(alloc, shape.assigned.as_slice(), leveled.rest.as_slice())? {
         Some(fault) => Err(Fail::Cause(fault)),
         None => Ok(leveled),

@@ -26,7 +26,7 @@ use Rattle.mq_auto.specs.Meaning.{result_at}
 use Rattle.mq_auto_shape.specs.Found.{IsRuled}
 use Rattle.mq_delta_cells.specs.Bounds.{most_reads}
 use Rattle.mq_delta_cells.specs.Changes.{IsChange, reaches, side_of}
-use Rattle.mq_delta_cells.specs.Nodes.{HasRulesOf, Nodes, is_in}
+use Rattle.mq_delta_cells.specs.Tables.{HasRulesOf, Table, is_in_table}
 use Rattle.mq_delta_cells.specs.Seeds.{has_vanished, is_gone, is_gone_at, is_told, told_by}
 use Rattle.mq_delta_cells.specs.Walks.{BeginsRight, Ground, ground_for, reached_on}
 use Rattle.mq_delta_cells.proofs.GroundLemmas.{unruled}
@@ -62,20 +62,20 @@ found_some f p (x ∷ xs) = by (p x) (found_some f p xs)
     by true h = refl
     by false h = h
 
-gone_at : (rules : Nodes) (c : CellName) (a : Assignment) → is_gone_at rules c a ≡ (assigns c.measure c.key a && not (is_in rules c))
-gone_at rules c a = by (is_named (name_assigned a) c) refl
+gone_at : (keys : List Tuple) (rules : Table) (c : CellName) (a : Assignment) → is_gone_at keys rules c a ≡ (assigns c.measure c.key a && not (is_in_table keys rules c))
+gone_at keys rules c a = by (is_named (name_assigned a) c) refl
   where
-    by : (b : Bool) → is_named (name_assigned a) c ≡ b → is_gone_at rules c a ≡ (assigns c.measure c.key a && not (is_in rules c))
+    by : (b : Bool) → is_named (name_assigned a) c ≡ b → is_gone_at keys rules c a ≡ (assigns c.measure c.key a && not (is_in_table keys rules c))
     by true e =
-        (λ i. e i && not (is_in rules (named_same (name_assigned a) c e i)))
-        ∙ ap (λ b. b && not (is_in rules c)) (sym e ∙ named_turned (name_assigned a) c)
+        (λ i. e i && not (is_in_table keys rules (named_same (name_assigned a) c e i)))
+        ∙ ap (λ b. b && not (is_in_table keys rules c)) (sym e ∙ named_turned (name_assigned a) c)
     by false e =
-        ap (λ b. b && not (is_in rules (name_assigned a))) e ∙ ap (λ b. b && not (is_in rules c)) (sym e ∙ named_turned (name_assigned a) c)
+        ap (λ b. b && not (is_in_table keys rules (name_assigned a))) e ∙ ap (λ b. b && not (is_in_table keys rules c)) (sym e ∙ named_turned (name_assigned a) c)
 
-pub gone_is : (old new : PartShape) (rules : Nodes) → HasRulesOf new rules → (c : CellName) → is_gone old.assigned rules c ≡ has_vanished old new c
-gone_is old new rules has c =
-    any_same (is_gone_at rules c) (λ a. assigns c.measure c.key a && not (is_in rules c)) (gone_at rules c) old.assigned
-    ∙ any_and (assigns c.measure c.key) (not (is_in rules c)) old.assigned
+pub gone_is : (old new : PartShape) (keys : List Tuple) (rules : Table) → HasRulesOf new keys rules → (c : CellName) → is_gone old.assigned keys rules c ≡ has_vanished old new c
+gone_is old new keys rules has c =
+    any_same (is_gone_at keys rules c) (λ a. assigns c.measure c.key a && not (is_in_table keys rules c)) (gone_at keys rules c) old.assigned
+    ∙ any_and (assigns c.measure c.key) (not (is_in_table keys rules c)) old.assigned
     ∙ (λ i. found_some (λ (a : Assignment). a.2) (assigns c.measure c.key) old.assigned i && not (is_some (has c i)))
 
 -- of one shape nothing vanishes

@@ -18,7 +18,7 @@ use Rattle.mq_change_laws.specs.ChangeLaws.{SameLooksAreOne}
 use Rattle.mq_auto.specs.Walks.{AreOwn}
 use Rattle.mq_auto_shape.specs.Edges.{looks_by}
 use Rattle.mq_delta_cells.specs.Nodes.{Nodes, Numbers, is_in, number_in}
-use Rattle.mq_delta_cells.specs.Readers.{HasMarked, HasReadersOf, Readers, is_due, is_looked_at, is_reader}
+use Rattle.mq_delta_cells.specs.Readers.{HasMarked, HasReadersOf, Readers, is_due, is_looked_at, may_look}
 use Rattle.mq_delta_cells.specs.Seeds.{is_moved, is_told_outside, outside_by}
 use Rattle.mq_delta_cells.specs.Walks.{Ground, IsDue, ground_for, is_known_in}
 use Rattle.mq_delta_cells.proofs.NodeLemmas.{named_itself, named_same}
@@ -48,7 +48,7 @@ mapped_at f [] k x h = cc
 mapped_at f (y ∷ ys) zero x h = let e : y ≡ x = cc in ap f e
 mapped_at f (y ∷ ys) (suc k) x h = mapped_at f ys k x h
 
-not_read : (readers : Readers) (c : CellName) (place : ℕ) (looks : List (List Look)) → HasReadersOf looks readers → is_reader readers c place ≡ false
+not_read : (readers : Option Readers) (c : CellName) (place : ℕ) (looks : List (List Look)) → HasReadersOf looks readers → may_look readers c place ≡ false
     → is_looked_at (slice_index_or looks place []) c ≡ false
 not_read readers c place looks has h = by (is_looked_at (slice_index_or looks place []) c) refl
   where
@@ -57,7 +57,7 @@ not_read readers c place looks has h = by (is_looked_at (slice_index_or looks pl
     by false e = refl
 
 -- one more measure changed, and its readers are due
-pub due_next : (g : Ground) (readers : Readers) (looks : List (List Look)) → HasReadersOf looks readers → looks ≡ map (looks_by g.model g.shape) g.shape.assigned
+pub due_next : (g : Ground) (readers : Option Readers) (looks : List (List Look)) → HasReadersOf looks readers → looks ≡ map (looks_by g.model g.shape) g.shape.assigned
     → (changed next : Nodes) (name : CellName) (number : ℕ) (before after : List Bool) → Numbers changed next name number
     → HasMarked readers name before after → IsDue g changed before → IsDue g next after
 due_next g readers looks has are changed next name number before after put marked due place a at h =
@@ -81,10 +81,10 @@ due_next g readers looks has are changed next name number before after put marke
         by false e = ap is_some (put c ∙ ap (λ b. if b then Some number else number_in changed c) e)
 
 -- ---- at first
-pub moved_next : (readers : Readers) (moved : List CellName) (i : ℕ) (name : CellName) (before after : List Bool) → i < length moved → name ≡ get_or moved i name
+pub moved_next : (readers : Option Readers) (moved : List CellName) (i : ℕ) (name : CellName) (before after : List Bool) → i < length moved → name ≡ get_or moved i name
     → HasMarked readers name before after
-    → ((place : ℕ) → is_due before place ≡ false → (c : CellName) → is_moved (take i moved) c ≡ true → is_reader readers c place ≡ false)
-    → (place : ℕ) → is_due after place ≡ false → (c : CellName) → is_moved (take (i + 1) moved) c ≡ true → is_reader readers c place ≡ false
+    → ((place : ℕ) → is_due before place ≡ false → (c : CellName) → is_moved (take i moved) c ≡ true → may_look readers c place ≡ false)
+    → (place : ℕ) → is_due after place ≡ false → (c : CellName) → is_moved (take (i + 1) moved) c ≡ true → may_look readers c place ≡ false
 moved_next readers moved i name before after l at marked so place h c m =
     let both = marked place h in
     let parted : is_moved (take (i + 1) moved) c ≡ (is_moved (take i moved) c || (is_named c name || false)) =
@@ -92,7 +92,7 @@ moved_next readers moved i name before after l at marked so place h c m =
     ∙ any_append (λ d. is_named c d) (take i moved) (name ∷ []) in
     elim (or_cases (is_moved (take i moved) c) (is_named c name || false) (sym parted ∙ m)) [
       | inl a ↦ so place both.0 c a
-      | inr b ↦ ap (λ (d : CellName). is_reader readers d place) (named_same c name (sym (or_false (is_named c name)) ∙ b)) ∙ both.1
+      | inr b ↦ ap (λ (d : CellName). may_look readers d place) (named_same c name (sym (or_false (is_named c name)) ∙ b)) ∙ both.1
     ]
   where
     any_append : {A : Type 0} (p : A → Bool) (xs ys : List A) → list_any p (xs ++ ys) ≡ (list_any p xs || list_any p ys)
@@ -103,12 +103,12 @@ moved_next readers moved i name before after l at marked so place h c m =
         grouped true b c = refl
         grouped false b c = refl
 
-pub moved_all : (readers : Readers) (moved : List CellName) (i : ℕ) (due : List Bool) → length moved ≤ i
-    → ((place : ℕ) → is_due due place ≡ false → (c : CellName) → is_moved (take i moved) c ≡ true → is_reader readers c place ≡ false)
-    → (place : ℕ) → is_due due place ≡ false → (c : CellName) → is_moved moved c ≡ true → is_reader readers c place ≡ false
+pub moved_all : (readers : Option Readers) (moved : List CellName) (i : ℕ) (due : List Bool) → length moved ≤ i
+    → ((place : ℕ) → is_due due place ≡ false → (c : CellName) → is_moved (take i moved) c ≡ true → may_look readers c place ≡ false)
+    → (place : ℕ) → is_due due place ≡ false → (c : CellName) → is_moved moved c ≡ true → may_look readers c place ≡ false
 moved_all readers moved i due l so place h c m = so place h c (ap (λ (xs : List CellName). is_moved xs c) (take_all i moved l) ∙ m)
 
-module _ (model : Model) (old new : PartShape) (moved : List CellName) (readers : Readers) (looks : List (List Look)) (own : AreOwn new)
+module _ (model : Model) (old new : PartShape) (moved : List CellName) (readers : Option Readers) (looks : List (List Look)) (own : AreOwn new)
     (has : HasReadersOf looks readers) (are : looks ≡ map (looks_by model new) new.assigned) (law : (xs ys : List Look) → SameLooksAreOne xs ys) (same : old ≡ new) where
   -- of one shape a look that did not move begins nothing
   outside_none : (c : CellName) → is_moved moved c ≡ false → is_told_outside old new moved (Measure c) ≡ false
@@ -132,7 +132,7 @@ module _ (model : Model) (old new : PartShape) (moved : List CellName) (readers 
       by true = refl
       by false = refl
 
-  pub first_due : (due : List Bool) → ((place : ℕ) → is_due due place ≡ false → (c : CellName) → is_moved moved c ≡ true → is_reader readers c place ≡ false)
+  pub first_due : (due : List Bool) → ((place : ℕ) → is_due due place ≡ false → (c : CellName) → is_moved moved c ≡ true → may_look readers c place ≡ false)
       → IsDue (ground_for model old new moved) [] due
   first_due due so place a at h =
       let g = ground_for model old new moved in

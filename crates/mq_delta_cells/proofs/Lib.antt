@@ -1,4 +1,5 @@
 mod BeginLemmas
+mod CourseLemmas
 mod DueLemmas
 mod GroundLemmas
 mod ListLemmas
@@ -10,6 +11,7 @@ mod SeedLemmas
 mod SettledLemmas
 mod StartLemmas
 mod StepLemmas
+mod TableLemmas
 mod TargetLemmas
 mod TotalLemmas
 mod WalkLemmas

@@ -129,7 +129,7 @@ none_there [] place h = refl
 none_there (x ∷ xs) zero h = absurd (omega (arith, h))
 none_there (x ∷ xs) (suc place) h = none_there xs place (omega (arith, h))
 
-pub first_all : (looks : List (List Look)) (i : ℕ) (readers : Readers) → length looks ≤ i → HasFirst looks i readers → HasReadersOf looks readers
+pub first_all : (looks : List (List Look)) (i : ℕ) (readers : Readers) → length looks ≤ i → HasFirst looks i readers → HasReadersOf looks (Some readers)
 first_all looks i readers l so c place h = by (cases_lt place i)
   where
     by : (place < i) ⊎ (i ≤ place) → is_reader readers c place ≡ true

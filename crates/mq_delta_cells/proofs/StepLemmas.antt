@@ -29,7 +29,10 @@ use Rattle.mq_auto.specs.Meaning.{result_at}
 use Rattle.mq_auto.specs.Walks.{IsPut}
 use Rattle.mq_auto_shape.specs.Edges.{looks_by}
 use Rattle.mq_auto_shape.specs.Found.{IsRuled, comes_in, is_levelled, place_comes_in}
+use Rattle.mq_ir.specs.Keys.{Tuple}
 use Rattle.mq_refs.specs.Sightings.{measures_in}
+use Rattle.mq_refs.specs.Sites.{site_with}
+use Rattle.mq_refs.specs.SlotsOver.{cell_slot_over}
 use Rattle.mq_delta_cells.specs.Nodes.{Nodes, is_in, number_in}
 use Rattle.mq_delta_cells.specs.Walks.{BeginsRight, Ground, IsAssigned, IsRight, IsRightAt, IsVisited, IsWalked, is_hit, is_known_in, reached_on, reads_at, reads_of_hit}
 use Rattle.mq_delta_cells.proofs.GroundLemmas.{IsSolid, goes, outside_reached, ruled_looks, told_reached}
@@ -251,13 +254,26 @@ module _ (g : Ground) (solid : IsSolid g) (given : CellInput) (first : Results) 
             by false e = let same = visited.missed e in walk_missed e same.0 same.1
 
 -- what is put at the measure of an assignment is what its rule makes of the cell
-pub slot_put : (model : Model) (shape : PartShape) (given : CellInput) (before mid after : Results) (a : Assignment) (r rule : Rule) (slot : Slot) → mid ≡ before
-    → Some r ≡ slice_get model.part.rules (a.2 - 1) → slot ≡ cell_slot model shape 0 r a.0 (slot_at given before) → DiffersAt mid after (name_assigned a) (Some slot)
-    → slice_get model.part.rules (a.2 - 1) ≡ Some rule → IsPut model shape given before after a rule
-slot_put model shape given before mid after a r rule slot same there is differs at =
+pub slot_put : (model : Model) (shape : PartShape) (given : CellInput) (before mid after : Results) (a : Assignment) (rule : Rule) (slot : Slot) → mid ≡ before
+    → slot ≡ cell_slot model shape 0 rule a.0 (slot_at given before) → DiffersAt mid after (name_assigned a) (Some slot) → IsPut model shape given before after a rule
+slot_put model shape given before mid after a rule slot same is differs c =
+    differs c ∙ (λ i. cond (is_named (name_assigned a) c) (Some (is i)) (same i c))
+
+-- the slot that is found over the keys of a course is that over the shape
+pub slot_over_is : (model : Model) (shape : PartShape) (cells base : List Tuple) (given : CellInput) (results : Results) (a : Assignment) (r rule : Rule) (slot : Slot)
+    → cells ≡ shape.cells → base ≡ shape.base → Some r ≡ slice_get model.part.rules (a.2 - 1) → slot ≡ cell_slot_over model cells base 0 r a.0 (slot_at given results)
+    → slice_get model.part.rules (a.2 - 1) ≡ Some rule → slot ≡ cell_slot model shape 0 rule a.0 (slot_at given results)
+slot_over_is model shape cells base given results a r rule slot set from there is at =
     let one : r ≡ rule = ap (λ o. unwrap_or o r) (there ∙ at) in
-    let slot_is : slot ≡ cell_slot model shape 0 rule a.0 (slot_at given before) = is ∙ ap (λ q. cell_slot model shape 0 q a.0 (slot_at given before)) one in
-    λ c. differs c ∙ (λ i. cond (is_named (name_assigned a) c) (Some (slot_is i)) (same i c))
+    is ∙ (λ i. cell_slot_over model (set i) (from i) 0 (one i) a.0 (slot_at given results))
+
+pub reads_over : (model : Model) (shape : PartShape) (cells : List Tuple) (a : Assignment) (r : Rule) (now later : ℕ) → cells ≡ shape.cells
+    → Some r ≡ slice_get model.part.rules (a.2 - 1) → later ≤ now + measures_in (looks_of (site_with model 0 a.0 cells) r.right)
+    → later ≤ now + measures_in (looks_by model shape a)
+reads_over model shape cells a r now later set there h =
+    subst (λ (xs : List Look). later ≤ now + measures_in xs)
+    (ap (λ (set : List Tuple). looks_of (site_with model 0 a.0 set) r.right) set
+    ∙ ap (λ (o : Option Rule). option_map_or (λ rule. looks_of (site_in model shape 0 a.0) rule.right) o []) there) h
 
 -- a visit by what it found
 pub visited_hit : (g : Ground) (given : CellInput) (before after : Results) (changed next : Nodes) (a : Assignment) → is_hit g changed a ≡ true

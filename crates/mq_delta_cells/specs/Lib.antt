@@ -4,4 +4,5 @@ pub mod Courses
 pub mod Nodes
 pub mod Readers
 pub mod Seeds
+pub mod Tables
 pub mod Walks

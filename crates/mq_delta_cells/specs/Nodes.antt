@@ -6,9 +6,6 @@ use Rattle.std.specs.Ordering.{nat_cmp, ordering_then}
 use Rattle.std.specs.declared.cmp.Ordering.{Ordering}
 use Rattle.mq_values.specs.Order.{cmp_key}
 use Rattle.mq_ir.specs.declared.query.CellName.{CellName}
-use Rattle.mq_ir.specs.declared.query.Look.TheVariants.{Measure}
-use Rattle.mq_ir.specs.declared.query.PartShape.{PartShape}
-use Rattle.mq_ir.specs.Automatic.{rule_at}
 use Rattle.mq_ir.specs.Keys.{Tuple}
 use Rattle.mq_cells.specs.Stores.{is_named}
 
@@ -33,7 +30,3 @@ is_in nodes c = is_some (number_in nodes c)
 -- the measures after differ from those before in this one alone, which has the number now
 abbrev pub Numbers : Nodes → Nodes → CellName → ℕ → Type 0
 Numbers before after name number = (c : CellName) → number_in after c ≡ (if is_named name c then Some number else number_in before c)
-
--- a map has the rules of a shape by the measures that they assign
-abbrev pub HasRulesOf : PartShape → Nodes → Type 0
-HasRulesOf shape nodes = (c : CellName) → number_in nodes c ≡ rule_at shape (Measure c)

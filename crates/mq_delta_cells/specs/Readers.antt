@@ -1,5 +1,5 @@
 -- Which assignments look at which measures, by their places, and which places are due for a visit.
-use Rattle.std.specs.Prelude.{◌≡◌, ℕ, ◌==◌, Bool, true, false, ◌||◌, List, [], ◌∷◌, ◌++◌, if◌then◌else◌, slice_index_or, unwrap_or}
+use Rattle.std.specs.Prelude.{◌≡◌, ℕ, ◌==◌, Bool, true, false, ◌||◌, List, [], ◌∷◌, ◌++◌, Option, Some, None, if◌then◌else◌, slice_index_or, unwrap_or}
 use Rattle.std.specs.BTreeMap.{is_at}
 use Rattle.std.specs.List.{list_any}
 use Rattle.std.specs.Map.{lookup}
@@ -34,16 +34,21 @@ IsNoted before after name place =
 abbrev pub HasMore : Readers → Readers → Type 0
 HasMore before after = (c : CellName) (place : ℕ) → is_reader before c place ≡ true → is_reader after c place ≡ true
 
+-- who may look at a measure: its readers, or, where these are not gathered, all
+abbrev pub may_look : Option Readers → CellName → ℕ → Bool
+may_look None c place = true
+may_look (Some readers) c place = is_reader readers c place
+
 -- each list of looks that names a measure is known by its place
-abbrev pub HasReadersOf : List (List Look) → Readers → Type 0
+abbrev pub HasReadersOf : List (List Look) → Option Readers → Type 0
 HasReadersOf looks readers =
-    (c : CellName) (place : ℕ) → is_looked_at (slice_index_or looks place []) c ≡ true → is_reader readers c place ≡ true
+    (c : CellName) (place : ℕ) → is_looked_at (slice_index_or looks place []) c ≡ true → may_look readers c place ≡ true
 
 -- a place is due, and so is each behind the end of the marks
 abbrev pub is_due : List Bool → ℕ → Bool
 is_due due place = slice_index_or due place true
 
 -- what is not due by the marks after was not by those before, and does not look at this measure
-abbrev pub HasMarked : Readers → CellName → List Bool → List Bool → Type 0
+abbrev pub HasMarked : Option Readers → CellName → List Bool → List Bool → Type 0
 HasMarked readers c before after =
-    (place : ℕ) → is_due after place ≡ false → (is_due before place ≡ false) × (is_reader readers c place ≡ false)
+    (place : ℕ) → is_due after place ≡ false → (is_due before place ≡ false) × (may_look readers c place ≡ false)

@@ -1,5 +1,5 @@
 -- Where a change begins, as the two shapes and the names of what moved tell it. No value of a cell is in it.
-use Rattle.std.specs.Prelude.{◌≡◌, ℕ, ◌==◌, Bool, true, false, ◌&&◌, ◌||◌, not, List, Option, Some, None, is_some}
+use Rattle.std.specs.Prelude.{◌≡◌, ℕ, ◌==◌, Bool, true, false, ◌&&◌, ◌||◌, not, List, Option, Some, None, IfSome, is_some}
 use Rattle.std.specs.List.{list_any}
 use Rattle.mq_ir.specs.declared.query.CellName.{CellName}
 use Rattle.mq_ir.specs.declared.query.Look.{Look}
@@ -13,7 +13,8 @@ use Rattle.mq_ir.specs.Shape.{Assignment}
 use Rattle.mq_cells.specs.Stores.{is_named, name_assigned}
 use Rattle.mq_delta_cells.specs.declared.seeds.Differences.{Differences}
 use Rattle.mq_delta_cells.specs.declared.seeds.Seeds.{Seeds}
-use Rattle.mq_delta_cells.specs.Nodes.{HasRulesOf, Nodes, is_in}
+use Rattle.mq_delta_cells.specs.Nodes.{is_in}
+use Rattle.mq_delta_cells.specs.Tables.{HasRulesOf, Table, is_in_table}
 
 -- a measure is among those that moved
 abbrev pub is_moved : List CellName → CellName → Bool
@@ -59,29 +60,31 @@ is_missing_at others key k = is_same key k && not (is_among others key)
 abbrev pub is_missing : List Tuple → List Tuple → Tuple → Bool
 is_missing keys others key = list_any (is_missing_at others key) keys
 
--- how two shapes differ: the cells that one of them has alone, the keys that one input has alone, and the old rules
-pub record AreDifferences (old new : PartShape) (d : Differences) : Type 0 where
+-- how two shapes differ: the cells that one of them has alone, the keys that one input has alone, the old cells as an index,
+-- where they ascend, and the old rules, by the places of the keys of the new one
+pub record AreDifferences (old new : PartShape) (keys : List Tuple) (d : Differences) : Type 0 where
   pub cells : HasOddKeysOf old.cells new.cells d.cells
   pub base : HasOddKeysOf old.base new.base d.base
-  pub rules : HasRulesOf old d.rules
+  pub were : IfSome d.were (λ were. were ≡ old.cells)
+  pub rules : HasRulesOf old keys d.rules
 
 -- the shapes differ in this way, or in nothing
-abbrev pub Differ : PartShape → PartShape → Option Differences → Type 0
-Differ old new None = old ≡ new
-Differ old new (Some d) = AreDifferences old new d
+abbrev pub Differ : PartShape → PartShape → List Tuple → Option Differences → Type 0
+Differ old new keys None = old ≡ new
+Differ old new keys (Some d) = AreDifferences old new keys d
 
--- what is kept of a change to a shape
-pub record AreSeeds (new : PartShape) (seeds : Seeds) : Type 0 where
+-- what is kept of a change to a shape with these keys
+pub record AreSeeds (new : PartShape) (keys : List Tuple) (seeds : Seeds) : Type 0 where
   pub moved : (c : CellName) → is_in seeds.names c ≡ is_moved seeds.moved.now c
-  pub differ : Differ seeds.old.now new seeds.differ
+  pub differ : Differ seeds.old.now new keys seeds.differ
 
--- what this assigns, where rules do not, is this measure
-abbrev pub is_gone_at : Nodes → CellName → Assignment → Bool
-is_gone_at rules c a = is_named (name_assigned a) c && not (is_in rules (name_assigned a))
+-- what this assigns, where rules, by the places of keys, do not, is this measure
+abbrev pub is_gone_at : List Tuple → Table → CellName → Assignment → Bool
+is_gone_at keys rules c a = is_named (name_assigned a) c && not (is_in_table keys rules (name_assigned a))
 
 -- a measure that these assign and rules do not
-abbrev pub is_gone : List Assignment → Nodes → CellName → Bool
-is_gone assigned rules c = list_any (is_gone_at rules c) assigned
+abbrev pub is_gone : List Assignment → List Tuple → Table → CellName → Bool
+is_gone assigned keys rules c = list_any (is_gone_at keys rules c) assigned
 
 -- a measure that a rule of the old shape assigns, and none of the new one
 abbrev pub has_vanished : PartShape → PartShape → CellName → Bool

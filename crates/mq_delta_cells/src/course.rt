@@ -4,91 +4,123 @@ ghost use Rattle.std.specs.List.{All};
 ghost use Rattle.std.specs.Option.{option_copied};
 ghost use Rattle.mq_ir.specs.Unfolding.{model_of};
 ghost use Rattle.mq_auto.specs.Walks.{AreOwn};
-ghost use Rattle.mq_auto_shape.specs.Edges.{looks_by};
 ghost use Rattle.mq_auto_shape.specs.Found.{AreRoundsOf, IsRuled};
-ghost use Rattle.mq_delta_cells.specs.Courses.{IsCourse};
-ghost use Rattle.mq_delta_cells.specs.Nodes.{HasRulesOf};
+ghost use Rattle.mq_delta_cells.specs.Courses.{IsCourse, looks_among, stays_course};
+ghost use Rattle.mq_delta_cells.specs.Tables.{HasRulesOf};
 
-use crate::node_map::NodeMap;
+use crate::number_table::NumberTable;
 use crate::reader_map::{ReaderMap, readers_of};
+use mq_dim_index::DimIndex;
 use mq_ir::{Look, Model, PartShape, Rule};
-use mq_refs::looks_of;
+use mq_refs::{CellKeys, RefsOrder, ShapeKeys, looks_over, refs_order};
 use mq_values::{Items, Key, Memory};
 use std::alloc::Global;
 
-/// The rounds in which the assignments of a shape come, what each of them looks at, which of them look at a measure, and the
-/// rules by the measures that they assign. It serves for every partition with the keys of the shape.
+/// The keys of a shape as indexes, the rounds in which its assignments come, what each of them looks at, which of them look at
+/// a measure, where that is gathered, the rules by the measures that they assign, and what is known of the order of the
+/// model's references. It serves for every partition with the keys of the shape.
 #[derive(Drop)]
 pub struct Course {
+    pub base: DimIndex,
+    pub cells: DimIndex,
     pub rounds: Items<Items<u32>>,
     pub looks: Items<Items<Look>>,
-    pub readers: ReaderMap,
-    pub rules: NodeMap,
+    pub readers: Option<ReaderMap>,
+    pub rules: NumberTable,
+    pub refs: RefsOrder,
 }
 
-/// The course of a shape of which these are the rounds. `Memory` is the only error; it comes too where an assignment is by a
-/// rule that is not there, or there are more assignments than a `u32` can number.
+/// The course of a shape of which these are the rounds and the indexes of the keys, for one walk: who looks at what is not
+/// gathered, so the walk asks every assignment. `Memory` is the only error; it comes too where there are more assignments than
+/// a `u32` can number.
 pub fn course_of(
     alloc: Global,
     m: &Model<'_>,
     shape: &PartShape,
     rounds: Items<Items<u32>>,
+    base: DimIndex,
+    cells: DimIndex,
 ) -> Result<Course, Memory>
     requires own { AreOwn shape.now }
     requires ruled { All (IsRuled (model_of m.now)) shape.now.assigned }
     requires rounds { AreRoundsOf (model_of m.now) shape.now rounds }
+    requires base { base ≡ shape.now.base }
+    requires cells { cells ≡ shape.now.cells }
     ensures { IfOk result (IsCourse (model_of m.now) shape.now) }
 {
-    let looks = all_looks(alloc, m, shape)?;
-    let readers = readers_of(alloc, looks.as_slice())?;
-    let rules = rules_of(alloc, shape)?;
+    let looks = all_looks(alloc, m, shape, &cells)?;
+    let rules = rules_of(alloc, shape, &cells)?;
     Ok(Course {
+        base,
+        cells,
         rounds,
         looks,
-        readers,
+        readers: None,
         rules,
+        refs: refs_order(m),
     })
 }
 
-// What each assignment of a shape looks at.
-fn all_looks(alloc: Global, m: &Model<'_>, shape: &PartShape) -> Result<Items<Items<Look>>, Memory>
-    ensures { IfOk result (λ looks. looks ≡ map (looks_by (model_of m.now) shape.now) shape.now.assigned) }
+/// The same course with who looks at what: a walk where values alone moved visits those that look at what changed, and no
+/// others. It is for a course that serves more than once. `Memory` comes too where there are more assignments than a `u32` can
+/// number.
+pub fn with_readers(alloc: Global, course: Course) -> Result<Course, Memory>
+    ensures { IfOk result (stays_course course) }
 {
+    let readers = readers_of(alloc, course.looks.as_slice())?;
+    Ok(Course {
+        readers: Some(readers),
+        ..course
+    })
+}
+
+// What each assignment of a shape with these cells looks at.
+fn all_looks(
+    alloc: Global,
+    m: &Model<'_>,
+    shape: &PartShape,
+    cells: &DimIndex,
+) -> Result<Items<Items<Look>>, Memory>
+    ensures { IfOk result (λ looks. looks ≡ map (looks_among (model_of m.now) cells.now) shape.now.assigned) }
+{
+    // What a right side looks at does not depend on which cells the input has.
+    let keys = ShapeKeys { base: cells, cells };
     let assigned = shape.assigned.as_slice();
     let mut looks = Items::with_room(alloc, assigned.len());
     for a in assigned {
-        looks.push(looks_at(alloc, m, shape, a)?)?;
+        looks.push(looks_at(alloc, m, &keys, a)?)?;
     }
     Ok(looks)
 }
 
-/// What an assignment looks at over a shape.
-pub fn looks_at(
+/// What an assignment looks at over these keys.
+pub fn looks_at<K: CellKeys>(
     alloc: Global,
     m: &Model<'_>,
-    shape: &PartShape,
+    keys: &K,
     a: &(Key, u32, u32),
 ) -> Result<Items<Look>, Memory>
-    ensures { IfOk result (λ looks. looks ≡ looks_by (model_of m.now) shape.now a.now) }
+    ensures { IfOk result (λ looks. looks ≡ looks_among (model_of m.now) (K.set keys.now) a.now) }
 {
     match rule_numbered(m, a.2) {
-        Some(rule) => looks_of(alloc, rule, m, &a.0, 0, shape),
+        Some(rule) => looks_over(alloc, rule, m, &a.0, 0, keys),
         None => Ok(Items::new(alloc)),
     }
 }
 
-/// The rules of a shape by the measures that they assign. Where one is assigned twice, the first counts.
-pub fn rules_of(alloc: Global, shape: &PartShape) -> Result<NodeMap, Memory>
-    ensures { IfOk result (HasRulesOf shape.now) }
+/// The rules of a shape by the measures that they assign, over an index of cells. Where one is assigned twice, the first counts.
+pub fn rules_of(alloc: Global, shape: &PartShape, cells: &DimIndex) -> Result<NumberTable, Memory>
+    ensures { IfOk result (HasRulesOf shape.now cells.now) }
 {
     let assigned = shape.assigned.as_slice();
-    let mut rules = NodeMap::new(alloc);
+    let mut rules = NumberTable::new(alloc);
+    let mut near = 0;
     let mut at = assigned.len();
     // From the last to the first.
     'putting: while at > 0 {
         at -= 1;
         let a = &assigned[at];
-        rules.put(a.0.copy()?, a.1, a.2)?;
+        rules.put(cells, &a.0, a.1, a.2, &mut near)?;
     }
     Ok(rules)
 }

@@ -4,6 +4,7 @@
 mod course;
 mod dues;
 mod node_map;
+mod number_table;
 mod propagating;
 mod reader_map;
 mod seeds;
@@ -12,8 +13,9 @@ mod visiting;
 mod walking;
 mod work;
 
-pub use course::{Course, course_of};
+pub use course::{Course, course_of, with_readers};
 pub use mq_auto::Verdict;
 pub use node_map::NodeMap;
+pub use number_table::NumberTable;
 pub use propagating::{propagate, propagate_over, propagate_values};
 pub use reader_map::ReaderMap;

@@ -17,10 +17,12 @@ use crate::course::{Course, course_of};
 use crate::starting::{clear_vanished, moved_alone, seeds_of};
 use crate::walking::walk_rounds;
 use crate::work::Work;
-use mq_auto::{Verdict, shape_of};
+use mq_auto::Verdict;
+use mq_auto_shape::{IndexedShape, indexed_shape_of};
 use mq_cells::Cells;
 use mq_change_laws::{results_stay, shapes_are_sound};
 use mq_ir::{CellName, Model, PartShape};
+use mq_refs::ShapeKeys;
 use mq_values::{Key, Memory};
 use std::alloc::Global;
 
@@ -50,9 +52,16 @@ pub fn propagate<C: Cells>(
         ≤ C.looks cells.old + reads_of_change (model_of m.now) old.now (shape_over (model_of m.now) new.now) before after }
     ensures same_input { C.input cells.new ≡ C.input cells.old }
 {
-    match shape_of(alloc, m, new)? {
-        Ok((shape, leveled)) => {
-            let course = course_of(alloc, m, &shape, leveled.rounds)?;
+    let found = indexed_shape_of(alloc, m, new)?;
+    match found {
+        Ok(it) => {
+            let IndexedShape {
+                shape,
+                leveled,
+                base,
+                cells: index,
+            } = it;
+            let course = course_of(alloc, m, &shape, leveled.rounds, base, index)?;
             propagate_over(alloc, m, old, &shape, &course, moved, cells)?;
             Ok(Verdict::Done(shape))
         }
@@ -87,8 +96,12 @@ pub fn propagate_over<C: Cells>(
 {
     shapes_are_sound();
     results_stay();
-    let seeds = seeds_of(alloc, old, new, moved)?;
-    clear_vanished(&seeds, new, &course.rules, cells)?;
+    let keys = ShapeKeys {
+        base: &course.base,
+        cells: &course.cells,
+    };
+    let seeds = seeds_of(alloc, old, new, keys, moved)?;
+    clear_vanished(&seeds, new, &course.cells, &course.rules, cells)?;
     let work = Work {
         model: m,
         shape: new,

@@ -1,5 +1,5 @@
 //! Which assignments look at which measures.
-ghost use Rattle.std.specs.Prelude.{◌≡◌, ◌==◌, ◌∷◌, [], ℕ, true, false, length, unwrap_or, IfOk, OnOk};
+ghost use Rattle.std.specs.Prelude.{◌≡◌, ◌==◌, ◌∷◌, [], ℕ, true, false, Some, length, unwrap_or, IfOk, OnOk};
 ghost use Rattle.std.specs.List.{list_any};
 ghost use Rattle.mq_ir.specs.declared.query.CellName.{CellName};
 ghost use Rattle.mq_cells.specs.Stores.{cell_name};
@@ -49,13 +49,31 @@ impl ReaderMap {
 
     /// Marks the places from which measure `m` of the cell at `key` is looked at.
     pub fn mark(&self, key: &Key, m: u32, due: &mut Vec<bool>) -> Result<(), Memory>
-        ensures { OnOk result (HasMarked self.now (cell_name key.now m) due.old.items due.new.items) }
+        ensures { OnOk result (HasMarked (Some self.now) (cell_name key.now m) due.old.items due.new.items) }
     {
         let node = (key.copy()?, m);
         if let Some(places) = self.places.get(&node) {
             mark_all(places.as_slice(), due);
         }
         Ok(())
+    }
+}
+
+/// Marks those that may look at measure `m` of the cell at `key`. No marks are all.
+pub fn mark_readers(
+    readers: &Option<ReaderMap>,
+    key: &Key,
+    m: u32,
+    due: &mut Vec<bool>,
+) -> Result<(), Memory>
+    ensures { OnOk result (HasMarked readers.now (cell_name key.now m) due.old.items due.new.items) }
+{
+    match readers {
+        Some(readers) => readers.mark(key, m, due),
+        None => {
+            due.clear();
+            Ok(())
+        }
     }
 }
 
@@ -92,7 +110,7 @@ fn mark_one(place: u32, due: &mut Vec<bool>)
 /// The readers of the measures among these looks, of which each list stands at its place. `Memory` comes too where there are
 /// more lists than a `u32` can number.
 pub fn readers_of(alloc: Global, looks: &[Items<Look>]) -> Result<ReaderMap, Memory>
-    ensures { IfOk result (HasReadersOf looks.now) }
+    ensures { IfOk result (λ readers. HasReadersOf looks.now (Some readers)) }
 {
     let mut readers = ReaderMap::new(alloc);
     let mut place = 0u32;

@@ -8,25 +8,31 @@ ghost use Rattle.mq_ir.specs.Shape.{assigns};
 ghost use Rattle.mq_ir.specs.Unfolding.{model_of};
 ghost use Rattle.mq_auto_shape.specs.Edges.{looks_by};
 ghost use Rattle.mq_cells.specs.Stores.{name_assigned};
-ghost use Rattle.mq_delta_cells.specs.Nodes.{HasRulesOf, is_in};
+ghost use Rattle.mq_delta_cells.specs.Nodes.{is_in};
+ghost use Rattle.mq_delta_cells.specs.Tables.{HasRulesOf, is_in_table};
 ghost use Rattle.mq_delta_cells.specs.Seeds as spec;
 ghost use Rattle.mq_delta_cells.specs.Seeds.{AreDifferences, AreSeeds};
 
 use crate::course::looks_at;
 use crate::node_map::NodeMap;
+use crate::number_table::NumberTable;
 use crate::work::Work;
 use mq_change_laws::same_looks_are_one;
+use mq_dim_index::DimIndex;
 use mq_ir::{CellName, Look, PartShape};
-use mq_values::{Key, KeySet, Memory};
+use mq_refs::ShapeKeys;
+use mq_values::{Items, Key, KeySet, Memory};
 use std::alloc::Global;
 
 /// How a new shape differs from an old one: the cells that one of them has alone, the keys that one of their inputs has
-/// alone, and the rules of the old one by the measures that they assign.
+/// alone, the cells of the old one as an index, where they ascend, and its rules by the measures that they assign, over the
+/// cells of the new one.
 #[derive(Drop)]
 pub struct Differences {
     pub cells: KeySet,
     pub base: KeySet,
-    pub rules: NodeMap,
+    pub were: Option<DimIndex>,
+    pub rules: NumberTable,
 }
 
 /// A change: the old shape, the measures that moved, the same to be looked up, and how the new shape differs from the old
@@ -41,8 +47,8 @@ pub struct Seeds<'a> {
 
 /// Whether the change begins at a look that no rule assigns; at one that a rule does, whether its cell comes or goes.
 pub fn begins_at_look(work: &Work<'_>, look: &Look) -> Result<bool, Memory>
-    requires rules { HasRulesOf work.now.shape.now work.now.course.now.rules }
-    requires seeds { AreSeeds work.now.shape.now work.now.seeds.now }
+    requires rules { HasRulesOf work.now.shape.now work.now.course.now.cells work.now.course.now.rules }
+    requires seeds { AreSeeds work.now.shape.now work.now.course.now.cells work.now.seeds.now }
     ensures { IfOk result (λ begins. begins
         ≡ spec.is_told_outside work.now.seeds.now.old.now work.now.shape.now work.now.seeds.now.moved.now look.now) }
 {
@@ -54,8 +60,8 @@ pub fn begins_at_look(work: &Work<'_>, look: &Look) -> Result<bool, Memory>
 
 // The same where the shapes are one.
 fn moves_at(work: &Work<'_>, look: &Look) -> Result<bool, Memory>
-    requires rules { HasRulesOf work.now.shape.now work.now.course.now.rules }
-    requires seeds { AreSeeds work.now.shape.now work.now.seeds.now }
+    requires rules { HasRulesOf work.now.shape.now work.now.course.now.cells work.now.course.now.rules }
+    requires seeds { AreSeeds work.now.shape.now work.now.course.now.cells work.now.seeds.now }
     requires same { work.now.seeds.now.old.now ≡ work.now.shape.now }
     ensures { IfOk result (λ begins. begins
         ≡ spec.is_told_outside work.now.seeds.now.old.now work.now.shape.now work.now.seeds.now.moved.now look.now) }
@@ -64,7 +70,7 @@ fn moves_at(work: &Work<'_>, look: &Look) -> Result<bool, Memory>
         return Ok(false);
     };
     if has(&work.seeds.names, name)? {
-        Ok(!has(&work.course.rules, name)?)
+        Ok(!is_ruled(work, &work.course.rules, name)?)
     } else {
         Ok(false)
     }
@@ -72,9 +78,9 @@ fn moves_at(work: &Work<'_>, look: &Look) -> Result<bool, Memory>
 
 // The same where they differ in this way.
 fn differs_at(work: &Work<'_>, differences: &Differences, look: &Look) -> Result<bool, Memory>
-    requires rules { HasRulesOf work.now.shape.now work.now.course.now.rules }
-    requires seeds { AreSeeds work.now.shape.now work.now.seeds.now }
-    requires differ { AreDifferences work.now.seeds.now.old.now work.now.shape.now differences.now }
+    requires rules { HasRulesOf work.now.shape.now work.now.course.now.cells work.now.course.now.rules }
+    requires seeds { AreSeeds work.now.shape.now work.now.course.now.cells work.now.seeds.now }
+    requires differ { AreDifferences work.now.seeds.now.old.now work.now.shape.now work.now.course.now.cells differences.now }
     ensures { IfOk result (λ begins. begins
         ≡ spec.is_told_outside work.now.seeds.now.old.now work.now.shape.now work.now.seeds.now.moved.now look.now) }
 {
@@ -95,17 +101,17 @@ fn differs_by_rules(
     differences: &Differences,
     name: &CellName,
 ) -> Result<bool, Memory>
-    requires rules { HasRulesOf work.now.shape.now work.now.course.now.rules }
-    requires seeds { AreSeeds work.now.shape.now work.now.seeds.now }
-    requires differ { AreDifferences work.now.seeds.now.old.now work.now.shape.now differences.now }
+    requires rules { HasRulesOf work.now.shape.now work.now.course.now.cells work.now.course.now.rules }
+    requires seeds { AreSeeds work.now.shape.now work.now.course.now.cells work.now.seeds.now }
+    requires differ { AreDifferences work.now.seeds.now.old.now work.now.shape.now work.now.course.now.cells differences.now }
     ensures { IfOk result (λ begins. begins
         ≡ spec.outside_by work.now.seeds.now.old.now work.now.shape.now work.now.seeds.now.moved.now name.now
         (rule_at work.now.seeds.now.old.now (Measure name.now)) (rule_at work.now.shape.now (Measure name.now))) }
 {
-    if has(&work.course.rules, name)? {
+    if is_ruled(work, &work.course.rules, name)? {
         return Ok(false);
     }
-    if has(&differences.rules, name)? {
+    if is_ruled(work, &differences.rules, name)? {
         return Ok(true);
     }
     if differences.base.has(&name.key) {
@@ -122,6 +128,14 @@ fn has(nodes: &NodeMap, name: &CellName) -> Result<bool, Memory>
     Ok(number.is_some())
 }
 
+// Whether one of these rules, by the cells of the course, assigns a measure.
+fn is_ruled(work: &Work<'_>, rules: &NumberTable, name: &CellName) -> Result<bool, Memory>
+    ensures { IfOk result (λ ruled. ruled ≡ is_in_table work.now.course.now.cells rules.now name.now) }
+{
+    let number = rules.get(&work.course.cells, &name.key, name.measure, &mut 0)?;
+    Ok(number.is_some())
+}
+
 /// Whether the change begins at the measure of an assignment, which looks at these.
 pub fn begins_at_target(
     alloc: Global,
@@ -129,7 +143,7 @@ pub fn begins_at_target(
     a: &(Key, u32, u32),
     looks: &[Look],
 ) -> Result<bool, Memory>
-    requires seeds { AreSeeds work.now.shape.now work.now.seeds.now }
+    requires seeds { AreSeeds work.now.shape.now work.now.course.now.cells work.now.seeds.now }
     requires own { find (assigns a.now.1 a.now.0) work.now.shape.now.assigned ≡ Some a.now }
     requires looks { looks.now ≡ looks_by (model_of work.now.model.now) work.now.shape.now a.now }
     ensures { IfOk result (λ begins. begins
@@ -158,22 +172,41 @@ fn differs_by_looks(
     a: &(Key, u32, u32),
     looks: &[Look],
 ) -> Result<bool, Memory>
-    requires differ { AreDifferences work.now.seeds.now.old.now work.now.shape.now differences.now }
+    requires differ { AreDifferences work.now.seeds.now.old.now work.now.shape.now work.now.course.now.cells differences.now }
     requires own { find (assigns a.now.1 a.now.0) work.now.shape.now.assigned ≡ Some a.now }
     requires looks { looks.now ≡ looks_by (model_of work.now.model.now) work.now.shape.now a.now }
     ensures { IfOk result (λ begins. begins
         ≡ spec.told_by (model_of work.now.model.now) work.now.seeds.now.old.now work.now.shape.now work.now.seeds.now.moved.now
         (name_assigned a.now) (rule_at work.now.seeds.now.old.now (node_of a.now)) (rule_at work.now.shape.now (node_of a.now))) }
 {
-    match differences.rules.get(&a.0, a.1)? {
+    let rule_was = differences
+        .rules
+        .get(&work.course.cells, &a.0, a.1, &mut 0)?;
+    match rule_was {
         None => Ok(true),
         Some(number) => {
             if number == a.2 {
-                let were = looks_at(alloc, work.model, work.seeds.old, a)?;
+                let were = looks_were(alloc, work, differences, a)?;
                 return Ok(!are_same_looks(were.as_slice(), looks));
             }
             Ok(true)
         }
+    }
+}
+
+// What an assignment looked at over the old shape, whose cells are searched where they ascend, and else gone through.
+fn looks_were(
+    alloc: Global,
+    work: &Work<'_>,
+    differences: &Differences,
+    a: &(Key, u32, u32),
+) -> Result<Items<Look>, Memory>
+    requires differ { AreDifferences work.now.seeds.now.old.now work.now.shape.now work.now.course.now.cells differences.now }
+    ensures { IfOk result (λ looks. looks ≡ looks_by (model_of work.now.model.now) work.now.seeds.now.old.now a.now) }
+{
+    match &differences.were {
+        Some(cells) => looks_at(alloc, work.model, &ShapeKeys { base: cells, cells }, a),
+        None => looks_at(alloc, work.model, work.seeds.old, a),
     }
 }
 

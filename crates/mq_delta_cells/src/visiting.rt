@@ -1,12 +1,14 @@
 //! An assignment that a change may reach.
-ghost use Rattle.std.specs.Prelude.{◌≡◌, ◌+◌, ◌≤◌, ◌<◌, Some, length, slice_get, if◌then◌else◌, IfOk, OnOk};
+ghost use Rattle.std.specs.Prelude.{◌≡◌, ◌+◌, ◌-◌, ◌≤◌, ◌<◌, Some, length, slice_get, if◌then◌else◌, IfOk, OnOk};
 ghost use Rattle.std.specs.List.{find, list_any};
+ghost use Rattle.mq_ir.specs.declared.query.Rule.{Rule};
 ghost use Rattle.mq_ir.specs.Shape.{Assignment, assigns};
+ghost use Rattle.mq_ir.specs.Slots.{cell_slot};
 ghost use Rattle.mq_auto_shape.specs.Edges.{looks_by};
 ghost use Rattle.mq_auto_shape.specs.Found.{IsRuled};
 ghost use Rattle.mq_refs.specs.Sightings.{measures_in};
 ghost use Rattle.mq_delta_cells.specs.Courses.{IsCourse};
-ghost use Rattle.mq_cells.specs.Stores.{name_assigned};
+ghost use Rattle.mq_cells.specs.Stores.{name_assigned, slot_at};
 ghost use Rattle.mq_delta_cells.specs.Readers as readers;
 ghost use Rattle.mq_delta_cells.specs.Readers.{HasMarked};
 ghost use Rattle.mq_delta_cells.specs.Seeds.{AreSeeds};
@@ -15,11 +17,12 @@ ghost use Rattle.mq_delta_cells.specs.Walks.{IsAssigned, IsDue, IsVisited, groun
 
 use crate::course::rule_of;
 use crate::node_map::NodeMap;
+use crate::reader_map::mark_readers;
 use crate::seeds::{begins_at_look, begins_at_target};
 use crate::work::Work;
 use mq_cells::Cells;
-use mq_ir::Look;
-use mq_refs::eval_cell;
+use mq_ir::{Look, Slot};
+use mq_refs::{ShapeKeys, slot_over};
 use mq_values::{Key, Memory};
 use std::alloc::Global;
 
@@ -34,7 +37,7 @@ pub fn visit<C: Cells>(
     cells: &mut C,
 ) -> Result<(), Memory>
     requires course { IsCourse (model_at work.now) work.now.shape.now work.now.course.now }
-    requires seeds { AreSeeds work.now.shape.now work.now.seeds.now }
+    requires seeds { AreSeeds work.now.shape.now work.now.course.now.cells work.now.seeds.now }
     requires place { place < length work.now.shape.now.assigned }
     requires due { IsDue (ground_of work.now) changed.old due.old.items }
     ensures visited { OnOk result ((a : Assignment) → slice_get work.now.shape.now.assigned place ≡ Some a
@@ -44,10 +47,33 @@ pub fn visit<C: Cells>(
         → C.looks cells.new ≤ C.looks cells.old + spec.reads_of_hit (ground_of work.now) changed.old a }
     ensures same_input { C.input cells.new ≡ C.input cells.old }
 {
-    if is_due(due, place) {
-        return visit_due(alloc, work, place, changed, due, cells);
+    let a = &work.shape.assigned.as_slice()[place as usize];
+    if is_hit_at(alloc, work, place, a, changed, due)? {
+        assign(alloc, work, a, changed, due, cells)?;
     }
     Ok(())
+}
+
+// Whether the change reaches the assignment at a place: one that is not due it does not.
+fn is_hit_at(
+    alloc: Global,
+    work: &Work<'_>,
+    place: u32,
+    a: &(Key, u32, u32),
+    changed: &NodeMap,
+    due: &[bool],
+) -> Result<bool, Memory>
+    requires course { IsCourse (model_at work.now) work.now.shape.now work.now.course.now }
+    requires seeds { AreSeeds work.now.shape.now work.now.course.now.cells work.now.seeds.now }
+    requires at { slice_get work.now.shape.now.assigned place ≡ Some a.now }
+    requires due { IsDue (ground_of work.now) changed.now due.now }
+    ensures { IfOk result (λ hit. hit ≡ spec.is_hit (ground_of work.now) changed.now a.now) }
+{
+    if is_due(due, place) {
+        let looks = &work.course.looks.as_slice()[place as usize];
+        return is_hit(alloc, work, a, looks.as_slice(), changed);
+    }
+    Ok(false)
 }
 
 // Whether a place is due.
@@ -60,34 +86,6 @@ fn is_due(due: &[bool], place: u32) -> bool
     }
 }
 
-// Visits one that is due.
-fn visit_due<C: Cells>(
-    alloc: Global,
-    work: &Work<'_>,
-    place: u32,
-    changed: &mut NodeMap,
-    due: &mut Vec<bool>,
-    cells: &mut C,
-) -> Result<(), Memory>
-    requires course { IsCourse (model_at work.now) work.now.shape.now work.now.course.now }
-    requires seeds { AreSeeds work.now.shape.now work.now.seeds.now }
-    requires place { place < length work.now.shape.now.assigned }
-    requires due { IsDue (ground_of work.now) changed.old due.old.items }
-    ensures visited { OnOk result ((a : Assignment) → slice_get work.now.shape.now.assigned place ≡ Some a
-        → IsVisited (ground_of work.now) (C.input cells.old) (C.results cells.old) (C.results cells.new) changed.old changed.new a) }
-    ensures due { OnOk result (IsDue (ground_of work.now) changed.new due.new.items) }
-    ensures reads { (a : Assignment) → slice_get work.now.shape.now.assigned place ≡ Some a
-        → C.looks cells.new ≤ C.looks cells.old + spec.reads_of_hit (ground_of work.now) changed.old a }
-    ensures same_input { C.input cells.new ≡ C.input cells.old }
-{
-    let a = &work.shape.assigned.as_slice()[place as usize];
-    let looks = &work.course.looks.as_slice()[place as usize];
-    if is_hit(alloc, work, a, looks.as_slice(), changed)? {
-        assign(alloc, work, a, changed, due, cells)?;
-    }
-    Ok(())
-}
-
 // Whether the change reaches an assignment, which looks at these.
 fn is_hit(
     alloc: Global,
@@ -97,7 +95,7 @@ fn is_hit(
     changed: &NodeMap,
 ) -> Result<bool, Memory>
     requires course { IsCourse (model_at work.now) work.now.shape.now work.now.course.now }
-    requires seeds { AreSeeds work.now.shape.now work.now.seeds.now }
+    requires seeds { AreSeeds work.now.shape.now work.now.course.now.cells work.now.seeds.now }
     requires own { find (assigns a.now.1 a.now.0) work.now.shape.now.assigned ≡ Some a.now }
     requires looks { looks.now ≡ looks_by (model_at work.now) work.now.shape.now a.now }
     ensures { IfOk result (λ hit. hit ≡ spec.is_hit (ground_of work.now) changed.now a.now) }
@@ -111,7 +109,7 @@ fn is_hit(
 // Whether one of these looks is known to be reached.
 fn is_some_known(work: &Work<'_>, looks: &[Look], changed: &NodeMap) -> Result<bool, Memory>
     requires course { IsCourse (model_at work.now) work.now.shape.now work.now.course.now }
-    requires seeds { AreSeeds work.now.shape.now work.now.seeds.now }
+    requires seeds { AreSeeds work.now.shape.now work.now.course.now.cells work.now.seeds.now }
     ensures { IfOk result (λ some. some ≡ list_any (is_known_in (ground_of work.now) changed.now) looks.now) }
 {
     for look in looks {
@@ -125,7 +123,7 @@ fn is_some_known(work: &Work<'_>, looks: &[Look], changed: &NodeMap) -> Result<b
 // Whether a look is known to be reached.
 fn is_known(work: &Work<'_>, look: &Look, changed: &NodeMap) -> Result<bool, Memory>
     requires course { IsCourse (model_at work.now) work.now.shape.now work.now.course.now }
-    requires seeds { AreSeeds work.now.shape.now work.now.seeds.now }
+    requires seeds { AreSeeds work.now.shape.now work.now.course.now.cells work.now.seeds.now }
     ensures { IfOk result (λ known. known ≡ is_known_in (ground_of work.now) changed.now look.now) }
 {
     if let Look::Measure(name) = look {
@@ -145,16 +143,40 @@ fn assign<C: Cells>(
     due: &mut Vec<bool>,
     cells: &mut C,
 ) -> Result<(), Memory>
-    requires { IsRuled (model_at work.now) a.now }
+    requires course { IsCourse (model_at work.now) work.now.shape.now work.now.course.now }
+    requires ruled { IsRuled (model_at work.now) a.now }
     ensures marked { OnOk result (HasMarked work.now.course.now.readers (name_assigned a.now) due.old.items due.new.items) }
     ensures assigned { OnOk result (IsAssigned (ground_of work.now) (C.input cells.old) (C.results cells.old) (C.results cells.new)
         changed.old changed.new a.now) }
     ensures reads { C.looks cells.new ≤ C.looks cells.old + measures_in (looks_by (model_at work.now) work.now.shape.now a.now) }
     ensures same_input { C.input cells.new ≡ C.input cells.old }
 {
-    let rule = rule_of(work.model, a);
-    let slot = eval_cell(alloc, rule, work.model, &a.0, 0, work.shape, cells)?;
+    let slot = slot_for(alloc, work, a, cells)?;
     cells.put(&a.0, a.1, slot)?;
     changed.put(a.0.copy()?, a.1, a.2)?;
-    work.course.readers.mark(&a.0, a.1, due)
+    mark_readers(&work.course.readers, &a.0, a.1, due)
+}
+
+// What the rule of an assignment makes of its cell, over the cells of the course. Nothing that stands is changed.
+fn slot_for<C: Cells>(
+    alloc: Global,
+    work: &Work<'_>,
+    a: &(Key, u32, u32),
+    cells: &mut C,
+) -> Result<Slot, Memory>
+    requires course { IsCourse (model_at work.now) work.now.shape.now work.now.course.now }
+    requires ruled { IsRuled (model_at work.now) a.now }
+    ensures exact { IfOk result (λ slot. (rule : Rule) → slice_get (model_at work.now).part.rules (a.now.2 - 1) ≡ Some rule
+        → slot ≡ cell_slot (model_at work.now) work.now.shape.now 0 rule a.now.0 (slot_at (C.input cells.old) (C.results cells.old))) }
+    ensures reads { C.looks cells.new ≤ C.looks cells.old + measures_in (looks_by (model_at work.now) work.now.shape.now a.now) }
+    ensures same_input { C.input cells.new ≡ C.input cells.old }
+    ensures same_results { C.results cells.new ≡ C.results cells.old }
+{
+    let course = work.course;
+    let rule = rule_of(work.model, a);
+    let keys = ShapeKeys {
+        base: &course.base,
+        cells: &course.cells,
+    };
+    slot_over(alloc, rule, work.model, &a.0, 0, &keys, course.refs, cells)
 }

@@ -25,7 +25,7 @@ use std::alloc::Global;
 /// rounds and at the input.
 pub fn walk_rounds<C: Cells>(alloc: Global, work: &Work<'_>, cells: &mut C) -> Result<(), Memory>
     requires course { IsCourse (model_at work.now) work.now.shape.now work.now.course.now }
-    requires seeds { AreSeeds work.now.shape.now work.now.seeds.now }
+    requires seeds { AreSeeds work.now.shape.now work.now.course.now.cells work.now.seeds.now }
     ensures values { OnOk result ((input : Cells) → C.input cells.old ≡ cell_at input
         → BeginsRight (ground_of work.now) input (C.results cells.old)
         → (c : CellName) → C.results cells.new c ≡ result_at (model_at work.now) work.now.shape.now input c) }
@@ -54,7 +54,7 @@ fn walk_round<C: Cells>(
     cells: &mut C,
 ) -> Result<(), Memory>
     requires course { IsCourse (model_at work.now) work.now.shape.now work.now.course.now }
-    requires seeds { AreSeeds work.now.shape.now work.now.seeds.now }
+    requires seeds { AreSeeds work.now.shape.now work.now.course.now.cells work.now.seeds.now }
     requires places { All (λ place. place < length work.now.shape.now.assigned) round.now }
     requires due { IsDue (ground_of work.now) changed.old due.old.items }
     ensures due { OnOk result (IsDue (ground_of work.now) changed.new due.new.items) }

@@ -1,5 +1,6 @@
 pub mod DeciderLemmas
 pub mod IndexLemmas
+pub mod KeptLemmas
 pub mod MatchLemmas
 pub mod PartLemmas
 pub mod PassingLemmas

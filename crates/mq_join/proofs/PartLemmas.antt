@@ -1,6 +1,6 @@
 -- The parts of base rows, and where they come from.
 use Rattle.std.proofs.Common.{◌≡◌, ℕ, zero, suc, ◌+◌, ◌<◌, ◌≤◌, List, [], ◌∷◌, ◌++◌, length, min, take, get_or, Option, Some, None, refl, sym, ap, ◌∙◌, arith}
-use Rattle.std.specs.Prelude.{slice_get, slice_index_or}
+use Rattle.std.specs.Prelude.{map, slice_get, slice_index_or, slice_set}
 use Rattle.std.specs.List.{filter_map, zip}
 use Rattle.std.specs.Option.{option_map, option_map_or, option_to_list, unwrap_or}
 use Rattle.std.proofs.lemmas.List.{get_or-map, get_or_default, length-map, take_more}
@@ -11,6 +11,7 @@ use Rattle.mq_ir.specs.BaseRows.{Places, rows_at}
 use Rattle.mq_ir.specs.Keys.{Tuple}
 use Rattle.mq_ir.specs.Tables.{Table, Tables, rows_of, table_at}
 use Rattle.mq_tables.specs.Rows.{rows_at as table_rows}
+use Rattle.mq_join.specs.Chosen.{choosing, rows_at_places}
 use Rattle.mq_join.specs.Rows.{joined_at, part_at}
 
 -- the rows of a table that is there, and of one that is not
@@ -74,3 +75,33 @@ placed_part items places i rows row part a b e f g =
 -- one item more, as a loop pushes it
 pub one_pushed : {X : Type 0} (xs : List X) (i : ℕ) (before after : List X) (x : X) → i < length xs → x ≡ get_or xs i x → before ≡ take i xs → after ≡ before ++ x ∷ [] → after ≡ take (i + 1) xs
 one_pushed xs i before after x h e b a = a ∙ ap (λ ys. ys ++ x ∷ []) b ∙ (λ j. take i xs ++ e j ∷ []) ∙ sym (take_more xs i x h)
+
+-- one FROM item with some of its rows alone
+pub chosen_there : (tables : Tables) (names : List (List ℕ)) (items : List (List Tuple)) (item : ℕ) (name : List ℕ) (places : List ℕ) (rows chosen : List Tuple) → items ≡ map (rows_of tables) names
+    → slice_get names item ≡ Some name → rows ≡ rows_of tables name → chosen ≡ rows_at_places rows places → slice_set items item chosen ≡ choosing item places items
+chosen_there tables names items item name places rows chosen i g r c =
+    ap (slice_set items item) (c ∙ ap (λ l. rows_at_places l places) (r ∙ sym (found names item g) ∙ ap (λ l. slice_index_or l item []) (sym i)))
+  where
+    found : (names : List (List ℕ)) (item : ℕ) → slice_get names item ≡ Some name → slice_index_or (map (rows_of tables) names) item [] ≡ rows_of tables name
+    found [] item g = absurd (cc)
+    found (n ∷ names) zero g = let e : n ≡ name = cc in ap (rows_of tables) e
+    found (n ∷ names) (suc item) g = found names item g
+
+pub chosen_past : (tables : Tables) (names : List (List ℕ)) (items : List (List Tuple)) (item : ℕ) (places : List ℕ) → items ≡ map (rows_of tables) names → slice_get names item ≡ None → items ≡ choosing item places items
+chosen_past tables names items item places i g =
+    ap (λ l. l) (sym (past items item (rows_at_places (slice_index_or items item []) places) (behind names item g (ap length i ∙ length-map names (rows_of tables)))))
+  where
+    behind : (names : List (List ℕ)) (item : ℕ) → slice_get names item ≡ None → length items ≡ length names → length items ≤ item
+    behind names item g e = omega (arith, e, less names item g)
+      where
+        less : (names : List (List ℕ)) (item : ℕ) → slice_get names item ≡ None → length names ≤ item
+        less [] item g = omega arith
+        less (n ∷ names) zero g = absurd (cc)
+        less (n ∷ names) (suc item) g = let r = less names item g in omega (arith, r)
+
+    past : (xs : List (List Tuple)) (k : ℕ) (x : List Tuple) → length xs ≤ k → slice_set xs k x ≡ xs
+    past [] k x h = refl
+    past (y ∷ xs) zero x h = absurd (omega (arith, h))
+    past (y ∷ xs) (suc k) x h = ap (λ l. y ∷ l) (past xs k x (omega (arith, h)))
+
+pub ruleset chosen_steps = (chosen_there, chosen_past)

@@ -78,6 +78,13 @@ impl<'a> JoinRow<'a> {
         }
     }
 
+    /// The places of its rows, one for each item. `Memory` comes also where a place is past 32 bits: no table has so many rows.
+    pub fn places(&self, alloc: Global) -> Result<Vec<u32>, Memory>
+        ensures { IfOk result (λ places. places.items ≡ places_in self.now) }
+    {
+        places_of(alloc, self.parts.as_slice())
+    }
+
     /// The place of the row of an item, counted from 0, or 0 where there is no such item. A place past the last
     /// `u32` is told as that; no table has so many rows.
     pub fn place(&self, item: u32) -> u32
@@ -87,6 +94,27 @@ impl<'a> JoinRow<'a> {
             Some(part) => capped(part.place()),
             None => 0,
         }
+    }
+}
+
+fn places_of(alloc: Global, parts: &[Part<'_>]) -> Result<Vec<u32>, Memory>
+    ensures { IfOk result (λ places. places.items ≡ places_in parts.now) }
+{
+    let mut places = Vec::with_capacity(alloc, parts.len())?;
+    'parts: for part in parts {
+        places.push(narrow(part.place())?)?;
+    }
+    Ok(places)
+}
+
+// The same place in 32 bits.
+fn narrow(place: usize) -> Result<u32, Memory>
+    ensures { IfOk result (λ narrow. narrow ≡ place) }
+{
+    if place <= u32::MAX as usize {
+        Ok(place as u32)
+    } else {
+        Err(Memory)
     }
 }
 

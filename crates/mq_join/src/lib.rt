@@ -9,6 +9,7 @@ mod from_items;
 mod indexes;
 mod join_keys;
 mod join_row;
+mod kept_rows;
 mod lookups;
 mod passing;
 mod plans;
@@ -18,4 +19,7 @@ mod tuple_scope;
 mod walk;
 
 pub use join_row::JoinRow;
-pub use query_rows::{base_rows, base_rows_in, lend_rows, lend_rows_in};
+pub use kept_rows::{KeptRows, PlaceRows};
+pub use query_rows::{
+    base_rows, base_rows_choosing, base_rows_in, lend_kept, lend_kept_in, lend_rows, lend_rows_in,
+};

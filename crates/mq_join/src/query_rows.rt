@@ -4,11 +4,13 @@ ghost use Rattle.mq_values.specs.Answers.{Gives, result_map};
 ghost use Rattle.mq_ir.specs.Answer.{plain_fault as spec_plain_fault};
 ghost use Rattle.mq_ir.specs.BaseRows.{base_rows as spec_base_rows, items_of as spec_items_of};
 ghost use Rattle.mq_ir.specs.Results.{marked};
+ghost use Rattle.mq_join.specs.Chosen.{choosing};
 ghost use Rattle.mq_join.specs.Rows.{joined_at, joined_rows, rows_in, rows_over as spec_rows_over};
 
 use crate::conditions::conditions_of;
-use crate::from_items::{ItemRows, items_of};
+use crate::from_items::{ItemRows, items_choosing, items_of};
 use crate::join_row::{JoinRow, joined};
+use crate::kept_rows::KeptRows;
 use crate::plans::plan_of;
 use crate::walk::rows_behind;
 use mq_ir::{FromPart, plain_fault};
@@ -77,6 +79,53 @@ pub fn lend_rows<'a>(
     ensures { IfOk result (λ lent. lent.items ≡ map (joined_at (spec_items_of t.now q.now)) rows.now) }
 {
     lend_rows_in(alloc, q, rows, t)
+}
+
+/// The rows at these places of the FROM items, as base rows, from places that were kept. `Memory` is the only error.
+pub fn lend_kept_in<'a, T: TableSet>(
+    alloc: Global,
+    q: &FromPart,
+    kept: &KeptRows,
+    t: &'a T,
+) -> Result<Vec<JoinRow<'a>>, Memory>
+    ensures { IfOk result (λ lent. lent.items ≡ map (joined_at (spec_items_of (T.tables t.now) q.now)) kept.now) }
+{
+    let items = items_of(alloc, q, t)?;
+    let mut lent = Vec::with_capacity(alloc, kept.len())?;
+    'rows: for at in 0..kept.len() {
+        let places = wide_places(alloc, kept.row(at))?;
+        lent.push(joined(alloc, items.as_slice(), &places)?)?;
+    }
+    Ok(lent)
+}
+
+/// The same over the tables that stand between two statements.
+pub fn lend_kept<'a>(
+    alloc: Global,
+    q: &FromPart,
+    kept: &KeptRows,
+    t: &'a Tables,
+) -> Result<Vec<JoinRow<'a>>, Memory>
+    ensures { IfOk result (λ lent. lent.items ≡ map (joined_at (spec_items_of t.now q.now)) kept.now) }
+{
+    lend_kept_in(alloc, q, kept, t)
+}
+
+/// The base rows in which the row of one FROM item, counted from 0, is one of those at these places: they are told by their
+/// numbers among these places, in the place of their places. The first event of the walk over these tuples is the
+/// error.
+pub fn base_rows_choosing<'a, T: TableSet>(
+    alloc: Global,
+    q: &FromPart,
+    item: usize,
+    places: &'a [u32],
+    t: &'a T,
+) -> Result<Vec<JoinRow<'a>>, Fail<FaultKind>>
+    ensures { Gives (result_map (λ rows. rows.items) result) (spec_rows_over q.now (choosing item places.now (spec_items_of (T.tables t.now) q.now))) }
+{
+    let items = items_choosing(alloc, q, item, places, t)?;
+    let rows = rows_over(alloc, q, items.as_slice())?;
+    Ok(rows.into_vec())
 }
 
 // The base rows over the rows of the FROM items.

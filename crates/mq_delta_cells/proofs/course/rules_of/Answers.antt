@@ -3,7 +3,7 @@ use Rattle.std.specs.List.{find}
 use Rattle.std.specs.Option.{option_map}
 use Rattle.mq_ir.specs.declared.query.CellName.{CellName}
 use Rattle.mq_ir.specs.Shape.{Assignment, assigns}
-use Rattle.mq_delta_cells.specs.Nodes.{number_in}
+use Rattle.mq_delta_cells.specs.Tables.{number_by}
 use Rattle.mq_delta_cells.proofs.StartLemmas.{rules_next}
 use Rattle.mq_delta_cells.proofs.course.rules_of.Goals as goal
 
@@ -16,6 +16,6 @@ putting-preserved c =
     record {
       within = omega (arith, lt);
       rules =
-          rules_next xs n c.index-assigned-at.result c.in_ok-copy.field-0 c.putting.rules c.put.new.self lt c.index-assigned-at.is c.in_ok-copy.ensures c.in_ok-put.ensures
-          (subst (λ k. (d : CellName) → number_in c.putting.rules d ≡ option_map (λ (a : Assignment). a.2) (find (assigns d.measure d.key) (drop k xs))) (sym e) c.putting.invariant.rules);
+          rules_next c.args.cells.now xs n c.index-assigned-at.result c.putting.rules c.put.new.self lt c.index-assigned-at.is c.in_ok-put.ensures
+          (subst (λ k. (d : CellName) → number_by c.args.cells.now c.putting.rules d ≡ option_map (λ (a : Assignment). a.2) (find (assigns d.measure d.key) (drop k xs))) (sym e) c.putting.invariant.rules);
     }

@@ -9,11 +9,11 @@ returns-in_err-propagate_over-in-Ok-clause-reads g c =
     let model = model_of c.args.m.now in
     let keys = c.args.new.now in
     let old = c.args.old.now in
-    let shape = c.in-Ok.shape in
+    let shape = c.in-Ok.it.shape in
     let given = g.C.Cells.input c.args.cells.now in
     let results = g.C.Cells.results c.args.cells.now in
-    let found : Ok shape ≡ shape_meant model keys = rw c.in-Ok.is at c.in_ok-shape.ensures.exact in
-    let base = (rw c.in-Ok.is at c.in_ok-shape.ensures.shape).base in
+    let found : Ok shape ≡ shape_meant model keys = rw c.in-Ok.is at c.in_ok-found.ensures.exact in
+    let base = (rw c.in-Ok.is at c.in_ok-found.ensures.shape).base in
     λ before after change.
     subst (λ k. g.C.Cells.looks c.propagate_over.new.cells ≤ g.C.Cells.looks c.args.cells.now + k)
     (sym (most_are model keys old shape c.args.moved.now before after given results change found))
@@ -25,11 +25,11 @@ returns-in_ok-propagate_over-in-Ok-clause-values g c =
     let model = model_of c.args.m.now in
     let keys = c.args.new.now in
     let old = c.args.old.now in
-    let shape = c.in-Ok.shape in
+    let shape = c.in-Ok.it.shape in
     let given = g.C.Cells.input c.args.cells.now in
     let results = g.C.Cells.results c.args.cells.now in
-    let found : Ok shape ≡ shape_meant model keys = rw c.in-Ok.is at c.in_ok-shape.ensures.exact in
-    let base = (rw c.in-Ok.is at c.in_ok-shape.ensures.shape).base in
+    let found : Ok shape ≡ shape_meant model keys = rw c.in-Ok.is at c.in_ok-found.ensures.exact in
+    let base = (rw c.in-Ok.is at c.in_ok-found.ensures.shape).base in
     λ before after change.
     c.in_ok-propagate_over-in-Ok.ensures.values before after
     (is_shaped model keys old shape c.args.moved.now before after given results change found c.requires.ready.ascend)
@@ -40,11 +40,11 @@ returns-in_ok-propagate_over-in-Ok-clause-unaffected g c =
     let model = model_of c.args.m.now in
     let keys = c.args.new.now in
     let old = c.args.old.now in
-    let shape = c.in-Ok.shape in
+    let shape = c.in-Ok.it.shape in
     let given = g.C.Cells.input c.args.cells.now in
     let results = g.C.Cells.results c.args.cells.now in
-    let found : Ok shape ≡ shape_meant model keys = rw c.in-Ok.is at c.in_ok-shape.ensures.exact in
-    let base = (rw c.in-Ok.is at c.in_ok-shape.ensures.shape).base in
+    let found : Ok shape ≡ shape_meant model keys = rw c.in-Ok.is at c.in_ok-found.ensures.exact in
+    let base = (rw c.in-Ok.is at c.in_ok-found.ensures.shape).base in
     λ before after change.
     c.in_ok-propagate_over-in-Ok.ensures.unaffected before after
     (is_shaped model keys old shape c.args.moved.now before after given results change found c.requires.ready.ascend)
@@ -55,11 +55,11 @@ returns-in_ok-propagate_over-in-Ok-clause-reads g c =
     let model = model_of c.args.m.now in
     let keys = c.args.new.now in
     let old = c.args.old.now in
-    let shape = c.in-Ok.shape in
+    let shape = c.in-Ok.it.shape in
     let given = g.C.Cells.input c.args.cells.now in
     let results = g.C.Cells.results c.args.cells.now in
-    let found : Ok shape ≡ shape_meant model keys = rw c.in-Ok.is at c.in_ok-shape.ensures.exact in
-    let base = (rw c.in-Ok.is at c.in_ok-shape.ensures.shape).base in
+    let found : Ok shape ≡ shape_meant model keys = rw c.in-Ok.is at c.in_ok-found.ensures.exact in
+    let base = (rw c.in-Ok.is at c.in_ok-found.ensures.shape).base in
     λ before after change.
     subst (λ k. g.C.Cells.looks c.propagate_over.new.cells ≤ g.C.Cells.looks c.args.cells.now + k)
     (sym (most_are model keys old shape c.args.moved.now before after given results change found))

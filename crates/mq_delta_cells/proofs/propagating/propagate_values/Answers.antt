@@ -44,3 +44,6 @@ returns-clause-reads g c =
     c.shapes_are_sound.ensures c.results_stay.ensures shaped c.requires.course.ruled c.in_ok-seeds.ensures.old c.in_ok-seeds.ensures.moved change
     (g.C.Cells.looks c.args.cells.now) (g.C.Cells.looks c.walk_rounds.new.cells)
     c.walk_rounds.ensures.reads
+
+pub walk_rounds-requires-clause-seeds : goal.walk_rounds-requires-clause-seeds
+walk_rounds-requires-clause-seeds g c = c.in_ok-seeds.ensures.seeds c.args.course.now.cells

@@ -11,7 +11,7 @@ returns-then-number-a c =
     let old = work.seeds.now.old.now in
     let a = c.args.a.now in
     let number = c.in-Some.number in
-    let e : rule_at old (node_of a) ≡ Some number = sym (c.requires.differ.rules (name_assigned a)) ∙ sym c.in_ok-get.ensures ∙ c.in-Some.is in
+    let e : rule_at old (node_of a) ≡ Some number = sym (c.requires.differ.rules (name_assigned a)) ∙ sym c.in_ok-rule_was.ensures ∙ c.in-Some.is in
     ap not c.are_same_looks.ensures
     ∙ sym (target_looked (model_of work.model.now) old work.shape.now work.seeds.now.moved.now a c.requires.own number c.as_slice.result.now e c.if-number-a.true
     (c.as_slice.ensures ∙ c.in_ok-were-in-Some.ensures) c.args.looks.now c.requires.looks)
@@ -21,7 +21,7 @@ returns-in-None c =
     let work = c.args.work.now in
     let old = work.seeds.now.old.now in
     let a = c.args.a.now in
-    let e : rule_at old (node_of a) ≡ None = sym (c.requires.differ.rules (name_assigned a)) ∙ sym c.in_ok-get.ensures ∙ c.in-None.is in
+    let e : rule_at old (node_of a) ≡ None = sym (c.requires.differ.rules (name_assigned a)) ∙ sym c.in_ok-rule_was.ensures ∙ c.in-None.is in
     sym (target_new (model_of work.model.now) old work.shape.now work.seeds.now.moved.now a c.requires.own e)
 
 pub returns-else-number-a : goal.returns-else-number-a
@@ -30,5 +30,5 @@ returns-else-number-a c =
     let old = work.seeds.now.old.now in
     let a = c.args.a.now in
     let number = c.in-Some.number in
-    let e : rule_at old (node_of a) ≡ Some number = sym (c.requires.differ.rules (name_assigned a)) ∙ sym c.in_ok-get.ensures ∙ c.in-Some.is in
+    let e : rule_at old (node_of a) ≡ Some number = sym (c.requires.differ.rules (name_assigned a)) ∙ sym c.in_ok-rule_was.ensures ∙ c.in-Some.is in
     sym (target_ruled (model_of work.model.now) old work.shape.now work.seeds.now.moved.now a c.requires.own number e c.if-number-a.false)

@@ -14,4 +14,4 @@ returns-in-Some-clause-cleared g c =
     (λ cleared d.
     cleared d
     ∙ ap (λ b. if b then None else g.C.Cells.results c.args.cells.now d)
-    (ap (λ (xs : List Assignment). is_gone xs rules d) c.as_slice.ensures ∙ gone_is old c.args.new.now rules c.requires.rules d)) c.clear_gone.ensures.cleared
+    (ap (λ (xs : List Assignment). is_gone xs c.args.index.now rules d) c.as_slice.ensures ∙ gone_is old c.args.new.now c.args.index.now rules c.requires.rules d)) c.clear_gone.ensures.cleared

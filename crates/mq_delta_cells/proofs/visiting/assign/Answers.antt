@@ -1,4 +1,4 @@
-use Rattle.std.proofs.Common.{◌≡◌, ◌-◌, Some, slice_get, subst}
+use Rattle.std.proofs.Common.{subst}
 use Rattle.std.proofs.lemmas.Result.{on_ok_weaker}
 use Rattle.mq_ir.specs.Keys.{Tuple}
 use Rattle.mq_cells.specs.Stores.{cell_name}
@@ -11,13 +11,11 @@ pub returns-clause-assigned : goal.returns-clause-assigned
 returns-clause-assigned g c =
     let model = model_at c.args.work.now in
     let a = c.args.a.now in
-    let r = c.rule_of-rule.result.now in
-    let there : Some r ≡ slice_get model.part.rules (a.2 - 1) = c.rule_of-rule.ensures in
-    on_ok_weaker c.mark.result
+    on_ok_weaker c.mark_readers.result
     (λ _. record {
       put =
           λ rule at.
-          slot_put model c.args.work.now.shape.now (g.C.Cells.input c.args.cells.now) (g.C.Cells.results c.args.cells.now) (g.C.Cells.results c.eval_cell.new.cells) (g.C.Cells.results c.put.new.self)
-          a r rule c.in_ok-slot.slot c.in_ok-slot.ensures.same_results there c.in_ok-slot.ensures.exact c.in_ok-put.ensures.ok at;
+          slot_put model c.args.work.now.shape.now (g.C.Cells.input c.args.cells.now) (g.C.Cells.results c.args.cells.now) (g.C.Cells.results c.slot_for.new.cells) (g.C.Cells.results c.put.new.self)
+          a rule c.in_ok-slot.slot c.in_ok-slot.ensures.same_results (c.in_ok-slot.ensures.exact rule at) c.in_ok-put.ensures.ok;
       noted = subst (λ (key : Tuple). Numbers c.args.changed.now c.put-2.new.self (cell_name key a.1) a.2) c.in_ok-copy.ensures c.in_ok-put-2.ensures;
-    }) c.mark.ensures
+    }) c.mark_readers.ensures

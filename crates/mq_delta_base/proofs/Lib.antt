@@ -1,0 +1,10 @@
+pub mod GatherLemmas
+pub mod InvertLemmas
+pub mod JoinedLemmas
+pub mod MoveLemmas
+pub mod SetLemmas
+pub mod StagedLemmas
+pub mod StayLemmas
+pub mod TakenLemmas
+pub mod TupleLemmas
+pub mod UnionLemmas

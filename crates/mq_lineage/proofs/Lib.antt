@@ -1,0 +1,6 @@
+mod AcceptLemmas
+mod LookLemmas
+mod NodeLemmas
+mod SlotLemmas
+mod ToldLemmas
+mod RuleLemmas

@@ -1,0 +1,5 @@
+use Rattle.mq_lineage.proofs.LookLemmas.{Told}
+use Rattle.mq_lineage.proofs.telling.are_told.Given as goal
+
+abbrev pub invariant-looks : goal.invariant-looks
+invariant-looks l = Told l.names l.looks l.look-index
