@@ -9,5 +9,7 @@ mod node_map;
 mod rules;
 mod slots;
 mod telling;
+#[cfg(test)]
+mod tests;
 
 pub use checking::check;
