@@ -1,25 +1,26 @@
 //! Two sets of the same tables: a change is staged and committed in the one and made in place in the other, by turns.
 
-use crate::answers::{add, add_keys, add_number, add_number_or, both};
-use crate::models::bound;
-use crate::scene::Scene;
-use crate::texts::{Read, cut, keys, unread};
-use mq_ir::{Bound, Change, TableDef, TableEntry};
-use mq_render::refusal_text;
+use crate::answers::Reply;
+use crate::models::{bound, change_of, table_of};
+use crate::texts::{cut, keys};
+use mq_ir::{ByName, Catalog, Change, TableDef, TableEntry};
 use mq_tables::{Staged, TableSet, Tables};
-use mq_values::{Fail, Memory, Refused, Words};
+use mq_values::{Fail, Refused, Words};
 use std::alloc::Global;
 
+/// The tables that are there: as statements are bound under them, and with their rows in two ways.
 #[derive(Drop)]
-pub(crate) struct Ways {
-    pub(crate) first: Tables,
-    pub(crate) second: Tables,
+pub(crate) struct Known {
+    pub catalog: Catalog,
+    pub first: Tables,
+    pub second: Tables,
     is_first_staged: bool,
 }
 
-impl Ways {
-    pub(crate) fn new(alloc: Global) -> Ways {
-        Ways {
+impl Known {
+    pub fn new(alloc: Global) -> Known {
+        Known {
+            catalog: no_names(alloc),
             first: Tables::new(alloc),
             second: Tables::new(alloc),
             is_first_staged: true,
@@ -27,107 +28,106 @@ impl Ways {
     }
 }
 
+fn no_names(alloc: Global) -> Catalog {
+    Catalog {
+        tables: ByName::new(alloc),
+        views: ByName::new(alloc),
+        scenarios: ByName::new(alloc),
+    }
+}
+
 /// The table of a CREATE TABLE is there from now on.
-pub(crate) fn create_table(alloc: Global, scene: &mut Scene, text: &str) -> Read<()> {
-    let def = table(alloc, scene, text)?;
-    add_table(&mut scene.ways.first, def)?;
-    let def = table(alloc, scene, text)?;
-    add_table(&mut scene.ways.second, def)?;
-    let TableDef { name, schema } = table(alloc, scene, text)?;
-    if scene.catalog.tables.has(name.as_str()) {
-        return unread();
+pub(crate) fn create_table(known: &mut Known, text: &str, reply: &mut Reply) {
+    if let Some(def) = table(&known.catalog, text, reply) {
+        add_table(&mut known.first, def, reply);
     }
-    Ok(scene.catalog.tables.put(TableEntry { name, schema })?)
-}
-
-fn table(alloc: Global, scene: &Scene, text: &str) -> Read<TableDef> {
-    match bound(alloc, scene, text)?.into_inner() {
-        Bound::CreateTable(def) => Ok(def),
-        _ => unread(),
+    if let Some(def) = table(&known.catalog, text, reply) {
+        add_table(&mut known.second, def, reply);
+    }
+    if let Some(def) = table(&known.catalog, text, reply) {
+        name_table(&mut known.catalog, def, reply);
     }
 }
 
-fn add_table(tables: &mut Tables, def: TableDef) -> Read<()> {
+fn table(known: &Catalog, text: &str, reply: &mut Reply) -> Option<TableDef> {
+    let bound = bound(known, text, reply)?;
+    reply.read(table_of(bound.into_inner()))
+}
+
+fn add_table(tables: &mut Tables, def: TableDef, reply: &mut Reply) {
     if tables.table(def.name.as_str()).is_some() {
-        return unread();
+        reply.unread();
+    } else {
+        reply.note(tables.add(def));
     }
-    Ok(tables.add(def)?)
+}
+
+fn name_table(known: &mut Catalog, def: TableDef, reply: &mut Reply) {
+    if known.tables.has(def.name.as_str()) {
+        reply.unread();
+    } else {
+        let TableDef { name, schema } = def;
+        reply.note(known.tables.put(TableEntry { name, schema }));
+    }
 }
 
 /// A table, and behind a tab the statement that changes it: what comes of the change.
-pub(crate) fn changed(alloc: Global, scene: &mut Scene, text: &str) -> Read<Vec<u8>> {
-    let (name, statement) = cut(text, "\t")?;
-    let bound = bound(alloc, scene, statement)?;
-    match bound.get() {
-        Bound::Change(change) => made_twice(alloc, &mut scene.ways, name, change),
-        _ => unread(),
+pub(crate) fn changed(known: &mut Known, text: &str, reply: &mut Reply) {
+    let (name, statement) = cut(text, "\t", reply);
+    if let Some(bound) = bound(&known.catalog, statement, reply) {
+        if let Some(change) = reply.read(change_of(bound.get())) {
+            made_twice(known, name, change, reply);
+        }
     }
 }
 
 /// A table, and behind a tab the rows that are appended to it.
-pub(crate) fn appended(alloc: Global, scene: &mut Scene, text: &str) -> Read<Vec<u8>> {
-    let (name, rows) = cut(text, "\t")?;
-    let rows = keys(alloc, rows)?;
-    let table = Words::new(alloc, name)?;
-    made_twice(
-        alloc,
-        &mut scene.ways,
-        name,
-        &Change::Append { table, rows },
-    )
+pub(crate) fn appended(known: &mut Known, text: &str, reply: &mut Reply) {
+    let (name, rows) = cut(text, "\t", reply);
+    let rows = keys(rows, reply);
+    if let Some(table) = reply.made(Words::new(reply.alloc, name)) {
+        made_twice(known, name, &Change::Append { table, rows }, reply);
+    }
 }
 
 // Where the new rows would stand, and what comes of the change; where the other way comes to something else, that too.
-fn made_twice(alloc: Global, ways: &mut Ways, name: &str, change: &Change) -> Read<Vec<u8>> {
-    let mut answer = Vec::new(alloc);
-    if let Ok(staged) = ways.first.stage(alloc, change) {
-        add_origins(&staged, &mut answer)?;
-    }
-    let is_staged = ways.is_first_staged;
-    ways.is_first_staged = !is_staged;
-    let first = made(alloc, &mut ways.first, is_staged, name, change)?;
-    let second = made(alloc, &mut ways.second, !is_staged, name, change)?;
-    answer.extend_from_slice(&both(first, &second)?)?;
-    Ok(answer)
+fn made_twice(known: &mut Known, name: &str, change: &Change, reply: &mut Reply) {
+    add_staged(&known.first, change, reply);
+    let is_staged = known.is_first_staged;
+    known.is_first_staged = !is_staged;
+    let mut told = Reply::new(reply.alloc);
+    make(&mut known.first, is_staged, name, change, &mut told);
+    let mut again = Reply::new(reply.alloc);
+    make(&mut known.second, !is_staged, name, change, &mut again);
+    told.but(&again);
+    reply.join(&told);
 }
 
-pub(crate) fn add_origins(staged: &Staged, answer: &mut Vec<u8>) -> Read<()> {
+fn add_staged(tables: &Tables, change: &Change, reply: &mut Reply) {
+    if let Some(staged) = reply.found(tables.stage(reply.alloc, change)) {
+        add_origins(&staged, reply);
+    }
+}
+
+/// Where each row stood, a star where it stood nowhere or was updated.
+pub(crate) fn add_origins(staged: &Staged, reply: &mut Reply) {
     let Ok(count) = u32::try_from(staged.rows().len()) else {
-        return unread();
+        reply.unread();
+        return;
     };
     for place in 0..count {
-        add_number_or(staged.from(place), "*", answer)?;
-        add(" ", answer)?;
+        reply.number_or(staged.from(place), "*");
+        reply.add(" ");
     }
-    Ok(())
 }
 
 // How many rows are counted, or the line of the refusal; and the rows of the table then.
-fn made(
-    alloc: Global,
-    tables: &mut Tables,
-    is_staged: bool,
-    name: &str,
-    change: &Change,
-) -> Read<Vec<u8>> {
-    let mut text = Vec::new(alloc);
-    match outcome(alloc, tables, is_staged, change) {
-        Ok(count) => {
-            add(": ", &mut text)?;
-            add_number(count, &mut text)?;
-        }
-        Err(Fail::Cause(refused)) => {
-            refusal_text(1, &refused, &mut text)?;
-            text.pop();
-        }
-        Err(Fail::Memory) => return Err(Fail::Memory),
-    }
-    let Some(rows) = tables.rows(name) else {
-        return unread();
-    };
-    add("\t", &mut text)?;
-    add_keys(rows, &mut text)?;
-    Ok(text)
+fn make(tables: &mut Tables, is_staged: bool, name: &str, change: &Change, reply: &mut Reply) {
+    let outcome = outcome(reply.alloc, tables, is_staged, change);
+    reply.add_if(outcome.is_ok(), ": ");
+    add_outcome(&outcome, reply);
+    reply.add("\t");
+    add_rows_of(tables, name, reply);
 }
 
 fn outcome(
@@ -141,4 +141,21 @@ fn outcome(
     }
     let staged = tables.stage(alloc, change)?;
     Ok(tables.commit(staged))
+}
+
+/// How many rows are counted, or the line of the refusal.
+pub(crate) fn add_outcome(outcome: &Result<u64, Fail<Refused>>, reply: &mut Reply) {
+    match outcome {
+        Ok(count) => reply.number(*count),
+        Err(Fail::Cause(refused)) => reply.refusal(refused),
+        Err(Fail::Memory) => reply.is_lacking = true,
+    }
+}
+
+/// The rows of the table of this name.
+pub(crate) fn add_rows_of(tables: &Tables, name: &str, reply: &mut Reply) {
+    match tables.rows(name) {
+        Some(rows) => reply.keys(rows),
+        None => reply.unread(),
+    }
 }

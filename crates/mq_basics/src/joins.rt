@@ -1,68 +1,77 @@
 //! Base rows of queries over the tables that are there, and the rows that are lent at their places again.
 
-use crate::answers::{add, add_if, add_number, add_values, both};
-use crate::models::bound;
-use crate::scene::Scene;
-use crate::texts::{Read, unread};
-use mq_ir::{Bound, FromPart};
+use crate::answers::Reply;
+use crate::changes::Known;
+use crate::models::{bound, from_of};
+use mq_ir::FromPart;
 use mq_join::{JoinRow, base_rows, lend_rows};
 use mq_tables::Tables;
-use mq_values::{Fail, Items, Memory};
+use mq_values::{Items, Memory};
 use std::alloc::Global;
 
 /// A query: its base rows, each with the place and the values of its row of each FROM item; and where the rows that are
 /// lent at these places are others, those too.
-pub(crate) fn based(alloc: Global, scene: &Scene, text: &str) -> Read<Vec<u8>> {
-    let bound = bound(alloc, scene, text)?;
-    match bound.get() {
-        Bound::Query(query) => rows_of(alloc, &query.from, &scene.ways.first),
-        _ => unread(),
+pub(crate) fn based(known: &Known, text: &str, reply: &mut Reply) {
+    if let Some(bound) = bound(&known.catalog, text, reply) {
+        if let Some(from) = reply.read(from_of(bound.get())) {
+            add_base(from, &known.first, reply);
+        }
     }
 }
 
-fn rows_of(alloc: Global, from: &FromPart, tables: &Tables) -> Read<Vec<u8>> {
+fn add_base(from: &FromPart, tables: &Tables, reply: &mut Reply) {
     let Ok(items) = u32::try_from(from.tables.len()) else {
-        return unread();
+        reply.unread();
+        return;
     };
-    match base_rows(alloc, from, tables) {
-        Ok(rows) => {
-            let places = places_of(alloc, &rows, items)?;
-            let lent = lend_rows(alloc, from, places.as_slice(), tables)?;
-            let again = shown(alloc, &lent, items)?;
-            Ok(both(shown(alloc, &rows, items)?, &again)?)
+    match reply.found(base_rows(reply.alloc, from, tables)) {
+        Some(rows) => {
+            add_rows(&rows, items, reply);
+            add_lent(from, &rows, items, tables, reply);
         }
-        Err(Fail::Cause(_)) => {
-            let mut answer = Vec::new(alloc);
-            add("fault", &mut answer)?;
-            Ok(answer)
-        }
-        Err(Fail::Memory) => Err(Fail::Memory),
+        None => reply.add("fault"),
     }
+}
+
+fn add_lent(from: &FromPart, rows: &[JoinRow<'_>], items: u32, tables: &Tables, reply: &mut Reply) {
+    let mut again = Reply::new(reply.alloc);
+    if let Some(places) = again.made(places_of(reply.alloc, rows, items)) {
+        if let Some(lent) = again.made(lend_rows(reply.alloc, from, places.as_slice(), tables)) {
+            add_rows(&lent, items, &mut again);
+        }
+    }
+    reply.but(&again);
 }
 
 fn places_of(alloc: Global, rows: &[JoinRow<'_>], items: u32) -> Result<Items<Items<u32>>, Memory> {
     let mut all = Items::new(alloc);
     for row in rows {
-        let mut places = Items::new(alloc);
-        for item in 0..items {
-            places.push(row.place(item))?;
-        }
-        all.push(places)?;
+        all.push(places_in(alloc, row, items)?)?;
     }
     Ok(all)
 }
 
-fn shown(alloc: Global, rows: &[JoinRow<'_>], items: u32) -> Result<Vec<u8>, Memory> {
-    let mut answer = Vec::new(alloc);
-    add_if(rows.is_empty(), "-", &mut answer)?;
-    for (at, row) in rows.iter().enumerate() {
-        add_if(at > 0, " ; ", &mut answer)?;
-        for item in 0..items {
-            add_if(item > 0, " | ", &mut answer)?;
-            add_number(u64::from(row.place(item)), &mut answer)?;
-            add(" ", &mut answer)?;
-            add_values(row.row(item), &mut answer)?;
-        }
+fn places_in(alloc: Global, row: &JoinRow<'_>, items: u32) -> Result<Items<u32>, Memory> {
+    let mut places = Items::new(alloc);
+    for item in 0..items {
+        places.push(row.place(item))?;
     }
-    Ok(answer)
+    Ok(places)
+}
+
+fn add_rows(rows: &[JoinRow<'_>], items: u32, reply: &mut Reply) {
+    reply.add_if(rows.is_empty(), "-");
+    for (at, row) in rows.iter().enumerate() {
+        reply.add_if(at > 0, " ; ");
+        add_row(row, items, reply);
+    }
+}
+
+fn add_row(row: &JoinRow<'_>, items: u32, reply: &mut Reply) {
+    for item in 0..items {
+        reply.add_if(item > 0, " | ");
+        reply.number(u64::from(row.place(item)));
+        reply.add(" ");
+        reply.values(row.row(item));
+    }
 }

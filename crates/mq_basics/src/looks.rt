@@ -1,182 +1,220 @@
 //! What right sides look at, and what they assign.
 
-use crate::answers::{add, add_if, add_number, add_slot, add_values, both};
-use crate::models::{model_of, part_of, query};
+use crate::answers::Reply;
+use crate::models::part_of;
+use crate::reads::add_outcome;
 use crate::scene::Scene;
-use crate::texts::{Read, cut, key, number_of, unread};
-use mq_cells::{Cells, keys_ascend};
+use crate::stores::Stored;
+use crate::texts::{cut, key, number_of};
+use mq_cells::{Cells, IndexedCells, keys_ascend};
 use mq_dim_index::DimIndex;
-use mq_ir::{Bound, Look, Model, PartShape, Rule, Slot};
+use mq_ir::{Look, Model, PartShape, Rule};
 use mq_refs::{ShapeKeys, eval_cell, looks_of, looks_over, refs_order, slot_over, value_over};
-use mq_values::{Boxed, Fail, Key, Memory};
+use mq_values::{Key, Memory};
 use std::alloc::Global;
 
-// A query, of which the first rule is asked, for this target in this turn.
-#[derive(Drop)]
-struct Question {
-    bound: Boxed<Bound>,
-    target: Key,
+// A rule of a model, a target in a turn, and the keys of the shape by their lists.
+#[derive(Clone, Copy)]
+struct Question<'a> {
+    rule: &'a Rule,
+    model: &'a Model<'a>,
+    target: &'a Key,
     turn: u32,
+    shape: &'a PartShape,
 }
 
-// The target, the turn, and the rule, with tabs between them.
-fn asked(alloc: Global, scene: &Scene, text: &str) -> Read<Question> {
-    let (target, rest) = cut(text, "\t")?;
-    let (turn, rule) = cut(rest, "\t")?;
-    let target = key(alloc, target)?;
-    let turn = number_of(turn)?;
-    let bound = query(alloc, scene, rule)?;
-    Ok(Question {
-        bound,
+/// A target, a turn and a rule, with tabs between them: what the rule looks at, or what it assigns over the stores.
+pub(crate) fn asked(scene: &Scene, asked: &str, text: &str, reply: &mut Reply) {
+    let (target, rest) = cut(text, "\t", reply);
+    let (turn, rule) = cut(rest, "\t", reply);
+    let target = key(target, reply);
+    let turn = number_of(turn, reply);
+    if let Some(bound) = scene.front.query(&scene.known.catalog, rule, reply) {
+        if let Some(part) = reply.read(part_of(bound.get())) {
+            let model = scene.front.model_of(part);
+            ask(scene, asked, &model, &target, turn, reply);
+        }
+    }
+}
+
+fn ask(scene: &Scene, asked: &str, model: &Model<'_>, target: &Key, turn: u32, reply: &mut Reply) {
+    let Some(rule) = model.part.rules.get(0) else {
+        reply.unread();
+        return;
+    };
+    let question = Question {
+        rule,
+        model,
         target,
         turn,
-    })
+        shape: &scene.shape,
+    };
+    if asked == "looks" {
+        add_looks(&question, reply);
+    } else {
+        add_assigned(&question, &scene.store, reply);
+    }
 }
 
 /// Which of the keys of the input and of all cells are in order.
-pub(crate) fn order(alloc: Global, scene: &Scene) -> Read<Vec<u8>> {
-    let mut answer = Vec::from_slice(alloc, b"in order:")?;
-    let base = keys_ascend(scene.shape.base.as_slice());
-    add_if(base, " input", &mut answer)?;
-    let cells = keys_ascend(scene.shape.cells.as_slice());
-    add_if(cells, " cells", &mut answer)?;
-    Ok(answer)
+pub(crate) fn order(shape: &PartShape, reply: &mut Reply) {
+    reply.add("in order:");
+    reply.add_if(keys_ascend(shape.base.as_slice()), " input");
+    reply.add_if(keys_ascend(shape.cells.as_slice()), " cells");
 }
 
-// An index of these keys, where they are in order.
+// The keys of a shape by indexes.
+#[derive(Drop)]
+struct Indexes {
+    base: DimIndex,
+    cells: DimIndex,
+}
+
+// An index of these keys, with a map of the second dimension, where they are in order.
 fn index_of(alloc: Global, keys: &[Key]) -> Result<Option<DimIndex>, Memory> {
-    if keys_ascend(keys) {
-        Ok(Some(DimIndex::new(alloc, keys)?))
-    } else {
-        Ok(None)
+    if !keys_ascend(keys) {
+        return Ok(None);
+    }
+    let mut index = DimIndex::new(alloc, keys)?;
+    index.map_dimension(alloc, 1)?;
+    Ok(Some(index))
+}
+
+fn indexes_of(shape: &PartShape, reply: &mut Reply) -> Option<Indexes> {
+    let base = reply.made(index_of(reply.alloc, shape.base.as_slice()))??;
+    let cells = reply.made(index_of(reply.alloc, shape.cells.as_slice()))??;
+    Some(Indexes { base, cells })
+}
+
+fn keys_of(indexes: &Indexes) -> ShapeKeys<'_> {
+    ShapeKeys {
+        base: &indexes.base,
+        cells: &indexes.cells,
     }
 }
 
-// The keys of a shape by indexes with a map of the second dimension, where they are in order.
-fn indexes_of(alloc: Global, shape: &PartShape) -> Result<Option<(DimIndex, DimIndex)>, Memory> {
-    match (
-        index_of(alloc, shape.base.as_slice())?,
-        index_of(alloc, shape.cells.as_slice())?,
-    ) {
-        (Some(base), Some(mut cells)) => {
-            cells.map_dimension(alloc, 1)?;
-            Ok(Some((base, cells)))
-        }
-        _ => Ok(None),
+// What the rule looks at, over the lists of keys and, where these are in order, over indexes of them.
+fn add_looks(q: &Question<'_>, reply: &mut Reply) {
+    let looks = looks_of(reply.alloc, q.rule, q.model, q.target, q.turn, q.shape);
+    if let Some(looks) = reply.made(looks) {
+        add_listed(looks.as_slice(), reply);
+    }
+    if let Some(indexes) = indexes_of(q.shape, reply) {
+        add_looks_over(q, &keys_of(&indexes), reply);
     }
 }
 
-/// What the rule looks at, over the lists of keys and, where these are in order, over indexes of them.
-pub(crate) fn looks(alloc: Global, scene: &Scene, text: &str) -> Read<Vec<u8>> {
-    let at = asked(alloc, scene, text)?;
-    let part = part_of(at.bound.get())?;
-    let Some(rule) = part.rules.get(0) else {
-        return unread();
-    };
-    let model = model_of(part, scene);
-    let shape = &scene.shape;
-    let looks = looks_of(alloc, rule, &model, &at.target, at.turn, shape)?;
-    let told = listed(alloc, looks.as_slice())?;
-    let Some((base, cells)) = indexes_of(alloc, shape)? else {
-        return Ok(told);
-    };
-    let keys = ShapeKeys {
-        base: &base,
-        cells: &cells,
-    };
-    let looks = looks_over(alloc, rule, &model, &at.target, at.turn, &keys)?;
-    Ok(both(told, &listed(alloc, looks.as_slice())?)?)
+fn add_looks_over(q: &Question<'_>, keys: &ShapeKeys<'_>, reply: &mut Reply) {
+    let mut again = Reply::new(reply.alloc);
+    let looks = looks_over(again.alloc, q.rule, q.model, q.target, q.turn, keys);
+    if let Some(looks) = again.made(looks) {
+        add_listed(looks.as_slice(), &mut again);
+    }
+    reply.but(&again);
 }
 
 // Each look with its measure, or a question mark for presence, and its cell in brackets; a dash where there is none.
-fn listed(alloc: Global, looks: &[Look]) -> Result<Vec<u8>, Memory> {
-    let mut answer = Vec::new(alloc);
-    add_if(looks.is_empty(), "-", &mut answer)?;
+fn add_listed(looks: &[Look], reply: &mut Reply) {
+    reply.add_if(looks.is_empty(), "-");
     for (at, look) in looks.iter().enumerate() {
-        add_if(at > 0, " ", &mut answer)?;
-        add_look(look, &mut answer)?;
+        reply.add_if(at > 0, " ");
+        match look {
+            Look::Measure(name) => {
+                reply.number(u64::from(name.measure));
+                add_cell(&name.key, reply);
+            }
+            Look::Presence(key) => {
+                reply.add("?");
+                add_cell(key, reply);
+            }
+        }
     }
-    Ok(answer)
 }
 
-fn add_look(look: &Look, answer: &mut Vec<u8>) -> Result<(), Memory> {
-    let key = match look {
-        Look::Measure(name) => {
-            add_number(u64::from(name.measure), answer)?;
-            &name.key
-        }
-        Look::Presence(key) => {
-            add("?", answer)?;
-            key
-        }
-    };
-    add("[", answer)?;
-    add_values(key.as_slice(), answer)?;
-    add("]", answer)
+fn add_cell(key: &Key, reply: &mut Reply) {
+    reply.add("[");
+    reply.values(key.as_slice());
+    reply.add("]");
 }
 
-/// What the rule makes of the target over this store, over the lists of keys and, where these are in order, over indexes.
-pub(crate) fn assigned<C: Cells>(
-    alloc: Global,
-    scene: &Scene,
-    cells: &mut C,
-    text: &str,
-) -> Read<Vec<u8>> {
-    let at = asked(alloc, scene, text)?;
-    let part = part_of(at.bound.get())?;
-    let Some(rule) = part.rules.get(0) else {
-        return unread();
-    };
-    let model = model_of(part, scene);
+// What the rule makes of the target over both stores, and over all values at once, where the store that owns its cells lends them.
+fn add_assigned(q: &Question<'_>, store: &Stored, reply: &mut Reply) {
+    if let Some(mut cells) = reply.made(store.plain(reply.alloc)) {
+        add_slots(q, &mut cells, reply);
+    }
+    let mut again = Reply::new(reply.alloc);
+    if let Some(mut cells) = again.made(store.owned(reply.alloc)) {
+        add_slots(q, &mut cells, &mut again);
+        add_lent(q, &cells, &mut again);
+    }
+    reply.but(&again);
+}
+
+// What the rule makes of the target over this store, over the lists of keys and, where these are in order, over indexes.
+fn add_slots<C: Cells>(q: &Question<'_>, cells: &mut C, reply: &mut Reply) {
     let slot = eval_cell(
-        alloc,
-        rule,
-        &model,
-        &at.target,
-        at.turn,
-        &scene.shape,
+        reply.alloc,
+        q.rule,
+        q.model,
+        q.target,
+        q.turn,
+        q.shape,
         cells,
-    )?;
-    let told = slot_told(alloc, &slot)?;
-    let Some((base, cells_there)) = indexes_of(alloc, &scene.shape)? else {
-        return Ok(told);
-    };
-    let keys = ShapeKeys {
-        base: &base,
-        cells: &cells_there,
-    };
-    let refs = refs_order(&model);
-    let slot = slot_over(alloc, rule, &model, &at.target, at.turn, &keys, refs, cells)?;
-    let told = both(told, &slot_told(alloc, &slot)?)?;
-    match slot_lent(alloc, scene, &at, rule, &model, &keys)? {
-        Some(slot) => Ok(both(told, &slot_told(alloc, &slot)?)?),
-        None => Ok(told),
+    );
+    if let Some(slot) = reply.made(slot) {
+        reply.slot(&slot);
+    }
+    if let Some(indexes) = indexes_of(q.shape, reply) {
+        add_slot_over(q, &keys_of(&indexes), cells, reply);
     }
 }
 
-fn slot_told(alloc: Global, slot: &Slot) -> Result<Vec<u8>, Memory> {
-    let mut told = Vec::new(alloc);
-    add_slot(slot, &mut told)?;
-    Ok(told)
-}
-
-// The same over all values at once, where the store that owns its cells lends them.
-fn slot_lent(
-    alloc: Global,
-    scene: &Scene,
-    at: &Question,
-    rule: &Rule,
-    model: &Model<'_>,
+fn add_slot_over<C: Cells>(
+    q: &Question<'_>,
     keys: &ShapeKeys<'_>,
-) -> Result<Option<Slot>, Memory> {
-    let cells = scene.owned(alloc)?;
-    let Some(lent) = cells.lent() else {
-        return Ok(None);
-    };
-    let refs = refs_order(model);
-    match value_over(alloc, rule, model, &at.target, at.turn, keys, refs, lent) {
-        Ok(v) => Ok(Some(Slot::Done(v))),
-        Err(Fail::Cause(fault)) => Ok(Some(Slot::Faulted(fault))),
-        Err(Fail::Memory) => Err(Memory),
+    cells: &mut C,
+    reply: &mut Reply,
+) {
+    let mut again = Reply::new(reply.alloc);
+    let refs = refs_order(q.model);
+    let slot = slot_over(
+        again.alloc,
+        q.rule,
+        q.model,
+        q.target,
+        q.turn,
+        keys,
+        refs,
+        cells,
+    );
+    if let Some(slot) = again.made(slot) {
+        again.slot(&slot);
     }
+    reply.but(&again);
+}
+
+fn add_lent(q: &Question<'_>, cells: &IndexedCells, reply: &mut Reply) {
+    if let Some(indexes) = indexes_of(q.shape, reply) {
+        add_lent_over(q, &keys_of(&indexes), cells, reply);
+    }
+}
+
+fn add_lent_over(q: &Question<'_>, keys: &ShapeKeys<'_>, cells: &IndexedCells, reply: &mut Reply) {
+    let Some(lent) = cells.lent() else {
+        return;
+    };
+    let mut again = Reply::new(reply.alloc);
+    let refs = refs_order(q.model);
+    let found = value_over(
+        again.alloc,
+        q.rule,
+        q.model,
+        q.target,
+        q.turn,
+        keys,
+        refs,
+        lent,
+    );
+    add_outcome(found, &mut again);
+    reply.but(&again);
 }

@@ -22,20 +22,23 @@ mod stores;
 mod texts;
 mod values;
 
+use answers::Reply;
+use scene::Scene;
 use std::alloc::AllocError;
 use std::io::{self, Write};
 
 fn main(rt: HostRuntime) -> io::Result<()> {
     let mut out = io::writer(&rt);
-    let Ok(mut scene) = scene::Scene::new(rt.alloc()) else {
+    let Ok(mut scene) = Scene::new(rt.alloc()) else {
         return Err(AllocError.into());
     };
     for line in rt.lines(rt.alloc()) {
-        let Ok(mut row) = rows::answered(rt.alloc(), &mut scene, line?.as_str()) else {
+        let mut answer = Reply::new(rt.alloc());
+        rows::answer(&mut scene, line?.as_str(), &mut answer);
+        if answer.is_lacking {
             return Err(AllocError.into());
-        };
-        row.push(b'\n')?;
-        out.write_all(&row)?;
+        }
+        out.write_all(&answer.text)?;
     }
     Ok(())
 }

@@ -1,88 +1,102 @@
 //! Lines with numbers at the edges: faults and refusals, and what comparisons and derivations print.
 
-use crate::answers::{add, add_bytes};
-use crate::texts::{Read, cut, key, name, number_of, slot};
-use mq_ir::{Answer, CellName, Compared, Derivation, DerivationStep};
+use crate::answers::Reply;
+use crate::texts::{cut, key, name, number_of, slot};
+use mq_ir::{Answer, Compared, Derivation, DerivationStep};
 use mq_render::{answer_text, compared_text, derivation_text, refusal_text, refusal_words};
 use mq_values::{FaultKind, Items, Key, Memory, QueryFault, Refused, Words};
 use std::alloc::Global;
 
-// What was written behind the two bytes that stood in the buffer before it.
-fn shown(alloc: Global, out: &[u8]) -> Read<Vec<u8>> {
-    let mut answer = Vec::new(alloc);
-    add_bytes(out, &mut answer)?;
-    Ok(answer)
+// What is written behind two bytes that stand in the buffer before it.
+fn begun(alloc: Global) -> Reply {
+    let mut out = Reply::new(alloc);
+    out.add("> ");
+    out
+}
+
+// Shows what was written.
+fn show(out: &Reply, reply: &mut Reply) {
+    reply.bytes(&out.text);
+    reply.heed(out);
 }
 
 /// A number and two keys with tabs between them: a fault with this rule, partition and cell, and what LOAD is refused for with
 /// this line and row.
-pub(crate) fn faults(alloc: Global, text: &str) -> Read<Vec<u8>> {
-    let (number, rest) = cut(text, "\t")?;
-    let (partition, cell) = cut(rest, "\t")?;
-    let number = number_of(number)?;
+pub(crate) fn faults(text: &str, reply: &mut Reply) {
+    let (number, rest) = cut(text, "\t", reply);
+    let (partition, cell) = cut(rest, "\t", reply);
+    let number = number_of(number, reply);
     let fault = QueryFault {
         kind: FaultKind::SelfOrder,
         rule: number,
-        partition: key(alloc, partition)?,
-        cell: key(alloc, cell)?,
+        partition: key(partition, reply),
+        cell: key(cell, reply),
     };
-    let mut out = Vec::from_slice(alloc, b"> ")?;
-    answer_text(&Answer::Fault(fault), &mut out)?;
-    refusal_text(number, &Refused::NoFile, &mut out)?;
-    refusal_text(number, &Refused::FileTooLong, &mut out)?;
-    refusal_text(number, &Refused::LoadHeader, &mut out)?;
-    refusal_text(number, &Refused::LoadRow(number), &mut out)?;
-    shown(alloc, &out)
+    let mut out = begun(reply.alloc);
+    let done = answer_text(&Answer::Fault(fault), &mut out.text);
+    out.note(done);
+    add_line(number, &Refused::NoFile, &mut out);
+    add_line(number, &Refused::FileTooLong, &mut out);
+    add_line(number, &Refused::LoadHeader, &mut out);
+    add_line(number, &Refused::LoadRow(number), &mut out);
+    show(&out, reply);
+}
+
+fn add_line(line: u32, refused: &Refused, out: &mut Reply) {
+    let done = refusal_text(line, refused, &mut out.text);
+    out.note(done);
 }
 
 /// The same: what is refused for the sake of a block with this line, and for want of a partition and a cell; each by its
 /// words alone, and behind a sign with its line.
-pub(crate) fn refusals(alloc: Global, text: &str) -> Read<Vec<u8>> {
-    let (number, rest) = cut(text, "\t")?;
-    let (partition, cell) = cut(rest, "\t")?;
-    let number = number_of(number)?;
-    let mut out = Vec::from_slice(alloc, b"> ")?;
-    add_refusal(number, Refused::BlockOpen(number), &mut out)?;
-    add_refusal(number, Refused::InBlock(number), &mut out)?;
-    add_refusal(number, Refused::NoBlock, &mut out)?;
-    add_refusal(number, Refused::BlockBroken(number), &mut out)?;
+pub(crate) fn refusals(text: &str, reply: &mut Reply) {
+    let (number, rest) = cut(text, "\t", reply);
+    let (partition, cell) = cut(rest, "\t", reply);
+    let number = number_of(number, reply);
+    let mut out = begun(reply.alloc);
+    add_refusal(number, &Refused::BlockOpen(number), &mut out);
+    add_refusal(number, &Refused::InBlock(number), &mut out);
+    add_refusal(number, &Refused::NoBlock, &mut out);
+    add_refusal(number, &Refused::BlockBroken(number), &mut out);
     add_refusal(
         number,
-        Refused::NoPartition(key(alloc, partition)?),
+        &Refused::NoPartition(key(partition, reply)),
         &mut out,
-    )?;
-    add_refusal(number, Refused::NoCell(key(alloc, cell)?), &mut out)?;
-    shown(alloc, &out)
+    );
+    add_refusal(number, &Refused::NoCell(key(cell, reply)), &mut out);
+    show(&out, reply);
 }
 
-fn add_refusal(line: u32, refused: Refused, out: &mut Vec<u8>) -> Result<(), Memory> {
-    refusal_words(&refused, out)?;
-    add(" = ", out)?;
-    refusal_text(line, &refused, out)
+fn add_refusal(line: u32, refused: &Refused, out: &mut Reply) {
+    let done = refusal_words(refused, &mut out.text);
+    out.note(done);
+    out.add(" = ");
+    add_line(line, refused, out);
 }
 
 /// A name, a number and a key with tabs between them: what a comparison says of the scenario of this name where its change of
 /// this number repeats the key, where the answer is the key as a row, and where it is a fault of this rule and partition.
-pub(crate) fn scenarios(alloc: Global, text: &str) -> Read<Vec<u8>> {
-    let (word, rest) = cut(text, "\t")?;
-    let (number, one) = cut(rest, "\t")?;
-    let number = number_of(number)?;
-    let name = Words::new(alloc, word)?;
-    let mut out = Vec::from_slice(alloc, b"> ")?;
-    add_compared(&name, stop_of(number, key(alloc, one)?), &mut out)?;
-    add_compared(&name, row_of(alloc, key(alloc, one)?)?, &mut out)?;
-    add_compared(&name, fault_of(number, key(alloc, one)?), &mut out)?;
-    shown(alloc, &out)
+pub(crate) fn scenarios(text: &str, reply: &mut Reply) {
+    let (word, rest) = cut(text, "\t", reply);
+    let (number, one) = cut(rest, "\t", reply);
+    let number = number_of(number, reply);
+    if let Some(name) = reply.made(Words::new(reply.alloc, word)) {
+        let mut out = begun(reply.alloc);
+        add_compared(&name, &stop_of(number, key(one, reply)), &mut out);
+        add_compared(&name, &row_of(key(one, reply), reply), &mut out);
+        add_compared(&name, &fault_of(number, key(one, reply)), &mut out);
+        show(&out, reply);
+    }
 }
 
 fn stop_of(number: u32, key: Key) -> Compared {
     Compared::Stopped(number, Refused::DuplicateKey(key))
 }
 
-fn row_of(alloc: Global, key: Key) -> Result<Compared, Memory> {
-    let mut rows = Items::new(alloc);
-    rows.push(key)?;
-    Ok(Compared::Shown(Answer::Rows(rows)))
+fn row_of(key: Key, reply: &mut Reply) -> Compared {
+    let mut rows = Items::new(reply.alloc);
+    reply.note(rows.push(key));
+    Compared::Shown(Answer::Rows(rows))
 }
 
 fn fault_of(rule: u32, partition: Key) -> Compared {
@@ -94,47 +108,58 @@ fn fault_of(rule: u32, partition: Key) -> Compared {
     }))
 }
 
-fn add_compared(name: &Words, compared: Compared, out: &mut Vec<u8>) -> Result<(), Memory> {
-    compared_text(name, &compared, out)
+fn add_compared(name: &Words, compared: &Compared, out: &mut Reply) {
+    let done = compared_text(name, compared, &mut out.text);
+    out.note(done);
 }
 
 /// The names of measures with blanks between them, and behind a tab steps with semicolons between them: the lines of the
 /// derivation.
-pub(crate) fn derivations(alloc: Global, text: &str) -> Read<Vec<u8>> {
-    let (words, steps) = cut(text, "\t")?;
+pub(crate) fn derivations(text: &str, reply: &mut Reply) {
+    let (words, steps) = cut(text, "\t", reply);
+    let derivation = Derivation {
+        steps: steps_of(steps, reply),
+    };
+    let mut out = begun(reply.alloc);
+    if let Some(names) = reply.made(names_of(reply.alloc, words)) {
+        let done = derivation_text(&names, &derivation, &mut out.text);
+        out.note(done);
+    }
+    show(&out, reply);
+}
+
+fn names_of(alloc: Global, words: &str) -> Result<Vec<Words>, Memory> {
     let mut names = Vec::new(alloc);
     for word in words.split(' ') {
         names.push(Words::new(alloc, word)?)?;
     }
-    let derivation = Derivation {
-        steps: steps_of(alloc, steps)?,
-    };
-    let mut out = Vec::from_slice(alloc, b"> ")?;
-    derivation_text(&names, &derivation, &mut out)?;
-    shown(alloc, &out)
+    Ok(names)
 }
 
-fn steps_of(alloc: Global, text: &str) -> Read<Items<DerivationStep>> {
-    let mut steps = Items::new(alloc);
+fn steps_of(text: &str, reply: &mut Reply) -> Items<DerivationStep> {
+    let mut steps = Items::new(reply.alloc);
     for one in text.split(" ; ") {
-        steps.push(step_of(alloc, one)?)?;
+        let step = step_of(one, reply);
+        reply.note(steps.push(step));
     }
-    Ok(steps)
+    steps
 }
 
 // A measure of a cell, what stands there, and its rule, or a dash where it has none.
-fn step_of(alloc: Global, text: &str) -> Read<DerivationStep> {
-    let (place, rest) = cut(text, " = ")?;
-    let (word, rule) = cut(rest, " by ")?;
-    let (measure, key) = name(alloc, place)?;
-    let slot = slot(alloc, word)?;
-    let rule = match rule {
-        "-" => None,
-        _ => Some(number_of(rule)?),
-    };
-    Ok(DerivationStep {
-        name: CellName { key, measure },
+fn step_of(text: &str, reply: &mut Reply) -> DerivationStep {
+    let (place, rest) = cut(text, " = ", reply);
+    let (word, rule) = cut(rest, " by ", reply);
+    let rule = rule_of(rule, reply);
+    DerivationStep {
+        name: name(place, reply),
         rule,
-        slot,
-    })
+        slot: slot(word, reply),
+    }
+}
+
+fn rule_of(word: &str, reply: &mut Reply) -> Option<u32> {
+    match word {
+        "-" => None,
+        _ => Some(number_of(word, reply)),
+    }
 }

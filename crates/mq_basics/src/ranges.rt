@@ -1,94 +1,138 @@
-//! Ranges of an index: the places of the keys that meet a test of each dimension.
+//! An index of keys, and its ranges: the places of the keys that meet a test of each dimension.
 
-use crate::answers::{add_if, add_number, both};
-use crate::scene::Scene;
-use crate::texts::{Read, cut, number_of, unread, value};
+use crate::answers::Reply;
+use crate::texts::{cut, key, number_of, value, whole_key};
 use mq_dim_index::DimIndex;
-use mq_values::{CmpOp, DimTest, Items, Key, Memory, Num, Value};
+use mq_values::{CmpOp, DimTest, Items, Memory};
 use std::alloc::Global;
+
+/// An index without keys.
+pub(crate) fn no_keys(alloc: Global) -> Result<DimIndex, Memory> {
+    DimIndex::new(alloc, &[])
+}
+
+/// The index has no keys from now on.
+pub(crate) fn clear(index: &mut DimIndex, reply: &mut Reply) {
+    if let Some(empty) = reply.made(no_keys(reply.alloc)) {
+        *index = empty;
+    }
+}
+
+/// The place of a key in the index.
+pub(crate) fn find(index: &DimIndex, text: &str, reply: &mut Reply) {
+    let key = key(text, reply);
+    reply.number_or(index.find(key.as_slice()), "none");
+}
+
+/// The keys once this one is put there.
+pub(crate) fn insert(index: &mut DimIndex, text: &str, reply: &mut Reply) {
+    let key = key(text, reply);
+    reply.note(index.insert(key));
+    reply.keys(index.keys());
+}
+
+/// The keys once this one is taken away.
+pub(crate) fn remove(index: &mut DimIndex, text: &str, reply: &mut Reply) {
+    let key = key(text, reply);
+    index.remove(&key);
+    reply.keys(index.keys());
+}
 
 /// The places of the keys of the index that meet these tests, which have semicolons between them: found without a map, and
 /// with maps of the second and the third dimension.
-pub(crate) fn ranged(alloc: Global, scene: &Scene, text: &str) -> Read<Vec<u8>> {
-    let mut tests = Vec::new(alloc);
+pub(crate) fn ranged(index: &DimIndex, text: &str, reply: &mut Reply) {
+    let mut tests = Vec::new(reply.alloc);
     for one in text.split(" ; ") {
-        tests.push(test_of(alloc, one)?)?;
+        let test = test_of(one, reply);
+        reply.note(tests.push(test));
     }
-    let told = places_told(alloc, &scene.index.in_range(alloc, &tests)?)?;
-    let mut mapped = DimIndex::new(alloc, scene.index.keys())?;
+    add_range(index, &tests, reply);
+    let mut again = Reply::new(reply.alloc);
+    if let Some(mapped) = again.made(mapped(reply.alloc, index)) {
+        add_range(&mapped, &tests, &mut again);
+    }
+    reply.but(&again);
+}
+
+fn mapped(alloc: Global, index: &DimIndex) -> Result<DimIndex, Memory> {
+    let mut mapped = DimIndex::new(alloc, index.keys())?;
     mapped.map_dimension(alloc, 1)?;
     mapped.map_dimension(alloc, 2)?;
-    Ok(both(told, &places_told(alloc, &mapped.in_range(alloc, &tests)?)?)?)
+    Ok(mapped)
 }
 
-fn test_of(alloc: Global, text: &str) -> Read<DimTest> {
-    if text == "ANY" {
-        return Ok(DimTest::Any);
-    }
-    if text == "NULL" {
-        return Ok(DimTest::Null);
-    }
-    let (word, rest) = cut(text, " ")?;
-    match word {
-        "IS" => Ok(DimTest::At(value(alloc, rest)?)),
-        "IN" => in_list(alloc, rest),
-        "BETWEEN" => {
-            let (low, high) = cut(rest, " ")?;
-            Ok(DimTest::Between(value(alloc, low)?, value(alloc, high)?))
-        }
-        _ => Ok(DimTest::Cmp(operator(word)?, value(alloc, rest)?)),
+fn add_range(index: &DimIndex, tests: &[DimTest], reply: &mut Reply) {
+    if let Some(places) = reply.made(index.in_range(reply.alloc, tests)) {
+        add_places(&places, reply);
     }
 }
 
-fn in_list(alloc: Global, text: &str) -> Read<DimTest> {
-    let mut values = Items::new(alloc);
-    for word in text.split(' ') {
-        values.push(value(alloc, word)?)?;
-    }
-    Ok(DimTest::In(values))
-}
-
-fn operator(word: &str) -> Read<CmpOp> {
-    match word {
-        "=" => Ok(CmpOp::Eq),
-        "<" => Ok(CmpOp::Lt),
-        "<=" => Ok(CmpOp::Le),
-        ">" => Ok(CmpOp::Gt),
-        ">=" => Ok(CmpOp::Ge),
-        _ => unread(),
-    }
-}
-
-fn places_told(alloc: Global, places: &[u32]) -> Result<Vec<u8>, Memory> {
-    let mut told = Vec::new(alloc);
-    add_if(places.is_empty(), "-", &mut told)?;
+fn add_places(places: &[u32], reply: &mut Reply) {
+    reply.add_if(places.is_empty(), "-");
     for (at, place) in places.iter().enumerate() {
-        add_if(at > 0, " ", &mut told)?;
-        add_number(u64::from(*place), &mut told)?;
+        reply.add_if(at > 0, " ");
+        reply.number(u64::from(*place));
     }
-    Ok(told)
+}
+
+fn test_of(text: &str, reply: &mut Reply) -> DimTest {
+    match text {
+        "ANY" => DimTest::Any,
+        "NULL" => DimTest::Null,
+        _ => test_with(text, reply),
+    }
+}
+
+fn test_with(text: &str, reply: &mut Reply) -> DimTest {
+    let (word, rest) = cut(text, " ", reply);
+    match word {
+        "IS" => DimTest::At(value(rest, reply)),
+        "IN" => in_list(rest, reply),
+        "BETWEEN" => between(rest, reply),
+        _ => DimTest::Cmp(operator(word, reply), value(rest, reply)),
+    }
+}
+
+fn between(text: &str, reply: &mut Reply) -> DimTest {
+    let (low, high) = cut(text, " ", reply);
+    DimTest::Between(value(low, reply), value(high, reply))
+}
+
+fn in_list(text: &str, reply: &mut Reply) -> DimTest {
+    let mut values = Items::new(reply.alloc);
+    for word in text.split(' ') {
+        let v = value(word, reply);
+        reply.note(values.push(v));
+    }
+    DimTest::In(values)
+}
+
+fn operator(word: &str, reply: &mut Reply) -> CmpOp {
+    match word {
+        "=" => CmpOp::Eq,
+        "<" => CmpOp::Lt,
+        "<=" => CmpOp::Le,
+        ">" => CmpOp::Gt,
+        ">=" => CmpOp::Ge,
+        _ => {
+            reply.unread();
+            CmpOp::Eq
+        }
+    }
 }
 
 /// So many keys of three values, of which the last two are the number's digits to the base 10 and the first is what stands in
 /// front of them; they come in no order.
-pub(crate) fn fill_index(alloc: Global, scene: &mut Scene, text: &str) -> Read<()> {
-    let count = number_of(text)?;
-    scene.clear_index(alloc)?;
+pub(crate) fn fill(index: &mut DimIndex, text: &str, reply: &mut Reply) {
+    let count = number_of(text, reply);
+    clear(index, reply);
     if count == 0 {
-        return Ok(());
+        return;
     }
-    scene.index.map_dimension(alloc, 2)?;
+    reply.note(index.map_dimension(reply.alloc, 2));
     for step in 0..count {
         let n = step.wrapping_mul(7) % count;
-        scene.index.insert(key_of(alloc, n)?)?;
+        let key = whole_key(&[n / 100, n / 10 % 10, n % 10], reply);
+        reply.note(index.insert(key));
     }
-    Ok(())
-}
-
-fn key_of(alloc: Global, n: u32) -> Result<Key, Memory> {
-    let mut values = Items::new(alloc);
-    for digit in [n / 100, n / 10 % 10, n % 10] {
-        values.push(Value::Num(Num::new(i128::from(digit), 0)))?;
-    }
-    Key::new(alloc, values)
 }

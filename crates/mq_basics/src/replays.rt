@@ -1,49 +1,61 @@
 //! Calls of the stores of cells, one after the other, made in both.
 
-use crate::answers::{add, add_if, add_number, add_slot, both};
-use crate::scene::Scene;
-use crate::texts::{Read, cut, name, slot, unread};
-use mq_cells::{CellCall, IndexedCells, PlainCells, replay};
-use mq_ir::{CellName, PartInput, Slot};
-use mq_values::{Items, Key, Memory, Num, Value};
+use crate::answers::Reply;
+use crate::stores::{Stored, input_of};
+use crate::texts::{cut, name, slot, whole, whole_key};
+use mq_cells::{CellCall, replay};
+use mq_ir::{CellName, Slot};
+use mq_values::{Items, Key, Memory};
 use std::alloc::Global;
 
 /// The slots that these calls read, in their order; the calls have semicolons between them.
-pub(crate) fn replayed(alloc: Global, scene: &Scene, text: &str) -> Read<Vec<u8>> {
-    let mut calls = Vec::new(alloc);
+pub(crate) fn replayed(store: &Stored, text: &str, reply: &mut Reply) {
+    let mut calls = Vec::new(reply.alloc);
     for one in text.split(" ; ") {
-        calls.push(call(alloc, one)?)?;
+        let call = call(one, reply);
+        reply.note(calls.push(call));
     }
-    let told = slots_told(alloc, &replay(alloc, &calls, &mut scene.plain(alloc)?)?)?;
-    let again = slots_told(alloc, &replay(alloc, &calls, &mut scene.owned(alloc)?)?)?;
-    Ok(both(told, &again)?)
+    add_slots(over_plain(reply.alloc, store, &calls), reply);
+    let mut again = Reply::new(reply.alloc);
+    add_slots(over_owned(again.alloc, store, &calls), &mut again);
+    reply.but(&again);
 }
 
-fn call(alloc: Global, text: &str) -> Read<CellCall> {
-    let (word, rest) = cut(text, " ")?;
+fn call(text: &str, reply: &mut Reply) -> CellCall {
+    let (word, rest) = cut(text, " ", reply);
     match word {
-        "get" => Ok(CellCall::Get(named(alloc, rest)?)),
-        "clear" => Ok(CellCall::Clear(named(alloc, rest)?)),
-        "put" => {
-            let (place, word) = cut(rest, " / ")?;
-            Ok(CellCall::Put(named(alloc, place)?, slot(alloc, word)?))
+        "put" => put_call(rest, reply),
+        "clear" => CellCall::Clear(name(rest, reply)),
+        "get" => CellCall::Get(name(rest, reply)),
+        _ => {
+            reply.unread();
+            CellCall::Get(name(rest, reply))
         }
-        _ => unread(),
     }
 }
 
-fn named(alloc: Global, text: &str) -> Read<CellName> {
-    let (measure, key) = name(alloc, text)?;
-    Ok(CellName { key, measure })
+fn put_call(text: &str, reply: &mut Reply) -> CellCall {
+    let (place, word) = cut(text, " / ", reply);
+    CellCall::Put(name(place, reply), slot(word, reply))
 }
 
-fn slots_told(alloc: Global, slots: &[Slot]) -> Result<Vec<u8>, Memory> {
-    let mut told = Vec::new(alloc);
-    for (at, slot) in slots.iter().enumerate() {
-        add_if(at > 0, " ; ", &mut told)?;
-        add_slot(slot, &mut told)?;
+fn over_plain(alloc: Global, store: &Stored, calls: &[CellCall]) -> Result<Vec<Slot>, Memory> {
+    let mut cells = store.plain(alloc)?;
+    replay(alloc, calls, &mut cells)
+}
+
+fn over_owned(alloc: Global, store: &Stored, calls: &[CellCall]) -> Result<Vec<Slot>, Memory> {
+    let mut cells = store.owned(alloc)?;
+    replay(alloc, calls, &mut cells)
+}
+
+fn add_slots(slots: Result<Vec<Slot>, Memory>, reply: &mut Reply) {
+    if let Some(slots) = reply.made(slots) {
+        for (at, slot) in slots.iter().enumerate() {
+            reply.add_if(at > 0, " ; ");
+            reply.slot(slot);
+        }
     }
-    Ok(told)
 }
 
 // How many cells there are, and how many calls.
@@ -53,16 +65,23 @@ const CALLS: u32 = 60_000;
 
 /// Calls over 20,000 cells of five dimensions, of which every third is in the input: how many slots were read, and how many of
 /// them both stores gave alike.
-pub(crate) fn replayed_many(alloc: Global) -> Read<Vec<u8>> {
-    let input = many_cells(alloc)?;
-    let calls = many_calls(alloc)?;
-    let told = replay(alloc, &calls, &mut PlainCells::new(alloc, &input)?)?;
-    let again = replay(alloc, &calls, &mut IndexedCells::new(alloc, &input)?)?;
-    let mut answer = Vec::new(alloc);
-    add_number(told.len() as u64, &mut answer)?;
-    add(" read, alike ", &mut answer)?;
-    add_number(alike(&told, &again), &mut answer)?;
-    Ok(answer)
+pub(crate) fn replayed_many(reply: &mut Reply) {
+    let mut store = Stored::new(reply.alloc);
+    store.input = input_of(many_cells(reply), None);
+    let calls = many_calls(reply);
+    let told = over_plain(reply.alloc, &store, &calls);
+    let again = over_owned(reply.alloc, &store, &calls);
+    if let Some(told) = reply.made(told) {
+        if let Some(again) = reply.made(again) {
+            add_alike(&told, &again, reply);
+        }
+    }
+}
+
+fn add_alike(told: &[Slot], again: &[Slot], reply: &mut Reply) {
+    reply.number(told.len() as u64);
+    reply.add(" read, alike ");
+    reply.number(alike(told, again));
 }
 
 fn alike(told: &[Slot], again: &[Slot]) -> u64 {
@@ -82,49 +101,44 @@ fn is_alike(one: &Slot, other: &Slot) -> bool {
     }
 }
 
-fn many_cells(alloc: Global) -> Result<PartInput, Memory> {
-    let mut cells = Items::new(alloc);
+fn many_cells(reply: &mut Reply) -> Items<(Key, Key)> {
+    let mut cells = Items::new(reply.alloc);
     for n in 0..CELLS {
         if n % 3 == 0 {
-            cells.push((many_key(alloc, n)?, Key::one(alloc, whole(n))?))?;
+            let cell = (many_key(n, reply), whole_key(&[n], reply));
+            reply.note(cells.push(cell));
         }
     }
-    Ok(PartInput {
-        key: Key::empty(),
-        cells,
-        repeated: None,
-    })
+    cells
 }
 
 // The key of the cell with this number: its digits to the base 7, so keys ascend by the numbers.
-fn many_key(alloc: Global, n: u32) -> Result<Key, Memory> {
-    let digits = [n / 2401, n / 343 % 7, n / 49 % 7, n / 7 % 7, n % 7];
-    let mut values = Items::new(alloc);
-    for digit in digits {
-        values.push(whole(digit))?;
-    }
-    Key::new(alloc, values)
+fn many_key(n: u32, reply: &mut Reply) -> Key {
+    whole_key(
+        &[n / 2401, n / 343 % 7, n / 49 % 7, n / 7 % 7, n % 7],
+        reply,
+    )
 }
 
-fn whole(n: u32) -> Value {
-    Value::Num(Num::new(i128::from(n), 0))
+fn many_calls(reply: &mut Reply) -> Vec<CellCall> {
+    let mut calls = Vec::new(reply.alloc);
+    for step in 0..CALLS {
+        let call = many_call(step, reply);
+        reply.note(calls.push(call));
+    }
+    calls
 }
 
 // Of eight calls in a row two put a value, one puts that there is none, one takes away, and four read.
-fn many_calls(alloc: Global) -> Result<Vec<CellCall>, Memory> {
-    let mut calls = Vec::new(alloc);
-    for step in 0..CALLS {
-        let key = many_key(alloc, step.wrapping_mul(7919) % CELLS)?;
-        let name = CellName {
-            key,
-            measure: step / 8 % 2,
-        };
-        calls.push(match step % 8 {
-            0 | 1 => CellCall::Put(name, Slot::Done(whole(step))),
-            2 => CellCall::Put(name, Slot::Poisoned),
-            3 => CellCall::Clear(name),
-            _ => CellCall::Get(name),
-        })?;
+fn many_call(step: u32, reply: &mut Reply) -> CellCall {
+    let name = CellName {
+        key: many_key(step.wrapping_mul(7919) % CELLS, reply),
+        measure: step / 8 % 2,
+    };
+    match step % 8 {
+        0 | 1 => CellCall::Put(name, Slot::Done(whole(step))),
+        2 => CellCall::Put(name, Slot::Poisoned),
+        3 => CellCall::Clear(name),
+        _ => CellCall::Get(name),
     }
-    Ok(calls)
 }

@@ -1,85 +1,97 @@
 //! A row of the table: what is asked, and of what, with tabs between them.
 
-use crate::answers::add;
-use crate::scene::Scene;
-use crate::texts::{Read, unread};
+use crate::answers::Reply;
+use crate::scene::{Scene, set_assigned, set_base, set_cells};
 use crate::{
     changes, held, joins, looks, printing, ranges, reads, replays, runs, scripts, stores, values,
 };
-use mq_values::{Fail, Memory};
-use std::alloc::Global;
 
 /// The row, and behind a tab what it asks for. A row without a tab stays as it is, and so does one that sets something.
-pub(crate) fn answered(alloc: Global, scene: &mut Scene, row: &str) -> Result<Vec<u8>, Memory> {
-    let mut answer = Vec::new(alloc);
-    add(row, &mut answer)?;
-    let Some((asked, text)) = row.split_once('\t') else {
-        return Ok(answer);
-    };
-    match told(alloc, scene, asked, text) {
-        Ok(told) => {
-            add(if told.is_empty() { "" } else { "\t" }, &mut answer)?;
-            answer.extend_from_slice(&told)?;
-        }
-        Err(Fail::Cause(_)) => add("\tunreadable", &mut answer)?,
-        Err(Fail::Memory) => return Err(Memory),
+pub(crate) fn answer(scene: &mut Scene, row: &str, out: &mut Reply) {
+    out.add(row);
+    if let Some((asked, text)) = row.split_once('\t') {
+        let mut reply = Reply::new(out.alloc);
+        tell_of_values(scene, asked, text, &mut reply);
+        add_reply(&reply, out);
     }
-    Ok(answer)
+    out.add("\n");
 }
 
-fn told(alloc: Global, scene: &mut Scene, asked: &str, text: &str) -> Read<Vec<u8>> {
+fn add_reply(reply: &Reply, out: &mut Reply) {
+    if reply.is_unreadable {
+        out.add("\tunreadable");
+    } else {
+        out.add_if(!reply.text.is_empty(), "\t");
+        out.join(reply);
+    }
+    out.is_lacking |= reply.is_lacking;
+}
+
+fn tell_of_values(scene: &mut Scene, asked: &str, text: &str, reply: &mut Reply) {
     match asked {
-        "value" => values::printed(alloc, text),
-        "compared" => values::compared(alloc, text),
-        "orders" => values::ordered(alloc, text),
-        "found" => values::found(alloc, text),
-        "lines" => printing::faults(alloc, text),
-        "refusals" => printing::refusals(alloc, text),
-        "scenario" => printing::scenarios(alloc, text),
-        "derivation" => printing::derivations(alloc, text),
-        "tokens" => scripts::spelled(alloc, text),
-        "aggregated" => reads::aggregated(alloc, text),
-        "chosen" => reads::chosen(alloc, text),
-        "change" => changes::changed(alloc, scene, text),
-        "append" => changes::appended(alloc, scene, text),
-        "held" => held::held(alloc, scene, text),
-        "touched" => held::touched(alloc, scene, text),
-        "base" => joins::based(alloc, scene, text),
-        _ => told_of_cells(alloc, scene, asked, text),
+        "value" => values::printed(text, reply),
+        "compared" => values::compared(text, reply),
+        "orders" => values::ordered(text, reply),
+        "found" => values::found(text, reply),
+        "lines" => printing::faults(text, reply),
+        "refusals" => printing::refusals(text, reply),
+        "scenario" => printing::scenarios(text, reply),
+        "derivation" => printing::derivations(text, reply),
+        "tokens" => scripts::spelled(text, reply),
+        "aggregated" => reads::aggregated(text, reply),
+        "chosen" => reads::chosen(text, reply),
+        _ => tell_of_tables(scene, asked, text, reply),
     }
 }
 
-fn told_of_cells(alloc: Global, scene: &mut Scene, asked: &str, text: &str) -> Read<Vec<u8>> {
+fn tell_of_tables(scene: &mut Scene, asked: &str, text: &str, reply: &mut Reply) {
     match asked {
-        "find" | "insert" | "remove" => scene.indexed(alloc, asked, text),
-        "get" | "first-fault" | "assigns" => stores::answers(alloc, scene, asked, text),
-        "lent" => stores::lent(alloc, scene, text),
-        "looked" => stores::looked(alloc, text),
-        "replay" => replays::replayed(alloc, scene, text),
-        "replay-many" => replays::replayed_many(alloc),
-        "range" => ranges::ranged(alloc, scene, text),
-        "looks" => looks::looks(alloc, scene, text),
-        "order" => looks::order(alloc, scene),
-        "run" => runs::run(alloc, scene, text),
-        _ => {
-            set(alloc, scene, asked, text)?;
-            Ok(Vec::new(alloc))
-        }
+        "table" => changes::create_table(&mut scene.known, text, reply),
+        "change" => changes::changed(&mut scene.known, text, reply),
+        "append" => changes::appended(&mut scene.known, text, reply),
+        "held" => held::held(&mut scene.known, text, reply),
+        "touched" => held::touched(&mut scene.known, text, reply),
+        "base" => joins::based(&scene.known, text, reply),
+        _ => tell_of_index(scene, asked, text, reply),
     }
 }
 
-fn set(alloc: Global, scene: &mut Scene, asked: &str, text: &str) -> Read<()> {
+fn tell_of_index(scene: &mut Scene, asked: &str, text: &str, reply: &mut Reply) {
     match asked {
-        "table" => changes::create_table(alloc, scene, text),
-        "index" => scene.clear_index(alloc),
-        "index-many" => ranges::fill_index(alloc, scene, text),
-        "model" => scene.set_front(alloc, text),
-        "reference" => scene.add_reference(alloc, text),
-        "store" => scene.set_input(alloc, text),
-        "keys" => scene.set_base(alloc, text),
-        "cells" => scene.set_cells(alloc, text),
-        "assigned" => scene.set_assigned(alloc, text),
-        "put" => scene.put(alloc, text),
-        _ => unread(),
+        "index" => ranges::clear(&mut scene.index, reply),
+        "index-many" => ranges::fill(&mut scene.index, text, reply),
+        "find" => ranges::find(&scene.index, text, reply),
+        "insert" => ranges::insert(&mut scene.index, text, reply),
+        "remove" => ranges::remove(&mut scene.index, text, reply),
+        "range" => ranges::ranged(&scene.index, text, reply),
+        _ => tell_of_store(scene, asked, text, reply),
+    }
+}
+
+fn tell_of_store(scene: &mut Scene, asked: &str, text: &str, reply: &mut Reply) {
+    match asked {
+        "store" => scene.store.set_input(text, reply),
+        "put" => scene.store.put(text, reply),
+        "get" => stores::got(&scene.store, text, reply),
+        "first-fault" => stores::first_fault(&scene.store, &scene.shape, reply),
+        "lent" => stores::lent(&scene.store, text, reply),
+        "looked" => stores::looked(text, reply),
+        "replay" => replays::replayed(&scene.store, text, reply),
+        "replay-many" => replays::replayed_many(reply),
+        _ => tell_of_model(scene, asked, text, reply),
+    }
+}
+
+fn tell_of_model(scene: &mut Scene, asked: &str, text: &str, reply: &mut Reply) {
+    match asked {
+        "model" => scene.front.set(text, reply),
+        "reference" => scene.front.add_reference(text, reply),
+        "keys" => set_base(&mut scene.shape, text, reply),
+        "cells" => set_cells(&mut scene.shape, text, reply),
+        "assigned" => set_assigned(&mut scene.shape, text, reply),
+        "order" => looks::order(&scene.shape, reply),
+        "looks" | "assigns" => looks::asked(scene, asked, text, reply),
+        "run" => runs::run(scene, text, reply),
+        _ => reply.unread(),
     }
 }

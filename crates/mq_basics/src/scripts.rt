@@ -1,9 +1,8 @@
 //! The tokens of texts.
 
-use crate::answers::{add, add_bytes, add_if, add_number};
-use crate::texts::{Read, text};
-use mq_lexer::{Sort, tokens};
-use std::alloc::Global;
+use crate::answers::Reply;
+use crate::texts::text;
+use mq_lexer::{Sort, Token, tokens};
 
 fn sort_name(sort: Sort) -> &'static str {
     match sort {
@@ -16,17 +15,20 @@ fn sort_name(sort: Sort) -> &'static str {
 }
 
 /// Each token with its sort, its line and its bytes.
-pub(crate) fn spelled(alloc: Global, field: &str) -> Read<Vec<u8>> {
-    let text = text(alloc, field)?;
-    let mut answer = Vec::new(alloc);
-    for (at, token) in tokens(alloc, text.as_str())?.iter().enumerate() {
-        add_if(at > 0, "\t", &mut answer)?;
-        add(sort_name(token.sort), &mut answer)?;
-        add_number(token.line as u64, &mut answer)?;
-        add(" ", &mut answer)?;
-        add_bytes(token.text.as_bytes(), &mut answer)?;
+pub(crate) fn spelled(field: &str, reply: &mut Reply) {
+    let text = text(field, reply);
+    if let Some(found) = reply.made(tokens(reply.alloc, text.as_str())) {
+        add_tokens(&found, reply);
     }
-    let is_empty = answer.is_empty();
-    add_if(is_empty, "none", &mut answer)?;
-    Ok(answer)
+}
+
+fn add_tokens(found: &[Token<'_>], reply: &mut Reply) {
+    reply.add_if(found.is_empty(), "none");
+    for (at, token) in found.iter().enumerate() {
+        reply.add_if(at > 0, "\t");
+        reply.add(sort_name(token.sort));
+        reply.number(token.line as u64);
+        reply.add(" ");
+        reply.bytes(token.text.as_bytes());
+    }
 }

@@ -1,71 +1,70 @@
 //! How this table writes texts, numbers, values, keys and cells. In a text a backslash and two digits of base 16 stand for the
 //! character of that number, and a piece and a count with a star between them, in braces, for the piece so many times.
+//! What cannot be read is noted, and stands as nothing.
 
-use mq_ir::Slot;
-use mq_values::{Fail, Items, Key, MAX_SCALE, Num, Text, Value, ValueFault};
-use std::alloc::Global;
-
-/// The row cannot be read.
-#[derive(Clone, Copy)]
-pub(crate) struct Unreadable;
-
-pub(crate) type Read<T> = Result<T, Fail<Unreadable>>;
-
-pub(crate) fn unread<T>() -> Read<T> {
-    Err(Fail::Cause(Unreadable))
-}
+use crate::answers::Reply;
+use mq_ir::{CellName, Slot};
+use mq_values::{Items, Key, MAX_SCALE, Num, Text, Value, ValueFault};
 
 /// What stands in front of the first separator, and what behind it.
-pub(crate) fn cut<'a>(text: &'a str, separator: &str) -> Read<(&'a str, &'a str)> {
-    let Some((front, behind)) = text.split_once(separator) else {
-        return unread();
-    };
-    Ok((front, behind))
+pub(crate) fn cut<'a>(text: &'a str, separator: &str, reply: &mut Reply) -> (&'a str, &'a str) {
+    match text.split_once(separator) {
+        Some(both) => both,
+        None => {
+            reply.unread();
+            (text, "")
+        }
+    }
 }
 
-pub(crate) fn number_of(digits: &str) -> Read<u32> {
+pub(crate) fn number_of(digits: &str, reply: &mut Reply) -> u32 {
     match digits.parse::<u32>() {
-        Ok(number) => Ok(number),
-        Err(_) => unread(),
+        Ok(number) => number,
+        Err(_) => {
+            reply.unread();
+            0
+        }
     }
 }
 
-pub(crate) fn text(alloc: Global, field: &str) -> Read<String> {
-    let mut text = String::new(alloc);
-    let Some((front, rest)) = field.split_once('{') else {
-        push(field, &mut text)?;
-        return Ok(text);
-    };
-    let (repeated, end) = cut(rest, "}")?;
-    let (piece, count) = cut(repeated, "*")?;
-    push(front, &mut text)?;
-    for _ in 0..number_of(count)? {
-        push(piece, &mut text)?;
+pub(crate) fn text(field: &str, reply: &mut Reply) -> String {
+    let mut text = String::new(reply.alloc);
+    match field.split_once('{') {
+        Some((front, rest)) => push_repeated(front, rest, &mut text, reply),
+        None => push(field, &mut text, reply),
     }
-    push(end, &mut text)?;
-    Ok(text)
+    text
 }
 
-fn push(field: &str, text: &mut String) -> Read<()> {
-    let Some((front, rest)) = field.split_once('\\') else {
-        return Ok(text.push_str(field)?);
-    };
-    text.push_str(front)?;
-    for piece in rest.split('\\') {
-        push_coded(piece, text)?;
+fn push_repeated(front: &str, rest: &str, text: &mut String, reply: &mut Reply) {
+    let (repeated, end) = cut(rest, "}", reply);
+    let (piece, count) = cut(repeated, "*", reply);
+    push(front, text, reply);
+    for _ in 0..number_of(count, reply) {
+        push(piece, text, reply);
     }
-    Ok(())
+    push(end, text, reply);
+}
+
+fn push(field: &str, text: &mut String, reply: &mut Reply) {
+    for (at, piece) in field.split('\\').enumerate() {
+        if at == 0 {
+            reply.note(text.push_str(piece));
+        } else {
+            push_coded(piece, text, reply);
+        }
+    }
 }
 
 // Two digits, with small letters, and what stands behind them.
-fn push_coded(piece: &str, text: &mut String) -> Read<()> {
+fn push_coded(piece: &str, text: &mut String, reply: &mut Reply) {
     match (piece.as_bytes(), piece.get(2..)) {
         ([high, low, ..], Some(rest)) => {
             let number = digit(*high).wrapping_mul(16).wrapping_add(digit(*low));
-            text.push(char::from(number))?;
-            Ok(text.push_str(rest)?)
+            reply.note(text.push(char::from(number)));
+            reply.note(text.push_str(rest));
         }
-        _ => unread(),
+        _ => reply.unread(),
     }
 }
 
@@ -74,78 +73,122 @@ fn digit(sign: u8) -> u8 {
 }
 
 /// A value: a number, NULL, or a text between quotes.
-pub(crate) fn value(alloc: Global, word: &str) -> Read<Value> {
+pub(crate) fn value(word: &str, reply: &mut Reply) -> Value {
     if word == "NULL" {
-        return Ok(Value::Null);
+        return Value::Null;
     }
-    let Some(rest) = word.strip_prefix('\'') else {
-        return number(alloc, word);
-    };
-    let (field, _) = cut(rest, "'")?;
-    match Text::new(alloc, text(alloc, field)?.as_str())? {
-        Some(text) => Ok(Value::Text(text)),
-        None => unread(),
+    match word.strip_prefix('\'') {
+        Some(rest) => quoted(rest, reply),
+        None => number(word, reply),
     }
 }
 
-fn number(alloc: Global, word: &str) -> Read<Value> {
+fn quoted(rest: &str, reply: &mut Reply) -> Value {
+    let (field, _) = cut(rest, "'", reply);
+    let found = text(field, reply);
+    match Text::new(reply.alloc, found.as_str()) {
+        Ok(Some(text)) => Value::Text(text),
+        Ok(None) => {
+            reply.unread();
+            Value::Null
+        }
+        Err(_) => {
+            reply.is_lacking = true;
+            Value::Null
+        }
+    }
+}
+
+fn number(word: &str, reply: &mut Reply) -> Value {
     let (whole, part) = word.split_once('.').unwrap_or((word, ""));
-    let mut digits = String::new(alloc);
-    digits.push_str(whole)?;
-    digits.push_str(part)?;
+    let mut digits = String::new(reply.alloc);
+    reply.note(digits.push_str(whole));
+    reply.note(digits.push_str(part));
     match (digits.as_str().parse::<i128>(), u8::try_from(part.len())) {
-        (Ok(mant), Ok(scale)) if scale <= MAX_SCALE => Ok(Value::Num(Num::new(mant, scale))),
-        _ => unread(),
+        (Ok(mant), Ok(scale)) if scale <= MAX_SCALE => Value::Num(Num::new(mant, scale)),
+        _ => {
+            reply.unread();
+            Value::Null
+        }
     }
 }
 
 /// A key: values with a blank between them; none where the text is a dash.
-pub(crate) fn key(alloc: Global, text: &str) -> Read<Key> {
-    let mut values = Items::new(alloc);
+pub(crate) fn key(text: &str, reply: &mut Reply) -> Key {
+    let mut values = Items::new(reply.alloc);
     if text != "-" {
         for word in text.split(' ') {
-            values.push(value(alloc, word)?)?;
+            let v = value(word, reply);
+            reply.note(values.push(v));
         }
     }
-    Ok(Key::new(alloc, values)?)
+    shared(values, reply)
+}
+
+fn shared(values: Items<Value>, reply: &mut Reply) -> Key {
+    match Key::new(reply.alloc, values) {
+        Ok(key) => key,
+        Err(_) => {
+            reply.is_lacking = true;
+            Key::empty()
+        }
+    }
+}
+
+/// A whole number.
+pub(crate) fn whole(n: u32) -> Value {
+    Value::Num(Num::new(i128::from(n), 0))
+}
+
+/// A key of whole numbers.
+pub(crate) fn whole_key(numbers: &[u32], reply: &mut Reply) -> Key {
+    let mut values = Items::new(reply.alloc);
+    for n in numbers {
+        reply.note(values.push(whole(*n)));
+    }
+    shared(values, reply)
 }
 
 /// Keys with semicolons between them; none where the text is empty.
-pub(crate) fn keys(alloc: Global, text: &str) -> Read<Items<Key>> {
-    let mut found = Items::new(alloc);
+pub(crate) fn keys(text: &str, reply: &mut Reply) -> Items<Key> {
+    let mut found = Items::new(reply.alloc);
     if !text.is_empty() {
         for one in text.split(" ; ") {
-            found.push(key(alloc, one)?)?;
+            let key = key(one, reply);
+            reply.note(found.push(key));
         }
     }
-    Ok(found)
+    found
 }
 
 /// Cells with semicolons between them: each a key, and behind a slash its measures.
-pub(crate) fn cells(alloc: Global, text: &str) -> Read<Items<(Key, Key)>> {
-    let mut found = Items::new(alloc);
+pub(crate) fn cells(text: &str, reply: &mut Reply) -> Items<(Key, Key)> {
+    let mut found = Items::new(reply.alloc);
     for one in text.split(" ; ") {
-        let (dims, measures) = cut(one, " / ")?;
-        let dims = key(alloc, dims)?;
-        found.push((dims, key(alloc, measures)?))?;
+        let (dims, measures) = cut(one, " / ", reply);
+        let cell = (key(dims, reply), key(measures, reply));
+        reply.note(found.push(cell));
     }
-    Ok(found)
+    found
 }
 
 /// A measure of a cell: its number, and behind a blank the key.
-pub(crate) fn name(alloc: Global, text: &str) -> Read<(u32, Key)> {
-    let (measure, place) = cut(text, " ")?;
-    Ok((number_of(measure)?, key(alloc, place)?))
+pub(crate) fn name(text: &str, reply: &mut Reply) -> CellName {
+    let (measure, place) = cut(text, " ", reply);
+    CellName {
+        key: key(place, reply),
+        measure: number_of(measure, reply),
+    }
 }
 
 /// A value, the name of a fault, or that there is no value.
-pub(crate) fn slot(alloc: Global, word: &str) -> Read<Slot> {
+pub(crate) fn slot(word: &str, reply: &mut Reply) -> Slot {
     match word {
-        "poisoned" => Ok(Slot::Poisoned),
-        "OVERFLOW" => Ok(Slot::Faulted(ValueFault::Overflow)),
-        "DIVIDE_BY_ZERO" => Ok(Slot::Faulted(ValueFault::DivideByZero)),
-        "TEXT_TOO_LONG" => Ok(Slot::Faulted(ValueFault::TextTooLong)),
-        "DATE_RANGE" => Ok(Slot::Faulted(ValueFault::DateRange)),
-        _ => Ok(Slot::Done(value(alloc, word)?)),
+        "poisoned" => Slot::Poisoned,
+        "OVERFLOW" => Slot::Faulted(ValueFault::Overflow),
+        "DIVIDE_BY_ZERO" => Slot::Faulted(ValueFault::DivideByZero),
+        "TEXT_TOO_LONG" => Slot::Faulted(ValueFault::TextTooLong),
+        "DATE_RANGE" => Slot::Faulted(ValueFault::DateRange),
+        _ => Slot::Done(value(word, reply)),
     }
 }

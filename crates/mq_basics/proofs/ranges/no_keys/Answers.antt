@@ -1,5 +1,5 @@
 use Rattle.std.specs.List.Sorted.{IsStrictlySortedBy}
-use Rattle.mq_basics.proofs.scene.no_keys.Goals as goal
+use Rattle.mq_basics.proofs.ranges.no_keys.Goals as goal
 
 -- no keys ascend
 pub new-requires : goal.new-requires
