@@ -3,6 +3,7 @@ pub mod CatalogLemmas
 pub mod ChangeLemmas
 pub mod ColumnLemmas
 pub mod DropLemmas
+pub mod ExplainLemmas
 pub mod ListLemmas
 pub mod MarkLemmas
 pub mod NumberLemmas

@@ -1,4 +1,5 @@
 pub mod Catalogs
+pub mod Explained
 pub mod Models
 pub mod Printing
 pub mod Queries

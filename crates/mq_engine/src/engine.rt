@@ -8,16 +8,17 @@ ghost use Rattle.mq_ir.specs.Statement as spec;
 ghost use Rattle.mq_ir.specs.Tables.{table_at};
 ghost use Rattle.mq_engine.specs.Catalogs.{catalog_of};
 ghost use Rattle.mq_ir.specs.Ready.{QueryIsReady};
-ghost use Rattle.mq_engine.specs.Sessions.{nothing, view_answer};
+ghost use Rattle.mq_engine.specs.Sessions.{nothing, view_answer, view_explained, no_view as none_called};
 
 use crate::catalogs::table_entry;
+use crate::explaining::explained_over;
 use crate::queries::answer_over;
 use crate::uses::user_of;
 use crate::views::NoView;
 use mq_io::Gate;
-use mq_ir::{Answer, BoundQuery, ByName, Catalog, Change, TableDef, View};
+use mq_ir::{Answer, BoundQuery, ByName, Catalog, CellName, Change, Explained, TableDef, View};
 use mq_tables::Tables;
-use mq_values::{Fail, Memory, Refused, Words};
+use mq_values::{Fail, Key, Memory, Refused, Words};
 use std::alloc::Global;
 use std::marker::Model;
 
@@ -184,4 +185,40 @@ impl Engine {
     {
         answer_over(alloc, &self.tables, q)
     }
+
+    /// Where a measure of a cell of the view of this name comes from, in the partition with this key: its steps, which `check` of
+    /// mq_lineage has accepted; or the fault for which there are none, or that the partition or the cell is not there
+    /// (docs/MEANING.md, "Explaining a cell"). `NoView` comes exactly where there is no such view with MODEL.
+    pub fn explain<G: Gate>(
+        &self,
+        alloc: Global,
+        view: &str,
+        part: &Key,
+        cell: &CellName,
+        _gate: &G,
+    ) -> Result<Explained, Fail<NoView>>
+        ensures { Gives result (view_explained self.now view.now part.now cell.now) }
+    {
+        match self.catalog.views.get(view) {
+            Some(found) => match &found.query.model {
+                Some(model) => Ok(explained_over(
+                    alloc,
+                    &self.tables,
+                    &found.query,
+                    model,
+                    part,
+                    cell,
+                )?),
+                None => Err(no_view(alloc, view)?),
+            },
+            None => Err(no_view(alloc, view)?),
+        }
+    }
+}
+
+fn no_view(alloc: Global, name: &str) -> Result<Fail<NoView>, Memory>
+    ensures { IfOk result (λ fault. fault ≡ Fail.Cause (none_called name.now)) }
+{
+    let name = Words::new(alloc, name)?;
+    Ok(Fail::Cause(NoView { name }))
 }

@@ -6,6 +6,7 @@
 mod catalogs;
 mod columns;
 mod engine;
+mod explaining;
 mod model_rows;
 mod models;
 mod printing;
@@ -15,5 +16,6 @@ mod uses;
 mod views;
 
 pub use engine::{Engine, MAX_WORKERS};
+pub use explaining::explained_over;
 pub use queries::answer_over;
 pub use views::NoView;

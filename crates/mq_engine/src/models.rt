@@ -45,15 +45,19 @@ pub fn model_rows<T: TableSet>(
     all_partitions(alloc, &model, &inputs)
 }
 
-// The partitions of these items, which are let go before the rules run: their values stand in the cells.
-fn inputs_of(alloc: Global, part: &ModelPart, items: Items<Key>) -> Result<Items<PartInput>, Memory>
+/// The partitions of these items, which are let go before the rules run: their values stand in the cells.
+pub fn inputs_of(
+    alloc: Global,
+    part: &ModelPart,
+    items: Items<Key>,
+) -> Result<Items<PartInput>, Memory>
     ensures { IfOk result (λ inputs. inputs ≡ input.partitions part.now items) }
 {
     partitions(alloc, part, items.as_slice())
 }
 
-// The arrays of the references, or the first fault of one of them.
-fn arrays_over<T: TableSet>(
+/// The arrays of the references, or the first fault of one of them.
+pub fn arrays_over<T: TableSet>(
     alloc: Global,
     tables: &T,
     part: &ModelPart,

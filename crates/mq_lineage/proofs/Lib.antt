@@ -1,6 +1,15 @@
 mod AcceptLemmas
+mod AddLemmas
+mod ClosingLemmas
+mod DeriveLemmas
+mod FoundLemmas
+mod GivenLemmas
+mod LevelLemmas
 mod LookLemmas
 mod NodeLemmas
+mod OrderLemmas
+mod RoundLemmas
+mod RuleLemmas
+mod SetLemmas
 mod SlotLemmas
 mod ToldLemmas
-mod RuleLemmas

@@ -22,7 +22,7 @@ tied Equal s = refl
 tied Greater s = refl
 
 -- which nodes the map finds equal
-at_node : (x y : Node) → is_eq (cmp_node x y) ≡ (is_same x.0 y.0 && (x.1 == y.1))
+pub at_node : (x y : Node) → is_eq (cmp_node x y) ≡ (is_same x.0 y.0 && (x.1 == y.1))
 at_node x y = tied (cmp_key x.0 y.0) (nat_cmp x.1 y.1) ∙ ap (λ b. is_same x.0 y.0 && b) (unsigned_tied x.1 y.1)
 
 -- a name that is the same is that name

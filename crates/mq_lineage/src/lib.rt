@@ -1,15 +1,25 @@
 //! Where the value of a measure of a cell comes from, in automatic order, and whether such an account is right.
-//! A model, the input of a partition, its shape and steps go in; out comes whether they are accepted.
+//! What was computed of a partition goes in, or steps; out come the steps of a measure, or whether steps are accepted.
 //! It is what mq_ir's `specs/Derivations` says.
 #![tactic(auto)]
 
+mod adding;
 mod checking;
+mod derivations;
+mod found;
 mod given;
+mod looking;
+mod naming;
 mod node_map;
+mod ordering;
 mod rules;
 mod slots;
+mod sources;
+mod steps;
 mod telling;
 #[cfg(test)]
 mod tests;
 
 pub use checking::check;
+pub use derivations::derive;
+pub use found::what_is_computed_may_be_derived;

@@ -1,9 +1,13 @@
 //! Measures of cells to be looked up.
-ghost use Rattle.std.specs.Prelude.{◌≡◌, [], IfOk, OnOk};
+ghost use Rattle.std.specs.Prelude.{◌≡◌, [], map, IfOk, OnOk};
+ghost use Rattle.std.specs.List.Sorted.{IsStrictlySortedBy};
+ghost use Rattle.std.specs.Map.{keys_of};
 ghost use Rattle.mq_cells.specs.Stores.{cell_name};
-ghost use Rattle.mq_lineage.specs.Nodes.{Numbers, number_in};
+ghost use Rattle.mq_lineage.specs.Closing.{name_of};
+ghost use Rattle.mq_lineage.specs.Nodes.{Numbers, cmp_node, number_in};
 
-use mq_values::{Key, Memory};
+use mq_ir::CellName;
+use mq_values::{Items, Key, Memory};
 use std::alloc::Global;
 use std::collections::BTreeMap;
 use std::marker::Model;
@@ -47,4 +51,27 @@ impl NodeMap {
         self.numbers.insert((key, m), number)?;
         Ok(())
     }
+
+    /// The measures, ascending.
+    pub fn names(&self, alloc: Global) -> Result<Items<CellName>, Memory>
+        ensures names { IfOk result (λ names. names ≡ map name_of (keys_of self.now)) }
+        ensures ascend { IsStrictlySortedBy cmp_node (keys_of self.now) }
+    {
+        keys_in(alloc, &self.numbers)
+    }
+}
+
+// The keys of a map, as names, in its order.
+fn keys_in(alloc: Global, numbers: &BTreeMap<(Key, u32), u32>) -> Result<Items<CellName>, Memory>
+    ensures names { IfOk result (λ names. names ≡ map name_of (keys_of numbers.now.entries)) }
+    ensures ascend { IsStrictlySortedBy cmp_node (keys_of numbers.now.entries) }
+{
+    let mut names = Items::with_room(alloc, numbers.len());
+    for (node, _number) in numbers.iter() {
+        names.push(CellName {
+            key: node.0.copy()?,
+            measure: node.1,
+        })?;
+    }
+    Ok(names)
 }
