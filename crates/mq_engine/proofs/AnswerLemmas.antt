@@ -49,7 +49,7 @@ each_cons {A} {B} {E} f x xs ys P h k = by (f x) refl (each f xs) refl h
     by (Ok y) e (Err d) g h = absurd (cc)
     by (Err d) e s g h = absurd (cc)
 
-each_length : {A B E : Type 0} (f : A → Result B E) (xs : List A) (ys : List B) → each f xs ≡ Ok ys → length ys ≡ length xs
+pub each_length : {A B E : Type 0} (f : A → Result B E) (xs : List A) (ys : List B) → each f xs ≡ Ok ys → length ys ≡ length xs
 each_length f [] ys h = each_nil f ys (λ ys. length ys ≡ 0) h refl
 each_length f (x ∷ xs) ys h = each_cons f x xs ys (λ ys. length ys ≡ length (x ∷ xs)) h (λ y rest e g. ap suc (each_length f xs rest g))
 

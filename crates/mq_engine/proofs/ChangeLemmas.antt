@@ -82,7 +82,7 @@ module _ (tables : Tables) (change : Change) where
   table_same None = refl
   table_same (Some table) = rows_same table (staged tables table change) (origins_of table change) (staged_are table)
 
-  applied_is : applied tables change ≡ change_of_tables tables change
+  pub applied_is : applied tables change ≡ change_of_tables tables change
   applied_is = table_same (table_at tables (table_of change))
 
   changed_as : (r : Result ℕ (Fail Refused)) (after : Tables) → Gives (result_map (λ count. (after, count)) r) (applied tables change)

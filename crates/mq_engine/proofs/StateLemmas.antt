@@ -1,14 +1,24 @@
 -- The names of a session after each change of its tables, and what is asked of its views.
-use Rattle.std.proofs.Common.{◌≡◌, ℕ, List, [], ◌∷◌, ◌++◌, Bool, false, not, map, None, sym, ap, subst, ◌∙◌}
+use Rattle.std.proofs.Common.{◌≡◌, ℕ, List, [], ◌∷◌, ◌++◌, Bool, false, not, map, Option, Some, None, Result, Ok, Err, sym, ap, subst, ◌∙◌}
 use Rattle.std.specs.List.{All, filter}
+use Rattle.std.specs.Option.{option_map_or}
 use Rattle.std.proofs.lemmas.List.Elements.{All-filter, All-push}
+use Rattle.mq_ir.specs.declared.catalog.Catalog.{Catalog}
 use Rattle.mq_ir.specs.declared.catalog.TableEntry.{TableEntry}
 use Rattle.mq_ir.specs.declared.catalog.View.{View}
-use Rattle.mq_ir.specs.NamedItems.{has_name}
+use Rattle.mq_ir.specs.declared.query.Compared.{Compared}
+use Rattle.mq_ir.specs.NamedItems.{has_name, item_of}
 use Rattle.mq_ir.specs.Ready.{QueryIsReady}
+use Rattle.mq_ir.specs.Scenarios.{compared}
+use Rattle.mq_ir.specs.Statement.{State}
 use Rattle.mq_ir.specs.Tables.{Table, Tables, is_name, table_at}
+use Rattle.mq_engine.specs.declared.open_block.OpenBlock.{OpenBlock}
+use Rattle.mq_engine.specs.declared.views.NoView.{NoView}
+use Rattle.mq_engine.specs.Blocks.{state_over}
 use Rattle.mq_engine.specs.Catalogs.{entry_of_table}
-use Rattle.mq_engine.proofs.CatalogLemmas.{no_table_entry, removed_again}
+use Rattle.mq_engine.specs.Scenarios.{changes_under}
+use Rattle.mq_engine.specs.Sessions.{view_compared}
+use Rattle.mq_engine.proofs.CatalogLemmas.{no_table_entry, removed_again, view_found}
 use Rattle.mq_engine.proofs.ListLemmas.{mapped_kept}
 
 module _ (entries : List TableEntry) (tables : Tables) (same : entries ≡ map entry_of_table tables) where
@@ -43,3 +53,14 @@ ready_put views after v a h r = subst AreReady (sym a) (All-push (λ (v : View).
 
 pub ready_kept : (p : View → Bool) (views after : List View) → after ≡ filter p views → AreReady views → AreReady after
 ready_kept p views after a h = subst AreReady (sym a) (All-filter p (λ (v : View). QueryIsReady v.query) views h)
+
+-- what a view that is found answers under scenarios
+pub compared_is : (tables : Tables) (k : Catalog) (block : Option OpenBlock) (state : State) → state_over tables k block ≡ state → (view : List ℕ) (names : List (List ℕ)) (v : View)
+    (found : List Compared) → Some v ≡ item_of (λ (view : View). view.name) k.views view → found ≡ map (λ name. compared tables v.query (changes_under k.scenarios name)) names
+    → view_compared state view names ≡ Ok found
+compared_is tables k block state is view names v found h e =
+    let no : Result (List Compared) NoView = Err (record { name = view }) in
+    ap (λ (s : State). view_compared s view names) (sym is)
+    ∙ ap (λ (o : Option View). option_map_or (λ (v : View). Ok (map (λ name. compared tables v.query (changes_under k.scenarios name)) names)) o no)
+    (sym (view_found k.views view) ∙ sym h)
+    ∙ ap Ok (sym e)

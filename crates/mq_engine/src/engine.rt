@@ -1,17 +1,19 @@
 //! The calls of a session.
-ghost use Rattle.std.specs.Prelude.{◌≡◌, ◌≤◌, ◌∷◌, [], None, false, is_some, IfOk, OnOk, OnErr, IsErrOf};
+ghost use Rattle.std.specs.Prelude.{◌≡◌, ◌≤◌, ◌∷◌, [], Some, None, false, map, IfOk, OnOk, OnErr, IsErrOf};
 ghost use Rattle.mq_values.specs.Answers.{Gives, result_map};
 ghost use Rattle.mq_ir.specs.Answer.{answer_of};
 ghost use Rattle.mq_ir.specs.Lines.{Counted, Done};
 ghost use Rattle.mq_ir.specs.Names.{is_view};
 ghost use Rattle.mq_ir.specs.Statement as spec;
+ghost use Rattle.mq_ir.specs.Statement.{Block};
 ghost use Rattle.mq_ir.specs.Tables.{table_at};
-ghost use Rattle.mq_engine.specs.Catalogs.{catalog_of};
+ghost use Rattle.mq_engine.specs.Catalogs.{catalog_of, entry_of_table};
 ghost use Rattle.mq_ir.specs.Ready.{QueryIsReady};
 ghost use Rattle.mq_engine.specs.Sessions.{nothing, view_answer, view_explained, no_view as none_called};
 
 use crate::catalogs::table_entry;
 use crate::explaining::explained_over;
+use crate::open_block::OpenBlock;
 use crate::queries::answer_over;
 use crate::uses::user_of;
 use crate::views::NoView;
@@ -25,12 +27,16 @@ use std::marker::Model;
 /// How many workers there may be.
 pub const MAX_WORKERS: u32 = 64;
 
-/// The tables, views and scenarios of a session. Contracts see it as the `State` of mq_ir's `specs/Statement`: the tables
-/// with their rows, the views with their queries and the scenarios with their changes, each in order of creation.
+/// The tables, views and scenarios of a session, and its block. Contracts see it as the `State` of mq_ir's
+/// `specs/Statement`: the tables with their rows, the views with their queries and the scenarios with their changes, each in
+/// order of creation, and the block where one is there.
 #[derive(Drop)]
 pub struct Engine {
-    tables: Tables,
-    catalog: Catalog,
+    pub(crate) tables: Tables,
+    pub(crate) catalog: Catalog,
+    pub(crate) block: Option<OpenBlock>,
+    // Where scenarios are kept.
+    pub(crate) alloc: Global,
 }
 
 impl Model for Engine {
@@ -41,19 +47,21 @@ impl Model for Engine {
     ghost use Rattle.mq_ir.specs.contracts.expression.Test as test;
     ghost use Rattle.mq_ir.specs.Ready.{QueryIsReady};
     ghost use Rattle.mq_ir.specs.Statement.{State};
-    ghost use Rattle.mq_engine.specs.Catalogs.{entry_of_table, state_of};
+    ghost use Rattle.mq_engine.specs.Blocks.{state_over};
+    ghost use Rattle.mq_engine.specs.Catalogs.{entry_of_table};
+    ghost use Rattle.mq_engine.specs.Scenarios.{MayStand};
 
     ghost Value = { State };
 
     ghost coded = { Prim.hlevel (codes, expr.the_row.coded, test.the_row.coded) };
 
-    ghost view = { λ e. state_of e.tables e.catalog };
+    ghost view = { λ e. state_over e.tables e.catalog e.block };
 
-    ghost invariant = { λ e. (e.catalog.tables ≡ map entry_of_table e.tables) × All (λ v. QueryIsReady v.query) e.catalog.views };
+    ghost invariant = { λ e. (e.catalog.tables ≡ map entry_of_table e.tables) × All (λ v. QueryIsReady v.query) e.catalog.views × MayStand e.catalog.scenarios };
 }
 
 impl Engine {
-    /// No table, no view and no scenario. It takes no memory. Answers are worked out on one thread so far, whatever the
+    /// No table, no view, no scenario and no block. It takes no memory. Answers are worked out on one thread so far, whatever the
     /// number of workers.
     pub fn new(alloc: Global, _workers: u32) -> Engine
         requires { (1 ≤ _workers) × (_workers ≤ MAX_WORKERS) }
@@ -66,29 +74,24 @@ impl Engine {
                 views: ByName::new(alloc),
                 scenarios: ByName::new(alloc),
             },
+            block: None,
+            alloc,
         }
     }
 
-    /// The names under which statements are bound, with what they stand for.
+    /// The names under which statements are bound, with what they stand for. The tables of a block have the same.
     pub fn catalog(&self) -> &Catalog
-        ensures { result.now ≡ catalog_of self.now }
+        ensures there { result.now ≡ catalog_of self.now }
+        ensures pending { (block : Block) → self.now.block ≡ Some block → map entry_of_table block.pending ≡ result.now.tables }
     {
         &self.catalog
     }
 
-    /// Whether a block is there. So far none is: BEGIN is not done yet.
-    pub fn in_block(&self) -> bool
-        ensures there { result ≡ is_some self.now.block }
-        ensures none { self.now.block ≡ None }
-    {
-        // The proof sees what stands here where it is looked at.
-        let _ = &self.tables;
-        false
-    }
-
-    /// Adds a table whose name no other has: it is the last, and has no rows. After `Memory` nothing is changed.
+    /// Adds a table whose name no other has, where no block is there: it is the last, and has no rows. After `Memory` nothing is
+    /// changed.
     pub fn create_table(&mut self, alloc: Global, t: TableDef) -> Result<(), Memory>
-        requires { table_at self.old.tables t.name ≡ None }
+        requires new { table_at self.old.tables t.name ≡ None }
+        requires outside { self.old.block ≡ None }
         ensures ok { OnOk result (self.new ≡ spec.create_table self.old t) }
         ensures err { OnErr result (self.new ≡ self.old) }
     {
@@ -122,9 +125,11 @@ impl Engine {
         self.catalog.views.put(View { name, query: q })
     }
 
-    /// Drops the table of this name, or refuses it with the first view that reads it, or else with the first scenario that
-    /// changes it; then nothing is changed. `Memory` comes only there, for the name of that view or scenario.
+    /// Drops the table of this name, where no block is there, or refuses it with the first view that reads it, or else with
+    /// the first scenario that changes it; then nothing is changed. `Memory` comes only there, for the name of that view or
+    /// scenario.
     pub fn drop_table(&mut self, name: &str) -> Result<(), Fail<Refused>>
+        requires { self.old.block ≡ None }
         ensures exact { Gives (result_map (λ _. (self.new, Done ∷ [])) result) (spec.drop_table self.old name.now) }
         ensures err { OnErr result (self.new ≡ self.old) }
         ensures memory { spec.use_of self.old name.now ≡ None → ¬ IsErrOf result Fail.Memory }
@@ -144,14 +149,15 @@ impl Engine {
         self.catalog.views.remove(name);
     }
 
-    /// Changes the rows of a table, and answers how many rows are counted; or refuses the change, and then nothing is
-    /// changed (docs/MEANING.md, "Changes").
+    /// Changes the rows of a table, where no block is there, and answers how many rows are counted; or refuses the change, and
+    /// then nothing is changed (docs/MEANING.md, "Changes").
     pub fn apply<G: Gate>(
         &mut self,
         alloc: Global,
         c: &Change,
         _gate: &G,
     ) -> Result<u64, Fail<Refused>>
+        requires { self.old.block ≡ None }
         ensures exact { Gives (result_map (λ count. (self.new, Counted count ∷ [])) result) (spec.change_step self.old c.now) }
         ensures err { OnErr result (self.new ≡ self.old) }
     {

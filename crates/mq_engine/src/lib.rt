@@ -3,15 +3,20 @@
 //! The state after each call and each answer are those of mq_ir's `specs/Statement` and `specs/Answer`.
 #![tactic(auto)]
 
+mod blocks;
 mod catalogs;
+mod change_copies;
 mod columns;
 mod engine;
 mod explaining;
+mod expression_copies;
 mod model_rows;
 mod models;
+mod open_block;
 mod printing;
 mod queries;
 mod results;
+mod scenarios;
 mod uses;
 mod views;
 

@@ -1,76 +1,98 @@
--- A statement that is done already is bound to one that is.
-use Rattle.std.proofs.Common.{◌≡◌, ℕ, List, Bool, true, false, not, Result, Ok, Err, refl, sym, ap, ◌∙◌}
-use Rattle.std.specs.Prelude.{length, nat_le}
+-- What a statement is bound to is what its needs are known of.
+use Rattle.std.proofs.Common.{◌≡◌, ℕ, List, Bool, true, false, not, Result, Ok, Err, refl, subst}
+use Rattle.std.specs.Prelude.{⊤, length, nat_le}
 use Rattle.mq_lexer.specs.Words.{folded}
 use Rattle.mq_values.specs.declared.faults.Refused.{Refused}
-use Rattle.mq_values.specs.declared.limits.TheConstants.{MAX_VIEWS}
+use Rattle.mq_values.specs.declared.limits.TheConstants.{MAX_SCENARIO_CHANGES, MAX_SCENARIOS, MAX_VIEWS}
 use Rattle.mq_ast.specs.declared.queries.Query.{Query}
+use Rattle.mq_ast.specs.declared.statements.ChangeTree.{ChangeTree}
 use Rattle.mq_ast.specs.declared.statements.Stmt.{Stmt}
 use Rattle.mq_ast.specs.declared.statements.Stmt.TheVariants as stmt
 use Rattle.mq_ir.specs.declared.catalog.Catalog.{Catalog}
-use Rattle.mq_ir.specs.declared.limit_numbers.TheConstants.{LIMIT_OF_VIEWS}
+use Rattle.mq_ir.specs.declared.limit_numbers.TheConstants.{LIMIT_OF_SCENARIO_CHANGES, LIMIT_OF_SCENARIOS, LIMIT_OF_VIEWS}
 use Rattle.mq_ir.specs.declared.statement.Bound.{Bound}
 use Rattle.mq_ir.specs.declared.statement.Bound.TheVariants as bound
-use Rattle.mq_ir.specs.Names.{is_table, is_taken, is_view}
+use Rattle.mq_ir.specs.Names.{change_count, is_scenario, is_table, is_taken, is_view}
 use Rattle.mq_ir.specs.Results.{◌>>=◌}
 use Rattle.mq_bind_scopes.specs.Refusals.{duplicate_name, limit, refused_where, unknown_name}
 use Rattle.mq_binder.specs.ChangeWalk.{change_bound}
 use Rattle.mq_binder.specs.QueryWalk.{query_bound}
+use Rattle.mq_binder.specs.ScenarioWalk.{scenarios_named, taken_in}
 use Rattle.mq_binder.specs.StatementWalk.{statement_bound}
 use Rattle.mq_binder.specs.TableWalk.{table_bound}
 use Rattle.mq_tool.specs.Script.{is_built}
 
--- a bound statement that is done already
-abbrev pub is_done : Bound → Bool
-is_done bound.Begin = false
-is_done bound.Commit = false
-is_done bound.Rollback = false
-is_done (bound.CreateScenario name) = false
-is_done (bound.DropScenario name) = false
-is_done (bound.Under scenario change) = false
-is_done (bound.Compare view scenarios) = false
-is_done (bound.ExplainCell asked) = false
-is_done _ = true
+-- A scenario that may be created is new, and one that may take a change in has room for it. A statement that is not done yet does not come.
+abbrev pub IsKnown : Catalog → Bound → Type 0
+IsKnown catalog (bound.CreateScenario name) = is_taken catalog name ≡ false
+IsKnown catalog (bound.Under name change) = nat_le MAX_SCENARIO_CHANGES (change_count catalog name) ≡ false
+IsKnown catalog (bound.ExplainCell asked) = ⊥
+IsKnown catalog _ = ⊤
 
 abbrev bound_to : Bound → Result Bound Refused
 bound_to b = Ok b
 
-one_done : (a b : Bound) → is_done a ≡ true → bound_to a ≡ bound_to b → is_done b ≡ true
-one_done a b h e = let q : a ≡ b = cc in sym (ap is_done q) ∙ h
+module _ (catalog : Catalog) where
+  one_known : (a b : Bound) → IsKnown catalog a → bound_to a ≡ bound_to b → IsKnown catalog b
+  one_known a b h e = let q : a ≡ b = cc in subst (IsKnown catalog) q h
 
-then_done : {A : Type 0} (r : Result A Refused) (f : A → Bound) (b : Bound) → ((x : A) → is_done (f x) ≡ true) → (r >>= (λ x. Ok (f x))) ≡ Ok b
-    → is_done b ≡ true
-then_done (Ok x) f b h e = one_done (f x) b (h x) e
-then_done (Err r) f b h e = absurd cc
+  then_known : {A : Type 0} (r : Result A Refused) (f : A → Result Bound Refused) (b : Bound) → ((x : A) → f x ≡ Ok b → IsKnown catalog b) → (r >>= f) ≡ Ok b
+      → IsKnown catalog b
+  then_known (Ok x) f b h e = h x e
+  then_known (Err r) f b h e = absurd cc
 
-where_done : (refuses : Bool) (refusal : Refused) (next : Result Bound Refused) (b : Bound) → (next ≡ Ok b → is_done b ≡ true)
-    → refused_where refuses refusal next ≡ Ok b → is_done b ≡ true
-where_done true refusal next b h e = absurd cc
-where_done false refusal next b h e = h e
+  where_known : (refuses : Bool) (refusal : Refused) (next : Result Bound Refused) (b : Bound) → (refuses ≡ false → next ≡ Ok b → IsKnown catalog b)
+      → refused_where refuses refusal next ≡ Ok b → IsKnown catalog b
+  where_known true refusal next b h e = absurd cc
+  where_known false refusal next b h e = h refl e
 
-view_done : (catalog : Catalog) (name : List ℕ) (q : Query) (b : Bound) → statement_bound catalog (stmt.CreateView name q) ≡ Ok b → is_done b ≡ true
-view_done catalog name q b e =
-    where_done (is_taken catalog (folded name)) (duplicate_name (folded name)) _ b
-    (where_done (nat_le MAX_VIEWS (length catalog.views)) (limit LIMIT_OF_VIEWS) _ b
-    (then_done (query_bound catalog q) (bound.CreateView (folded name)) b (λ x. refl))) e
+  -- what each gives is known, with no more asked
+  made_known : {A : Type 0} (r : Result A Refused) (f : A → Bound) (b : Bound) → ((x : A) → IsKnown catalog (f x)) → (r >>= (λ x. Ok (f x))) ≡ Ok b
+      → IsKnown catalog b
+  made_known r f b h = then_known r (λ x. Ok (f x)) b (λ x. one_known (f x) b (h x))
 
-pub bound_is_done : (catalog : Catalog) (s : Stmt) (b : Bound) → is_built s ≡ true → statement_bound catalog s ≡ Ok b → is_done b ≡ true
-bound_is_done catalog (stmt.CreateTable name cols key) b h e = then_done (table_bound catalog (folded name) cols key) bound.CreateTable b (λ x. refl) e
-bound_is_done catalog (stmt.DropTable name) b h e =
-    where_done (not (is_table catalog (folded name))) (unknown_name (folded name)) _ b (one_done (bound.DropTable (folded name)) b refl) e
-bound_is_done catalog (stmt.CreateView name q) b h e = view_done catalog name q b e
-bound_is_done catalog (stmt.DropView name) b h e =
-    where_done (not (is_view catalog (folded name))) (unknown_name (folded name)) _ b (one_done (bound.DropView (folded name)) b refl) e
-bound_is_done catalog (stmt.Change tree) b h e = then_done (change_bound catalog tree) bound.Change b (λ x. refl) e
-bound_is_done catalog (stmt.Load name file) b h e =
-    where_done (not (is_table catalog (folded name))) (unknown_name (folded name)) _ b (one_done (bound.Load (folded name) file) b refl) e
-bound_is_done catalog (stmt.Show name) b h e = one_done (bound.Show (folded name)) b refl e
-bound_is_done catalog (stmt.Query q) b h e = then_done (query_bound catalog q) bound.Query b (λ x. refl) e
-bound_is_done catalog stmt.Begin b h e = absurd cc
-bound_is_done catalog stmt.Commit b h e = absurd cc
-bound_is_done catalog stmt.Rollback b h e = absurd cc
-bound_is_done catalog (stmt.CreateScenario name) b h e = absurd cc
-bound_is_done catalog (stmt.DropScenario name) b h e = absurd cc
-bound_is_done catalog (stmt.Under scenario tree) b h e = absurd cc
-bound_is_done catalog (stmt.Compare view scenarios) b h e = absurd cc
-bound_is_done catalog (stmt.ExplainCell view measure part cell) b h e = absurd cc
+  named_known : (is_there : Bool) (name : List ℕ) (a b : Bound) → IsKnown catalog a → refused_where (not is_there) (unknown_name name) (Ok a) ≡ Ok b
+      → IsKnown catalog b
+  named_known is_there name a b h = where_known (not is_there) (unknown_name name) (Ok a) b (λ t. one_known a b h)
+
+  view_known : (name : List ℕ) (q : Query) (b : Bound) → statement_bound catalog (stmt.CreateView name q) ≡ Ok b → IsKnown catalog b
+  view_known name q b =
+      where_known (is_taken catalog (folded name)) (duplicate_name (folded name)) _ b
+      (λ new. where_known (nat_le MAX_VIEWS (length catalog.views)) (limit LIMIT_OF_VIEWS) _ b
+      (λ few. made_known (query_bound catalog q) (bound.CreateView (folded name)) b (λ x. tt)))
+
+  created_known : (name : List ℕ) (b : Bound) → statement_bound catalog (stmt.CreateScenario name) ≡ Ok b → IsKnown catalog b
+  created_known name b =
+      where_known (is_taken catalog (folded name)) (duplicate_name (folded name)) _ b
+      (λ new. where_known (nat_le MAX_SCENARIOS (length catalog.scenarios)) (limit LIMIT_OF_SCENARIOS) _ b
+      (λ few. one_known (bound.CreateScenario (folded name)) b new))
+
+  under_known : (scenario : List ℕ) (tree : ChangeTree) (b : Bound) → statement_bound catalog (stmt.Under scenario tree) ≡ Ok b → IsKnown catalog b
+  under_known scenario tree b =
+      where_known (not (is_scenario catalog (folded scenario))) (unknown_name (folded scenario)) _ b
+      (λ there. then_known (change_bound catalog tree) (taken_in catalog (folded scenario)) b
+      (λ c. where_known (nat_le MAX_SCENARIO_CHANGES (change_count catalog (folded scenario))) (limit LIMIT_OF_SCENARIO_CHANGES) _ b
+      (λ room. one_known (bound.Under (folded scenario) c) b room)))
+
+  compared_known : (view : List ℕ) (names : List (List ℕ)) (b : Bound) → statement_bound catalog (stmt.Compare view names) ≡ Ok b → IsKnown catalog b
+  compared_known view names b =
+      where_known (not (is_view catalog (folded view))) (unknown_name (folded view)) _ b
+      (λ there. made_known (scenarios_named catalog names) (bound.Compare (folded view)) b (λ x. tt))
+
+  pub bound_is_known : (s : Stmt) (b : Bound) → is_built s ≡ true → statement_bound catalog s ≡ Ok b → IsKnown catalog b
+  bound_is_known (stmt.CreateTable name cols key) b h = made_known (table_bound catalog (folded name) cols key) bound.CreateTable b (λ x. tt)
+  bound_is_known (stmt.DropTable name) b h = named_known (is_table catalog (folded name)) (folded name) (bound.DropTable (folded name)) b tt
+  bound_is_known (stmt.CreateView name q) b h = view_known name q b
+  bound_is_known (stmt.DropView name) b h = named_known (is_view catalog (folded name)) (folded name) (bound.DropView (folded name)) b tt
+  bound_is_known (stmt.Change tree) b h = made_known (change_bound catalog tree) bound.Change b (λ x. tt)
+  bound_is_known (stmt.Load name file) b h = named_known (is_table catalog (folded name)) (folded name) (bound.Load (folded name) file) b tt
+  bound_is_known (stmt.Show name) b h = one_known (bound.Show (folded name)) b tt
+  bound_is_known (stmt.Query q) b h = made_known (query_bound catalog q) bound.Query b (λ x. tt)
+  bound_is_known stmt.Begin b h = one_known bound.Begin b tt
+  bound_is_known stmt.Commit b h = one_known bound.Commit b tt
+  bound_is_known stmt.Rollback b h = one_known bound.Rollback b tt
+  bound_is_known (stmt.CreateScenario name) b h = created_known name b
+  bound_is_known (stmt.DropScenario name) b h = named_known (is_scenario catalog (folded name)) (folded name) (bound.DropScenario (folded name)) b tt
+  bound_is_known (stmt.Under scenario tree) b h = under_known scenario tree b
+  bound_is_known (stmt.Compare view scenarios) b h = compared_known view scenarios b
+  bound_is_known (stmt.ExplainCell view measure part cell) b h = absurd cc

@@ -1,6 +1,8 @@
+pub mod BlockLemmas
 pub mod BoundLemmas
 pub mod CatalogLemmas
 pub mod CommandLemmas
+pub mod CompareLemmas
 pub mod FindLemmas
 pub mod LineLemmas
 pub mod LoadLemmas

@@ -3,7 +3,6 @@ use Rattle.std.proofs.Common.{◌≡◌, ℕ, zero, suc, ◌+◌, ◌<◌, ◌�
 use Rattle.std.specs.List.{list_any}
 use Rattle.std.proofs.lemmas.List.{drop_all}
 use Rattle.std.proofs.lemmas.List.Folds.{list_any-append}
-use Rattle.std.proofs.lemmas.Grind.{flat_map-append}
 use Rattle.std.specs.Option.{IfSome}
 use Rattle.std.specs.Io.KnownBytes.{Appends, Consumes, IsAtEnd}
 use Rattle.std.proofs.KnownBytes.{Appends-nil, Appends-trans}
@@ -11,13 +10,14 @@ use Rattle.mq_io.specs.Progress.{AppendsFront, GaveAtMost}
 use Rattle.mq_io.specs.ProgressLemmas.{AppendsFront-after, AppendsFront-of_part}
 use Rattle.mq_lexer.specs.declared.script.Statement as code
 use Rattle.mq_lexer.specs.Statements.{Statement, statement}
-use Rattle.mq_ir.specs.Lines.{Line, is_flaw, line_text, text_of}
+use Rattle.mq_ir.specs.Lines.{Line, is_flaw, text_of}
 use Rattle.mq_ir.specs.Statement.{State}
 use Rattle.mq_engine.specs.Sessions.{nothing}
 use Rattle.mq_tool.specs.Loads.{FileMap}
 use Rattle.mq_tool.specs.Script.{ArePrinted, AreReadAs, IsLoad, IsReadAs, Read, StoppedAtLoad, lines_from, program_step, state_from, status_of}
 use Rattle.mq_tool.specs.declared.statuses.TheConstants.{DONE, FLAWED}
 use Rattle.mq_tool.specs.Steps.{CutShort, IsLoadAt, Writes, WritesAll, WritesFront}
+use Rattle.mq_tool.proofs.LineLemmas.{text_of-append}
 use Rattle.mq_tool.proofs.ReadLemmas.{at_line}
 
 -- a source that is not touched gave nothing
@@ -35,9 +35,6 @@ told_whole P (Some xs) (Some ys) bytes c e p = subst P (sym (c ∙ ap (λ t. byt
 pub if_told : (P : FileMap → Type 0) (told : Option FileMap) → ((files : FileMap) → told ≡ Some files → P files) → IfSome told P
 if_told P None h = tt
 if_told P (Some files) h = h files refl
-
-text_of-append : (xs ys : List Line) → text_of (xs ++ ys) ≡ text_of xs ++ text_of ys
-text_of-append xs ys = flat_map-append line_text xs ys
 
 -- the state after two lists of statements
 state_from-append : (files : FileMap) (state : State) (xs ys : List (ℕ × Read)) → state_from files state (xs ++ ys) ≡ state_from files (state_from files state xs) ys

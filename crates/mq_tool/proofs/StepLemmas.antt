@@ -2,15 +2,14 @@
 use Rattle.std.proofs.Common.{◌≡◌, ℕ, List, [], ◌∷◌, ◌++◌, Bool, true, Option, Some, None, Result, Ok, Err, IsErrOf, refl, sym, ap, ◌∙◌, subst, append-nil}
 use Rattle.std.specs.List.{find, list_any}
 use Rattle.std.specs.Prelude.{if◌then◌else◌}
-use Rattle.std.specs.Option.{ok_or, option_map, option_map_or}
+use Rattle.std.specs.Option.{ok_or, option_map_or}
 use Rattle.std.specs.Io.KnownBytes.{Appends}
 use Rattle.mq_io.specs.Progress.{AppendsFront}
-use Rattle.mq_values.specs.Answers.{Gives}
+use Rattle.mq_values.specs.Answers.{Gives, result_map}
 use Rattle.mq_values.specs.declared.faults.Refused.{Refused}
 use Rattle.mq_values.specs.declared.faults.Refused.TheVariants as refused
 use Rattle.mq_values.specs.declared.memory.Fail.{Fail}
 use Rattle.mq_values.specs.declared.memory.Fail.TheVariants as fail
-use Rattle.mq_lexer.specs.Lexemes.{Lexeme}
 use Rattle.mq_lexer.specs.Statements.{Statement}
 use Rattle.mq_ast.specs.declared.statements.Stmt.{Stmt}
 use Rattle.mq_ir.specs.declared.query.Answer.{Answer}
@@ -22,7 +21,7 @@ use Rattle.mq_ir.specs.Answer.{answer_of}
 use Rattle.mq_ir.specs.Lines.{Line, RefusalLine, is_flaw, line_text, text_of}
 use Rattle.mq_ir.specs.Results.{◌>>=◌}
 use Rattle.mq_ir.specs.declared.catalog.View.{View}
-use Rattle.mq_ir.specs.Statement.{Block, Printed, State, answer_lines, note_refusal, show_step, with_refusal}
+use Rattle.mq_ir.specs.Statement.{Printed, State, answer_lines, show_step}
 use Rattle.mq_ir.specs.Tables.{is_name}
 use Rattle.mq_binder.specs.StatementWalk.{statement_bound}
 use Rattle.mq_engine.specs.declared.views.NoView.{NoView}
@@ -33,10 +32,11 @@ use Rattle.mq_tool.specs.declared.stops.Stop.{Stop}
 use Rattle.mq_tool.specs.declared.stops.Stop.TheVariants as stop
 use Rattle.mq_tool.specs.Loads.{FileMap}
 use Rattle.mq_tool.specs.Script.{IsReadAs, NoTree, Read, Tree, built, is_built, meaning, or_refusal, program_step}
-use Rattle.mq_tool.specs.Statements.{after_refusal, inside, outside, taken}
-use Rattle.mq_tool.specs.Steps.{CanRun, CutShort, Does, Ends, Finds, IsLoadBound, Steps, Takes, Tries, Writes, stop_of}
-use Rattle.mq_tool.proofs.BoundLemmas.{bound_is_done, is_done}
-use Rattle.mq_tool.proofs.CatalogLemmas.{no_view, not_there}
+use Rattle.mq_tool.specs.Needs.{CanRun, IsLoadBound}
+use Rattle.mq_tool.specs.Statements.{after_refusal, taken}
+use Rattle.mq_tool.specs.Steps.{CutShort, Does, Ends, Finds, Steps, Takes, Tries, Writes, stop_of}
+use Rattle.mq_tool.proofs.BoundLemmas.{IsKnown, bound_is_known}
+use Rattle.mq_tool.proofs.CatalogLemmas.{has_room, no_scenario, no_view, not_there}
 use Rattle.mq_tool.proofs.ReadLemmas.{one_read}
 
 -- what a statement that is done already is bound to can be done
@@ -46,9 +46,9 @@ pub can_run : (state : State) (s : Stmt) (b : Bound) → is_built s ≡ true →
     → ((q : BoundQuery) → BoundQueryIsReady (catalog_of state) s q)
     → ((name : List ℕ) (q : BoundQuery) → BoundViewIsReady (catalog_of state) s name q)
     → CanRun state b
-can_run state s b built e tables named queries views = by b (bound_is_done (catalog_of state) s b built e) e
+can_run state s b built e tables named queries views = by b (bound_is_known (catalog_of state) s b built e) e
   where
-    by : (b : Bound) → is_done b ≡ true → statement_bound (catalog_of state) s ≡ Ok b → CanRun state b
+    by : (b : Bound) → IsKnown (catalog_of state) b → statement_bound (catalog_of state) s ≡ Ok b → CanRun state b
     by (bound.CreateTable def) d e = not_there state def.name (tables def e)
     by (bound.DropTable name) d e = tt
     by (bound.CreateView name q) d e = (no_view (catalog_of state) name (named name q e), views name q e)
@@ -57,14 +57,14 @@ can_run state s b built e tables named queries views = by b (bound_is_done (cata
     by (bound.Load table file) d e = tt
     by (bound.Show name) d e = tt
     by (bound.Query q) d e = queries q e
-    by bound.Begin d e = absurd cc
-    by bound.Commit d e = absurd cc
-    by bound.Rollback d e = absurd cc
-    by (bound.CreateScenario name) d e = absurd cc
-    by (bound.DropScenario name) d e = absurd cc
-    by (bound.Under name change) d e = absurd cc
-    by (bound.Compare view names) d e = absurd cc
-    by (bound.ExplainCell asked) d e = absurd cc
+    by bound.Begin d e = tt
+    by bound.Commit d e = tt
+    by bound.Rollback d e = tt
+    by (bound.CreateScenario name) d e = no_scenario (catalog_of state) name d
+    by (bound.DropScenario name) d e = tt
+    by (bound.Under name change) d e = has_room state name d
+    by (bound.Compare view names) d e = tt
+    by (bound.ExplainCell asked) d e = absurd d
 
 -- the answer of a view that is there or not, and what SHOW prints of it
 abbrev answered : State → Option View → List ℕ → Result Answer NoView
@@ -104,50 +104,18 @@ answer_taken meant old new a flaw before after e n t f = ((old, answer_lines a),
 built_is : (s : Stmt) → is_built s ≡ true → built (Tree s) ≡ Tree s
 built_is s h = ap (λ b. if b then Tree s else NoTree) h
 
--- where no block is there, what is bound is taken as outside of one
-outside_is : (files : FileMap) (state : State) (line : ℕ) (b : Bound) → state.block ≡ None → taken files state line b ≡ outside files state line b
-outside_is files state line b none = ap (λ (o : Option Block). elim o [ None ↦ outside files state line b | Some block ↦ inside files state block b ]) none
-
--- a refusal leaves such a state as it was
-refused_is : (state : State) (line : ℕ) (r : Refused) → state.block ≡ None → state ≡ after_refusal state line r
-refused_is state line r none = by r
-  where
-    same : state ≡ record state { block = None }
-    same = λ i. record state { block = none i }
-
-    noted : state ≡ note_refusal state line
-    noted = λ i. record state { block = (none ∙ sym (ap (option_map (with_refusal line)) none)) i }
-
-    by : (r : Refused) → state ≡ after_refusal state line r
-    by (refused.BlockBroken l) = same
-    by refused.TooDeep = noted
-    by refused.Syntax = noted
-    by (refused.UnknownName n) = noted
-    by (refused.DuplicateName n) = noted
-    by refused.KindMismatch = noted
-    by (refused.ModelForm k) = noted
-    by (refused.Limit k) = noted
-    by (refused.InUse n) = noted
-    by refused.NoFile = noted
-    by refused.FileTooLong = noted
-    by refused.LoadHeader = noted
-    by (refused.LoadRow n) = noted
-    by (refused.ChangeValue n f) = noted
-    by (refused.NotNull n) = noted
-    by (refused.DuplicateKey k) = noted
-    by (refused.BlockOpen l) = noted
-    by (refused.InBlock l) = noted
-    by refused.NoBlock = noted
-    by (refused.NoPartition k) = noted
-    by (refused.NoCell k) = noted
-
 -- a statement that was bound is taken as its tokens mean it
-meant_by : (files : FileMap) (state : State) (line : ℕ) (s : Stmt) (b : Bound) → state.block ≡ None → is_built s ≡ true
-    → statement_bound (catalog_of state) s ≡ Ok b → meaning files state (line, built (Tree s)) ≡ outside files state line b
-meant_by files state line s b none h e =
+meant_by : (files : FileMap) (state : State) (line : ℕ) (s : Stmt) (b : Bound) → is_built s ≡ true → statement_bound (catalog_of state) s ≡ Ok b
+    → meaning files state (line, built (Tree s)) ≡ taken files state line b
+meant_by files state line s b h e =
     ap (λ (r : Read). meaning files state (line, r)) (built_is s h)
     ∙ ap (λ (r : Result Bound Refused). r >>= taken files state line) e
-    ∙ outside_is files state line b none
+
+-- a count that was refused, with nothing changed
+pub count_refused : (f : ℕ → Printed) (meant : Result Printed Refused) (old new : State) (before : List ℕ) (e : Fail Refused) → Gives (result_map f (Err e)) meant
+    → new ≡ old → Takes meant old new before before (Err e)
+count_refused f meant old new before (fail.Cause r) g n = (g, n, refl)
+count_refused f meant old new before fail.Memory g n = tt
 
 -- what stops for a refusal or for want of memory
 pub stops : (meant : Result Printed Refused) (old new : State) (before after : List ℕ) (e : Fail Refused) → Takes meant old new before after (Err e)
@@ -163,71 +131,72 @@ pub stopped_otherwise : {P : Type 0} (e : Fail Refused) → IsErrOf (stopped_by 
 stopped_otherwise (fail.Cause r) h = absurd cc
 stopped_otherwise fail.Memory h = absurd cc
 
-pub tried : (tokens : List Lexeme) (told : Option FileMap) (old new : State) (before after : List ℕ) (s : Stmt) (b : Bound) (result : Result Bool Stop) → old.block ≡ None
-    → IsReadAs tokens (Tree s) × (is_built s ≡ true) → statement_bound (catalog_of old) s ≡ Ok b
-    → ((files : FileMap) (line : ℕ) → told ≡ Some files → Ends (outside files old line b) old new before after result)
+pub tried : (s : Statement) (told : Option FileMap) (old new : State) (before after : List ℕ) (t : Stmt) (b : Bound) (result : Result Bool Stop)
+    → IsReadAs s.tokens (Tree t) × (is_built t ≡ true) → statement_bound (catalog_of old) t ≡ Ok b
+    → ((files : FileMap) → told ≡ Some files → Ends (taken files old s.line b) old new before after result)
     → (IsErrOf result stop.NotFetched → IsLoadBound b) → (IsErrOf result stop.NotFetched → (new ≡ old) × (after ≡ before))
-    → Tries tokens told old new before after result
-tried tokens told old new before after s b (Ok flaw) none is e h load same = (
-  Tree s,
+    → Tries s told old new before after result
+tried s told old new before after t b (Ok flaw) is e h load same = (
+  Tree t,
   is.0,
-  λ files line t. subst (λ (m : Result Printed Refused). Ends m old new before after (Ok flaw)) (sym (meant_by files old line s b none is.1 e)) (h files line t),
+  λ files f. subst (λ (m : Result Printed Refused). Ends m old new before after (Ok flaw)) (sym (meant_by files old s.line t b is.1 e)) (h files f),
 )
-tried tokens told old new before after s b (Err stop.Memory) none is e h load same = tt
-tried tokens told old new before after s b (Err stop.NotFetched) none is e h load same =
+tried s told old new before after t b (Err stop.Memory) is e h load same = tt
+tried s told old new before after t b (Err stop.NotFetched) is e h load same =
     let l = load refl in
     let kept = same refl in
-    (Tree s, is.0, (l.0, l.1, e ∙ ap Ok l.2), kept.0, kept.1)
-tried tokens told old new before after s b (Err (stop.Refused r)) none is e h load same = (
-  Tree s,
+    (Tree t, is.0, (l.0, l.1, e ∙ ap Ok l.2), kept.0, kept.1)
+tried s told old new before after t b (Err (stop.Refused r)) is e h load same = (
+  Tree t,
   is.0,
-  λ files line t. subst (λ (m : Result Printed Refused). Ends m old new before after (Err (stop.Refused r))) (sym (meant_by files old line s b none is.1 e)) (h files line t),
+  λ files f. subst (λ (m : Result Printed Refused). Ends m old new before after (Err (stop.Refused r))) (sym (meant_by files old s.line t b is.1 e)) (h files f),
 )
 
-pub not_bound : (tokens : List Lexeme) (told : Option FileMap) (old : State) (before : List ℕ) (s : Stmt) (e : Fail Refused) → IsReadAs tokens (Tree s) × (is_built s ≡ true)
-    → Gives (Err e) (statement_bound (catalog_of old) s) → Tries tokens told old old before before (Err (stop_of e))
-not_bound tokens told old before s fail.Memory is h = tt
-not_bound tokens told old before s (fail.Cause r) is h = (
-  Tree s,
+pub not_bound : (s : Statement) (told : Option FileMap) (old : State) (before : List ℕ) (t : Stmt) (e : Fail Refused) → IsReadAs s.tokens (Tree t) × (is_built t ≡ true)
+    → Gives (Err e) (statement_bound (catalog_of old) t) → Tries s told old old before before (Err (stop_of e))
+not_bound s told old before t fail.Memory is h = tt
+not_bound s told old before t (fail.Cause r) is h = (
+  Tree t,
   is.0,
-  λ files line t. (
-    ap (λ (r : Read). meaning files old (line, r)) (built_is s is.1) ∙ ap (λ (m : Result Bound Refused). m >>= taken files old line) h,
+  λ files f. (
+    ap (λ (r : Read). meaning files old (s.line, r)) (built_is t is.1) ∙ ap (λ (m : Result Bound Refused). m >>= taken files old s.line) h,
     refl,
     refl,
   ),
 )
 
 -- a statement that is not read
-pub not_read : (tokens : List Lexeme) (told : Option FileMap) (old : State) (before : List ℕ) (e : Fail Refused) → Finds tokens (Err e)
-    → Tries tokens told old old before before (Err (stop_of e))
-not_read tokens told old before fail.Memory h = tt
-not_read tokens told old before (fail.Cause r) h = (
+pub not_read : (s : Statement) (told : Option FileMap) (old : State) (before : List ℕ) (e : Fail Refused) → Finds s.tokens (Err e)
+    → Tries s told old old before before (Err (stop_of e))
+not_read s told old before fail.Memory h = tt
+not_read s told old before (fail.Cause r) h = (
   h.0,
   h.1,
-  λ files line t. (ap (λ (m : Result Stmt Refused). m >>= (λ s. statement_bound (catalog_of old) s >>= taken files old line)) h.2, refl, refl),
+  λ files f. (ap (λ (m : Result Stmt Refused). m >>= (λ t. statement_bound (catalog_of old) t >>= taken files old s.line)) h.2, refl, refl),
 )
 
--- a statement that was tried was done, or its refusal is its line
-pub does : (s : Statement) (told : Option FileMap) (old new : State) (before after : List ℕ) (flaw : Bool) → Tries s.tokens told old new before after (Ok flaw)
+-- a statement that was tried was done, or its refusal is its line, and a block that is there notes it or is ended by it
+pub does : (s : Statement) (told : Option FileMap) (old new : State) (before after : List ℕ) (flaw : Bool) → Tries s told old new before after (Ok flaw)
     → Does s told old new before after flaw
 does s told old new before after flaw h = (
   h.0,
   h.1,
   λ files is.
-      let t = h.2 files s.line is in
+      let t = h.2 files is in
       subst (λ (m : Printed). Steps m new before after flaw) (sym (ap (or_refusal old s.line) t.1)) t.2,
 )
 
-pub does_refuse : (s : Statement) (told : Option FileMap) (old new : State) (before mid after : List ℕ) (r : Refused) → old.block ≡ None
-    → Tries s.tokens told old new before mid (Err (stop.Refused r)) → after ≡ mid ++ line_text (RefusalLine s.line r) → Does s told old new before after true
-does_refuse s told old new before mid after r none h a = (
+pub does_refuse : (s : Statement) (told : Option FileMap) (old mid new : State) (before between after : List ℕ) (r : Refused)
+    → Tries s told old mid before between (Err (stop.Refused r)) → new ≡ after_refusal mid s.line r → after ≡ between ++ line_text (RefusalLine s.line r)
+    → Does s told old new before after true
+does_refuse s told old mid new before between after r h n a = (
   h.0,
   h.1,
   λ files is.
-      let t = h.2 files s.line is in
+      let t = h.2 files is in
       let line = RefusalLine s.line r in
       let text : after ≡ before ++ text_of (line ∷ []) = one_line before after line (a ∙ ap (λ m. m ++ line_text line) t.2) in
-      subst (λ (m : Printed). Steps m new before after true) (sym (ap (or_refusal old s.line) t.0)) (t.1 ∙ refused_is old s.line r none, text, refl),
+      subst (λ (m : Printed). Steps m new before after true) (sym (ap (or_refusal old s.line) t.0)) (n ∙ ap (λ (st : State). after_refusal st s.line r) t.1, text, refl),
 )
 
 -- its lines are written, whole or a front of them, or nothing is written

@@ -44,15 +44,8 @@ AreReadAs [] [] = ⊤
 AreReadAs (s ∷ ss) (r ∷ rs) = (r.0 ≡ s.line) × IsReadAs s.tokens r.1 × AreReadAs ss rs
 AreReadAs _ _ = ⊥
 
--- a statement that is done already: those of blocks, scenarios and explained cells are not yet
+-- a statement that is done already: an explained cell is not yet
 abbrev pub is_built : Stmt → Bool
-is_built stmt.Begin = false
-is_built stmt.Commit = false
-is_built stmt.Rollback = false
-is_built (stmt.CreateScenario name) = false
-is_built (stmt.DropScenario name) = false
-is_built (stmt.Under scenario change) = false
-is_built (stmt.Compare view scenarios) = false
 is_built (stmt.ExplainCell view measure part cell) = false
 is_built _ = true
 

@@ -1,5 +1,5 @@
 -- What the parts of a run give.
-use Rattle.std.specs.Prelude.{◌≡◌, ⊤, ℕ, Bool, true, false, List, ◌++◌, Option, None, Some, Result, Ok, Err}
+use Rattle.std.specs.Prelude.{◌≡◌, ⊤, ℕ, Bool, true, List, ◌++◌, Option, None, Some, Result, Ok, Err}
 use Rattle.std.specs.List.{list_any}
 use Rattle.std.specs.Io.KnownBytes.{Appends}
 use Rattle.mq_io.specs.Progress.{AppendsFront}
@@ -10,16 +10,13 @@ use Rattle.mq_lexer.specs.Lexemes.{Lexeme}
 use Rattle.mq_lexer.specs.Statements.{Statement}
 use Rattle.mq_ast.specs.declared.statements.Stmt.{Stmt}
 use Rattle.mq_ir.specs.declared.statement.Bound.{Bound}
-use Rattle.mq_ir.specs.declared.statement.Bound.TheVariants as bound
+use Rattle.mq_ir.specs.declared.statement.Change.{Change}
 use Rattle.mq_ir.specs.Lines.{Line, is_flaw, text_of}
-use Rattle.mq_ir.specs.Names.{is_view}
-use Rattle.mq_ir.specs.Statement.{Printed, State}
-use Rattle.mq_ir.specs.Tables.{table_at}
-use Rattle.mq_ir.specs.Ready.{QueryIsReady}
-use Rattle.mq_engine.specs.Catalogs.{catalog_of}
+use Rattle.mq_ir.specs.Statement.{Block, Printed, State, change_step, hold_step}
 use Rattle.mq_tool.specs.declared.stops.Stop.{Stop}
 use Rattle.mq_tool.specs.declared.stops.Stop.TheVariants as stop
 use Rattle.mq_tool.specs.Loads.{FileMap}
+use Rattle.mq_tool.specs.Statements.{inside}
 use Rattle.mq_tool.specs.Script.{ArePrinted, IsLoad, IsReadAs, Read, Tree, built, is_built, meaning, program_step, tree_of}
 
 -- why a statement stops that was refused, or found no memory
@@ -33,35 +30,9 @@ Finds tokens (Ok s) = IsReadAs tokens (Tree s) × (is_built s ≡ true)
 Finds tokens (Err (fail.Cause refusal)) = (read : Read) × IsReadAs tokens read × (tree_of (built read) ≡ Err refusal)
 Finds tokens (Err fail.Memory) = ⊤
 
--- what the engine asks of a bound statement: a table or a view is new, and a query is ready; some are not done yet
-abbrev pub CanRun : State → Bound → Type 0
-CanRun state (bound.CreateTable def) = table_at state.tables def.name ≡ None
-CanRun state (bound.CreateView name query) = (is_view (catalog_of state) name ≡ false) × QueryIsReady query
-CanRun state (bound.Query query) = QueryIsReady query
-CanRun state bound.Begin = ⊥
-CanRun state bound.Commit = ⊥
-CanRun state bound.Rollback = ⊥
-CanRun state (bound.CreateScenario name) = ⊥
-CanRun state (bound.DropScenario name) = ⊥
-CanRun state (bound.Under name change) = ⊥
-CanRun state (bound.Compare view names) = ⊥
-CanRun state (bound.ExplainCell asked) = ⊥
-CanRun state _ = ⊤
-
--- the same of a statement that is no LOAD
-abbrev pub CanTake : State → Bound → Type 0
-CanTake state (bound.Load table file) = ⊥
-CanTake state b = CanRun state b
-
--- and of one of which the engine keeps no part
-abbrev pub CanLend : State → Bound → Type 0
-CanLend state (bound.CreateTable def) = ⊥
-CanLend state (bound.CreateView name query) = ⊥
-CanLend state (bound.Load table file) = ⊥
-CanLend state b = CanRun state b
-
-abbrev pub IsLoadBound : Bound → Type 0
-IsLoadBound b = (table : List ℕ) × (file : List ℕ) × (b ≡ bound.Load table file)
+-- a change is of the tables, or of those that are pending in a block
+abbrev pub changed : State → Change → Result Printed Refused
+changed state change = elim state.block [ None ↦ change_step state change | Some block ↦ hold_step state block change ]
 
 -- the state is the one that is meant, the lines that are meant were appended, and it is said whether one of them is a flaw
 abbrev pub Steps : Printed → State → List ℕ → List ℕ → Bool → Type 0
@@ -73,26 +44,31 @@ Takes meant old new before after (Ok flaw) = (printed : Printed) × (meant ≡ O
 Takes meant old new before after (Err (fail.Cause refusal)) = (meant ≡ Err refusal) × (new ≡ old) × (after ≡ before)
 Takes meant old new before after (Err fail.Memory) = ⊤
 
+-- the same of a bound statement in the block that is there
+abbrev pub TakesInside : Bound → State → State → List ℕ → List ℕ → Result Bool (Fail Refused) → Type 0
+TakesInside b old new before after result =
+    (files : FileMap) (block : Block) → old.block ≡ Some block → Takes (inside files old block b) old new before after result
+
 -- the same where a file may not have been fetched, which says nothing either
 abbrev pub Ends : Result Printed Refused → State → State → List ℕ → List ℕ → Result Bool Stop → Type 0
 Ends meant old new before after (Ok flaw) = Takes meant old new before after (Ok flaw)
 Ends meant old new before after (Err (stop.Refused refusal)) = Takes meant old new before after (Err (fail.Cause refusal))
 Ends meant old new before after (Err _) = ⊤
 
--- the same of the statement of some tokens, over the files that the shelf tells
-abbrev pub Tried : List Lexeme → Option FileMap → State → State → List ℕ → List ℕ → Result Bool Stop → Type 0
-Tried tokens told old new before after result =
-    (read : Read) × IsReadAs tokens read
-    × ((files : FileMap) (line : ℕ) → told ≡ Some files → Ends (meaning files old (line, built read)) old new before after result)
+-- the same of a statement of a script, over the files that the shelf tells
+abbrev pub Tried : Statement → Option FileMap → State → State → List ℕ → List ℕ → Result Bool Stop → Type 0
+Tried s told old new before after result =
+    (read : Read) × IsReadAs s.tokens read
+    × ((files : FileMap) → told ≡ Some files → Ends (meaning files old (s.line, built read)) old new before after result)
 
 -- a statement that is a LOAD, at which nothing was done
 abbrev pub NotLoaded : List Lexeme → State → State → List ℕ → List ℕ → Type 0
 NotLoaded tokens old new before after = (read : Read) × IsReadAs tokens read × IsLoad old read × (new ≡ old) × (after ≡ before)
 
-abbrev pub Tries : List Lexeme → Option FileMap → State → State → List ℕ → List ℕ → Result Bool Stop → Type 0
-Tries tokens told old new before after (Err stop.Memory) = ⊤
-Tries tokens told old new before after (Err stop.NotFetched) = NotLoaded tokens old new before after
-Tries tokens told old new before after result = Tried tokens told old new before after result
+abbrev pub Tries : Statement → Option FileMap → State → State → List ℕ → List ℕ → Result Bool Stop → Type 0
+Tries s told old new before after (Err stop.Memory) = ⊤
+Tries s told old new before after (Err stop.NotFetched) = NotLoaded s.tokens old new before after
+Tries s told old new before after result = Tried s told old new before after result
 
 -- a statement was done as it is read
 abbrev pub Does : Statement → Option FileMap → State → State → List ℕ → List ℕ → Bool → Type 0

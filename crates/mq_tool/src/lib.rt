@@ -3,12 +3,15 @@
 //! `specs/Script.antt` defines what a script prints.
 #![tactic(auto)]
 
+mod blocks;
+mod changes;
 mod commands;
 mod generated;
 mod laws;
 mod loads;
 mod reading;
 mod runs;
+mod scenarios;
 mod scripts;
 mod statuses;
 mod step;

@@ -5,22 +5,22 @@ ghost use Rattle.mq_values.specs.Answers.{result_map};
 ghost use Rattle.mq_io.specs.Causes.{Rose};
 ghost use Rattle.mq_ir.specs.declared.statement.Bound.TheVariants as bound;
 ghost use Rattle.mq_ir.specs.declared.statement.Change.TheVariants.{Append};
-ghost use Rattle.mq_ir.specs.Statement.{change_step};
 ghost use Rattle.mq_tool.specs.Loads.{FileMap, Found, file_bytes, rows_of_file};
-ghost use Rattle.mq_tool.specs.Statements.{outside};
-ghost use Rattle.mq_tool.specs.Steps.{Ends, Takes};
+ghost use Rattle.mq_tool.specs.Statements.{taken};
+ghost use Rattle.mq_tool.specs.Steps.{Ends, Takes, changed};
 
+use crate::changes::do_change;
 use crate::stops::Stop;
 use mq_csvload::load_rows;
 use mq_engine::Engine;
 use mq_io::{Fetched, Gate, IoFault, Shelf};
 use mq_ir::{Catalog, Change, Row};
-use mq_render::count_text;
 use mq_values::{Fail, Items, MAX_FILE_BYTES, Refused, Words};
 use std::alloc::Global;
 
-/// Adds the rows of a file to a table, appends the line with their number to `out`, and answers that no line is a flaw;
-/// or why the statement is refused, and then nothing is changed or appended (docs/MEANING.md, "Loading").
+/// Adds the rows of a file to a table, or to what is pending of it in the block that is there, appends the line with
+/// their number to `out`, and answers that no line is a flaw; or why the statement is refused, and then nothing is changed
+/// or appended (docs/MEANING.md, "Loading").
 pub(crate) fn load<F: Shelf, G: Gate>(
     alloc: Global,
     engine: &mut Engine,
@@ -31,7 +31,7 @@ pub(crate) fn load<F: Shelf, G: Gate>(
     gate: &G,
 ) -> Result<bool, Stop>
     ensures done { (told : FileMap) (line : ℕ) → F.files files.old ≡ Some told
-        → Ends (outside told engine.old line (bound.Load table file.now)) engine.old engine.new out.old.items out.new.items result }
+        → Ends (taken told engine.old line (bound.Load table file.now)) engine.old engine.new out.old.items out.new.items result }
     ensures files { F.files files.new ≡ F.files files.old }
     ensures later { F.faults files.old ≤ F.faults files.new }
     ensures not_fetched { IsErrOf result Stop.NotFetched → (engine.new ≡ engine.old) × (out.new ≡ out.old) }
@@ -41,7 +41,7 @@ pub(crate) fn load<F: Shelf, G: Gate>(
     Ok(append(alloc, engine, table, rows, out, gate)?)
 }
 
-// Adds rows to a table.
+// Adds rows to a table, or to what is pending of it.
 fn append<G: Gate>(
     alloc: Global,
     engine: &mut Engine,
@@ -50,15 +50,13 @@ fn append<G: Gate>(
     out: &mut Vec<u8>,
     gate: &G,
 ) -> Result<bool, Fail<Refused>>
-    ensures { Takes (change_step engine.old (Append table rows.items)) engine.old engine.new out.old.items out.new.items result }
+    ensures { Takes (changed engine.old (Append table rows.items)) engine.old engine.new out.old.items out.new.items result }
 {
     let change = Change::Append {
         table,
         rows: Items::from_vec(rows),
     };
-    let count = engine.apply(alloc, &change, gate)?;
-    count_text(count as usize, out)?;
-    Ok(false)
+    do_change(alloc, engine, &change, out, gate)
 }
 
 // The rows that the file holds for the table.

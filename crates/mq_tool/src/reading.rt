@@ -5,8 +5,9 @@ ghost use Rattle.mq_values.specs.Answers.{Gives};
 ghost use Rattle.mq_lexer.specs.Lexemes.{lexeme};
 ghost use Rattle.mq_binder.specs.StatementWalk.{statement_bound};
 ghost use Rattle.mq_engine.specs.Catalogs.{catalog_of};
+ghost use Rattle.mq_tool.specs.Needs.{CanRun};
 ghost use Rattle.mq_tool.specs.Script as spec;
-ghost use Rattle.mq_tool.specs.Steps.{CanRun, Finds};
+ghost use Rattle.mq_tool.specs.Steps.{Finds};
 
 use mq_ast::Stmt;
 use mq_binder::bind;
@@ -32,21 +33,11 @@ pub fn read(alloc: Global, tokens: &[Token<'_>]) -> Result<Boxed<Stmt>, Fail<Ref
     Ok(Boxed::new(alloc, tree)?)
 }
 
-// Whether a statement is done already: those of blocks, scenarios and explained cells are not yet.
+// Whether a statement is done already: an explained cell is not yet.
 fn is_built(tree: &Stmt) -> bool
     ensures { result ≡ spec.is_built tree.now }
 {
-    !matches!(
-        tree,
-        Stmt::Begin
-            | Stmt::Commit
-            | Stmt::Rollback
-            | Stmt::CreateScenario { .. }
-            | Stmt::DropScenario { .. }
-            | Stmt::Under { .. }
-            | Stmt::Compare { .. }
-            | Stmt::ExplainCell { .. }
-    )
+    !matches!(tree, Stmt::ExplainCell { .. })
 }
 
 /// What a statement that is done already is bound to under the names that stand, or its first offence. What it is bound to

@@ -9,33 +9,58 @@ ghost use Rattle.mq_ir.specs.Tables.{table_at};
 ghost use Rattle.mq_ir.specs.Ready.{QueryIsReady};
 ghost use Rattle.mq_engine.specs.Catalogs.{catalog_of};
 ghost use Rattle.mq_tool.specs.Loads.{FileMap};
-ghost use Rattle.mq_tool.specs.Statements.{outside};
-ghost use Rattle.mq_tool.specs.Steps.{CanLend, CanTake, Takes};
+ghost use Rattle.mq_tool.specs.Needs.{CanLend, CanTake};
+ghost use Rattle.mq_tool.specs.Statements.{outside, taken};
+ghost use Rattle.mq_tool.specs.Steps.{Takes};
 
+use crate::blocks::{begin, take_in_block};
+use crate::changes::do_change;
+use crate::scenarios::{compare, create_scenario, drop_scenario, take_in};
 use mq_engine::Engine;
 use mq_io::Gate;
-use mq_ir::{Answer, Bound, BoundQuery, Change, TableDef};
-use mq_render::{answer_text, count_text, done_text};
+use mq_ir::{Answer, Bound, BoundQuery, TableDef};
+use mq_render::{answer_text, done_text};
 use mq_values::{Fail, Refused, Words};
 use std::alloc::Global;
 
-/// Does a bound statement that is no LOAD, where no block is there, appends its lines to `out`, and answers whether one of
+/// Does a bound statement that is no LOAD and starts on this line, appends its lines to `out`, and answers whether one of
 /// them is an error or a fault; or why it is refused, and then nothing is changed or appended (docs/MEANING.md,
 /// "Statements").
-pub fn take<G: Gate>(
+pub(crate) fn take<G: Gate>(
     alloc: Global,
     engine: &mut Engine,
+    line: u32,
     bound: Bound,
     out: &mut Vec<u8>,
     gate: &G,
 ) -> Result<bool, Fail<Refused>>
     requires { CanTake engine.old bound }
-    ensures { (files : FileMap) (line : ℕ) → Takes (outside files engine.old line bound) engine.old engine.new out.old.items out.new.items result }
+    ensures { (files : FileMap) → Takes (taken files engine.old line bound) engine.old engine.new out.old.items out.new.items result }
+{
+    match engine.block_line() {
+        None => take_outside(alloc, engine, line, bound, out, gate),
+        Some(begun) => take_in_block(alloc, engine, begun, &bound, out, gate),
+    }
+}
+
+// The same where no block is there.
+fn take_outside<G: Gate>(
+    alloc: Global,
+    engine: &mut Engine,
+    line: u32,
+    bound: Bound,
+    out: &mut Vec<u8>,
+    gate: &G,
+) -> Result<bool, Fail<Refused>>
+    requires can { CanTake engine.old bound }
+    requires outside { engine.old.block ≡ None }
+    ensures { (files : FileMap) → Takes (outside files engine.old line bound) engine.old engine.new out.old.items out.new.items result }
 {
     match bound {
         Bound::CreateTable(def) => create_table(alloc, engine, def, out),
         Bound::CreateView(name, query) => create_view(alloc, engine, &name, query, out, gate),
-        lent => take_lent(alloc, engine, &lent, out, gate),
+        Bound::Under(name, change) => take_in(engine, &name, change, out),
+        lent => take_lent(alloc, engine, line, &lent, out, gate),
     }
 }
 
@@ -43,20 +68,27 @@ pub fn take<G: Gate>(
 fn take_lent<G: Gate>(
     alloc: Global,
     engine: &mut Engine,
+    line: u32,
     bound: &Bound,
     out: &mut Vec<u8>,
     gate: &G,
 ) -> Result<bool, Fail<Refused>>
-    requires { CanLend engine.old bound.now }
-    ensures { (files : FileMap) (line : ℕ) → Takes (outside files engine.old line bound.now) engine.old engine.new out.old.items out.new.items result }
+    requires can { CanLend engine.old bound.now }
+    requires outside { engine.old.block ≡ None }
+    ensures { (files : FileMap) → Takes (outside files engine.old line bound.now) engine.old engine.new out.old.items out.new.items result }
 {
     match bound {
         Bound::DropTable(name) => drop_table(engine, name, out),
         Bound::DropView(name) => drop_view(engine, name, out),
-        Bound::Change(change) => apply(alloc, engine, change, out, gate),
+        Bound::Change(change) => do_change(alloc, engine, change, out, gate),
         Bound::Show(name) => show(alloc, engine, name, out, gate),
         Bound::Query(query) => ask(alloc, engine, query, out, gate),
-        // Those of which it keeps a part, LOAD, and those that are not done yet do not come.
+        Bound::Begin => begin(alloc, engine, line, out),
+        Bound::Commit | Bound::Rollback => Err(Fail::Cause(Refused::NoBlock)),
+        Bound::CreateScenario(name) => create_scenario(alloc, engine, name, out),
+        Bound::DropScenario(name) => drop_scenario(engine, name, out),
+        Bound::Compare(view, names) => { compare(alloc, engine, view, names.as_slice(), out, gate) }
+        // Those of which it keeps a part, LOAD, and the one that is not done yet do not come.
         _ => Err(Fail::Cause(Refused::Syntax)),
     }
 }
@@ -67,7 +99,8 @@ fn create_table(
     def: TableDef,
     out: &mut Vec<u8>,
 ) -> Result<bool, Fail<Refused>>
-    requires { table_at engine.old.tables def.name ≡ None }
+    requires named { table_at engine.old.tables def.name ≡ None }
+    requires outside { engine.old.block ≡ None }
     ensures { (files : FileMap) (line : ℕ) → Takes (outside files engine.old line (Bound.CreateTable def)) engine.old engine.new out.old.items out.new.items result }
 {
     engine.create_table(alloc, def)?;
@@ -76,6 +109,7 @@ fn create_table(
 }
 
 fn drop_table(engine: &mut Engine, name: &Words, out: &mut Vec<u8>) -> Result<bool, Fail<Refused>>
+    requires { engine.old.block ≡ None }
     ensures { (files : FileMap) (line : ℕ) → Takes (outside files engine.old line (Bound.DropTable name.now)) engine.old engine.new out.old.items out.new.items result }
 {
     engine.drop_table(name.as_str())?;
@@ -105,20 +139,6 @@ fn drop_view(engine: &mut Engine, name: &Words, out: &mut Vec<u8>) -> Result<boo
 {
     engine.drop_view(name.as_str());
     done_text(out)?;
-    Ok(false)
-}
-
-fn apply<G: Gate>(
-    alloc: Global,
-    engine: &mut Engine,
-    change: &Change,
-    out: &mut Vec<u8>,
-    gate: &G,
-) -> Result<bool, Fail<Refused>>
-    ensures { (files : FileMap) (line : ℕ) → Takes (outside files engine.old line (Bound.Change change.now)) engine.old engine.new out.old.items out.new.items result }
-{
-    let count = engine.apply(alloc, change, gate)?;
-    count_text(count as usize, out)?;
     Ok(false)
 }
 
@@ -156,8 +176,9 @@ fn ask<G: Gate>(
     Ok(is_fault(&answer))
 }
 
+/// Whether the lines of an answer have a fault.
 #[tactic(auto, using(crate::proofs::LineLemmas::no_flaw_line))]
-fn is_fault(answer: &Answer) -> bool
+pub(crate) fn is_fault(answer: &Answer) -> bool
     ensures { result ≡ list_any is_flaw (spec.answer_lines answer.now) }
 {
     match answer {

@@ -7,7 +7,7 @@ use Rattle.mq_ir.specs.declared.catalog.Catalog.{Catalog}
 use Rattle.mq_ir.specs.declared.statement.Bound.{Bound}
 use Rattle.mq_binder.specs.StatementWalk.{statement_bound}
 use Rattle.mq_engine.specs.Catalogs.{catalog_of}
-use Rattle.mq_tool.specs.Steps.{CanRun}
+use Rattle.mq_tool.specs.Needs.{CanRun}
 use Rattle.mq_tool.proofs.StepLemmas.{can_run}
 use Rattle.mq_tool.proofs.reading.bound_of.Goals as goal
 
@@ -17,7 +17,7 @@ returns-clause-can_run c =
     let tree = c.args.tree.now in
     let names = catalog_of state in
     let given : Gives c.bind.result (statement_bound names tree) =
-    subst (λ (k : Catalog). Gives c.bind.result (statement_bound k tree)) c.catalog.ensures c.bind.ensures.exact in
+    subst (λ (k : Catalog). Gives c.bind.result (statement_bound k tree)) c.catalog.ensures.there c.bind.ensures.exact in
     by c.bind.result given
   where
     by : (r : Result Bound (Fail Refused)) → Gives r (statement_bound (catalog_of c.args.engine.now) c.args.tree.now) → IfOk r (CanRun c.args.engine.now)

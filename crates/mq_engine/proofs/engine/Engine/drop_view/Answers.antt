@@ -8,4 +8,5 @@ pub invariant_of-self : goal.invariant_of-self
 invariant_of-self c = (
   c.self.invariant.0,
   ready_kept (λ (v : View). not (is_name c.args.name.now v.name)) c.self.inside.catalog.views c.remove.new.self c.remove.ensures c.self.invariant.1,
+  c.self.invariant.2,
 )

@@ -1,0 +1,13 @@
+use Rattle.std.proofs.Common.{[], ◌∷◌, Ok, false, refl, sym, ap, ◌∙◌}
+use Rattle.mq_ir.specs.declared.statement.Bound.TheVariants as bound
+use Rattle.mq_ir.specs.Lines.{Done}
+use Rattle.mq_ir.specs.Statement.{State}
+use Rattle.mq_tool.specs.Statements.{outside}
+use Rattle.mq_tool.proofs.StepLemmas.{line_taken}
+use Rattle.mq_tool.proofs.scenarios.drop_scenario.Goals as goal
+
+pub returns : goal.returns
+returns c =
+    let old = c.args.engine.now in
+    λ files line. line_taken (outside files old line (bound.DropScenario c.args.name.now)) old c.drop_scenario.new.self Done false c.args.out.now.items c.done_text.new.out.items
+    (ap (λ n. outside files old line (bound.DropScenario n)) (sym c.as_str.ensures) ∙ ap (λ (s : State). Ok (s, Done ∷ [])) (sym c.drop_scenario.ensures)) c.in_ok-done_text.ensures.ok refl
