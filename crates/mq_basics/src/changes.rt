@@ -3,9 +3,9 @@
 use crate::answers::Reply;
 use crate::models::{bound, change_of, table_of};
 use crate::texts::{cut, keys};
-use mq_ir::{ByName, Catalog, Change, TableDef, TableEntry};
+use mq_ir::{ByName, Catalog, Change, Row, TableDef, TableEntry};
 use mq_tables::{Staged, TableSet, Tables};
-use mq_values::{Fail, Refused, Words};
+use mq_values::{Fail, Items, Refused, Words};
 use std::alloc::Global;
 
 /// The tables that are there: as statements are bound under them, and with their rows in two ways.
@@ -86,8 +86,13 @@ pub(crate) fn appended(known: &mut Known, text: &str, reply: &mut Reply) {
     let (name, rows) = cut(text, "\t", reply);
     let rows = keys(rows, reply);
     if let Some(table) = reply.made(Words::new(reply.alloc, name)) {
-        made_twice(known, name, &Change::Append { table, rows }, reply);
+        let change = appending(table, rows);
+        made_twice(known, name, &change, reply);
     }
+}
+
+fn appending(table: Words, rows: Items<Row>) -> Change {
+    Change::Append { table, rows }
 }
 
 // Where the new rows would stand, and what comes of the change; where the other way comes to something else, that too.

@@ -24,7 +24,7 @@ mod values;
 
 use answers::Reply;
 use scene::Scene;
-use std::alloc::AllocError;
+use std::alloc::{AllocError, Global};
 use std::io::{self, Write};
 
 fn main(rt: HostRuntime) -> io::Result<()> {
@@ -33,12 +33,23 @@ fn main(rt: HostRuntime) -> io::Result<()> {
         return Err(AllocError.into());
     };
     for line in rt.lines(rt.alloc()) {
-        let mut answer = Reply::new(rt.alloc());
-        rows::answer(&mut scene, line?.as_str(), &mut answer);
-        if answer.is_lacking {
-            return Err(AllocError.into());
-        }
-        out.write_all(&answer.text)?;
+        answer(rt.alloc(), &mut scene, line, &mut out)?;
     }
     Ok(())
+}
+
+// Answers one line. It is lent what was set, so that a way out does not let go of it.
+fn answer<W: Write>(
+    alloc: Global,
+    scene: &mut Scene,
+    line: io::Result<String>,
+    out: &mut W,
+) -> io::Result<()> {
+    let line = line?;
+    let mut reply = Reply::new(alloc);
+    rows::answer(scene, line.as_str(), &mut reply);
+    if reply.is_lacking {
+        return Err(AllocError.into());
+    }
+    out.write_all(&reply.text)
 }

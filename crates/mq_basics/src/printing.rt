@@ -54,24 +54,22 @@ pub(crate) fn refusals(text: &str, reply: &mut Reply) {
     let (partition, cell) = cut(rest, "\t", reply);
     let number = number_of(number, reply);
     let mut out = begun(reply.alloc);
-    add_refusal(number, &Refused::BlockOpen(number), &mut out);
-    add_refusal(number, &Refused::InBlock(number), &mut out);
-    add_refusal(number, &Refused::NoBlock, &mut out);
-    add_refusal(number, &Refused::BlockBroken(number), &mut out);
-    add_refusal(
-        number,
-        &Refused::NoPartition(key(partition, reply)),
-        &mut out,
-    );
-    add_refusal(number, &Refused::NoCell(key(cell, reply)), &mut out);
+    add_refusal(number, Refused::BlockOpen(number), &mut out);
+    add_refusal(number, Refused::InBlock(number), &mut out);
+    add_refusal(number, Refused::NoBlock, &mut out);
+    add_refusal(number, Refused::BlockBroken(number), &mut out);
+    let partition = key(partition, reply);
+    add_refusal(number, Refused::NoPartition(partition), &mut out);
+    let cell = key(cell, reply);
+    add_refusal(number, Refused::NoCell(cell), &mut out);
     show(&out, reply);
 }
 
-fn add_refusal(line: u32, refused: &Refused, out: &mut Reply) {
-    let done = refusal_words(refused, &mut out.text);
+fn add_refusal(line: u32, refused: Refused, out: &mut Reply) {
+    let done = refusal_words(&refused, &mut out.text);
     out.note(done);
     out.add(" = ");
-    add_line(line, refused, out);
+    add_line(line, &refused, out);
 }
 
 /// A name, a number and a key with tabs between them: what a comparison says of the scenario of this name where its change of
@@ -82,34 +80,35 @@ pub(crate) fn scenarios(text: &str, reply: &mut Reply) {
     let number = number_of(number, reply);
     if let Some(name) = reply.made(Words::new(reply.alloc, word)) {
         let mut out = begun(reply.alloc);
-        add_compared(&name, &stop_of(number, key(one, reply)), &mut out);
-        add_compared(&name, &row_of(key(one, reply), reply), &mut out);
-        add_compared(&name, &fault_of(number, key(one, reply)), &mut out);
+        add_compared(&name, stop_of(number, one, reply), &mut out);
+        add_compared(&name, row_of(one, reply), &mut out);
+        add_compared(&name, fault_of(number, one, reply), &mut out);
         show(&out, reply);
     }
 }
 
-fn stop_of(number: u32, key: Key) -> Compared {
-    Compared::Stopped(number, Refused::DuplicateKey(key))
+fn stop_of(number: u32, text: &str, reply: &mut Reply) -> Compared {
+    Compared::Stopped(number, Refused::DuplicateKey(key(text, reply)))
 }
 
-fn row_of(key: Key, reply: &mut Reply) -> Compared {
+fn row_of(text: &str, reply: &mut Reply) -> Compared {
     let mut rows = Items::new(reply.alloc);
-    reply.note(rows.push(key));
+    let row = key(text, reply);
+    reply.note(rows.push(row));
     Compared::Shown(Answer::Rows(rows))
 }
 
-fn fault_of(rule: u32, partition: Key) -> Compared {
+fn fault_of(rule: u32, text: &str, reply: &mut Reply) -> Compared {
     Compared::Shown(Answer::Fault(QueryFault {
         kind: FaultKind::Cycle,
         rule,
-        partition,
+        partition: key(text, reply),
         cell: Key::empty(),
     }))
 }
 
-fn add_compared(name: &Words, compared: &Compared, out: &mut Reply) {
-    let done = compared_text(name, compared, &mut out.text);
+fn add_compared(name: &Words, compared: Compared, out: &mut Reply) {
+    let done = compared_text(name, &compared, &mut out.text);
     out.note(done);
 }
 

@@ -69,12 +69,14 @@ pub(crate) fn replayed_many(reply: &mut Reply) {
     let mut store = Stored::new(reply.alloc);
     store.input = input_of(many_cells(reply), None);
     let calls = many_calls(reply);
-    let told = over_plain(reply.alloc, &store, &calls);
-    let again = over_owned(reply.alloc, &store, &calls);
-    if let Some(told) = reply.made(told) {
-        if let Some(again) = reply.made(again) {
-            add_alike(&told, &again, reply);
-        }
+    if let Some(told) = reply.made(over_plain(reply.alloc, &store, &calls)) {
+        add_like(&told, &store, &calls, reply);
+    }
+}
+
+fn add_like(told: &[Slot], store: &Stored, calls: &[CellCall], reply: &mut Reply) {
+    if let Some(again) = reply.made(over_owned(reply.alloc, store, calls)) {
+        add_alike(told, &again, reply);
     }
 }
 
