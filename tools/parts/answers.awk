@@ -1,24 +1,42 @@
-# The answers of an output: lines of rows up to `rows N`, or one line `ok`, `ok N`, `fault ..` or `error ..`.
-# Each line goes to `take_line`. `answers` counts the answers that are begun, `is_short` is set in the middle of one, and end_of[n] is the
-# last line of answer n. Of the answer `wanted` (0 stands for the last one that has rows) row_of[1] to row_of[rows] are the rows.
+# The answers of an output: lines of rows up to `rows N`, steps up to `steps N`, or one line `ok`, `ok N`, `fault ..` or `error ..`. That of
+# a COMPARE has a part for each scenario that its statement names: `scenario NAME`, and then rows, or one line `fault ..` or `refused ..`.
+# Each line goes to `take_line`, behind the script. `answers` counts the answers that are begun, `is_short` is set in the middle of one, and
+# end_of[n] is the last line of answer n, or of its first part that has no rows. Of the answer `wanted` (0 stands for the last one that has
+# rows, in all its parts) row_of[1] to row_of[rows] are the rows, each of a COMPARE with the scenario's name as its first value.
 
-# A row begins with a quote, a digit, a minus or NULL, so it is none of these.
+# A row begins with a quote, a digit, a minus or NULL, and a step with a name, which has no small letters; so neither is one of these.
 function is_end(text) {
-    return text ~ /^(ok|rows |fault |error )/
+    return text ~ /^(ok|rows |steps |fault |error |refused )/
 }
 
 function take_line(text) {
-    if (!is_short) {
-        answers++
-        rows_here = 0
-    }
-    is_short = !is_end(text)
-    if (is_short) {
-        row_here[++rows_here] = text
+    if (!is_short) begin_answer(text)
+    if (text ~ /^scenario /) {
+        scenario = substr(text, length("scenario ") + 1)
         return
     }
-    end_of[answers] = text
-    if (answers == wanted || (!wanted && text ~ /^rows /)) keep_rows()
+    if (is_end(text)) end_part(text)
+    else row_here[++rows_here] = (scenario == "" ? "" : "'" scenario "'|") text
+}
+
+function begin_answer(text) {
+    answers++
+    is_short = 1
+    rows_here = 0
+    scenario = ""
+    parts_left = text ~ /^scenario / ? scenarios_of(body_of[answers]) : 1
+    end_of[answers] = "rows "
+}
+
+# How many scenarios the text of a COMPARE names.
+function scenarios_of(text) {
+    return gsub(/,/, "", text) + 1
+}
+
+function end_part(text) {
+    if (end_of[answers] ~ /^rows /) end_of[answers] = text ~ /^rows / || scenario == "" ? text : "scenario " scenario ": " text
+    is_short = --parts_left > 0
+    if (!is_short && (answers == wanted || (!wanted && end_of[answers] ~ /^rows /))) keep_rows()
 }
 
 function keep_rows(    r) {

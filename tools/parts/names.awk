@@ -89,15 +89,16 @@ function table_names(table,    s, n, token, blank, i, depth) {
     }
 }
 
-# name[1] to name[names] are the columns of the chosen answer.
+# name[1] to name[names] are the columns of the chosen answer; the first of a COMPARE has its scenarios.
 function find_names(    s, n, token, blank) {
     s = chosen
     n = tokens_of(body_of[s], token, blank)
-    if (toupper(token[1]) == "SHOW") {
+    names = 0
+    if (toupper(token[1]) == "COMPARE") name[++names] = "SCENARIO"
+    if (toupper(token[1]) ~ /^(SHOW|COMPARE)$/) {
         s = maker_of("VIEW", token[2], s)
         sub(/^[ \t\r]*[A-Za-z]+[ \t\r]+[A-Za-z]+[ \t\r]+[A-Za-z0-9_]+[ \t\r]+[A-Za-z]+/, "", body_of[s])
         n = tokens_of(body_of[s], token, blank)
     }
-    names = 0
     list_names(token, blank, n, 2)
 }

@@ -1,13 +1,13 @@
 # The statements of a script, cut as docs/LANGUAGE.md, "Where a statement ends", has it: at each `;` outside of texts and comments.
-# Statement n begins on line line_of[n], and first_of[n] is what this line has of it. Of queries, CREATE and SHOW body_of[n] is the text,
-# with a blank in place of each comment. `statements` counts them. Each line goes to `cut`, and then `end_script` is called once.
+# Statement n begins on line line_of[n], and first_of[n] is what this line has of it. Of queries, CREATE, SHOW and COMPARE body_of[n] is the
+# text, with a blank in place of each comment. `statements` counts them. Each line goes to `cut`, and then `end_script` is called once.
 
 function begin_statement(number, text) {
     statements++
     line_of[statements] = number
     first_of[statements] = text
     is_open = 1
-    is_kept = toupper(text) ~ /^(SELECT|CREATE|SHOW)([^A-Z0-9_]|$)/
+    is_kept = toupper(text) ~ /^(SELECT|CREATE|SHOW|COMPARE)([^A-Z0-9_]|$)/
     body_of[statements] = ""
 }
 
