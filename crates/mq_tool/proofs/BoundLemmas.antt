@@ -15,18 +15,17 @@ use Rattle.mq_ir.specs.declared.statement.Bound.TheVariants as bound
 use Rattle.mq_ir.specs.Names.{change_count, is_scenario, is_table, is_taken, is_view}
 use Rattle.mq_ir.specs.Results.{◌>>=◌}
 use Rattle.mq_bind_scopes.specs.Refusals.{duplicate_name, limit, refused_where, unknown_name}
+use Rattle.mq_binder.specs.CellWalk.{cell_bound}
 use Rattle.mq_binder.specs.ChangeWalk.{change_bound}
 use Rattle.mq_binder.specs.QueryWalk.{query_bound}
 use Rattle.mq_binder.specs.ScenarioWalk.{scenarios_named, taken_in}
 use Rattle.mq_binder.specs.StatementWalk.{statement_bound}
 use Rattle.mq_binder.specs.TableWalk.{table_bound}
-use Rattle.mq_tool.specs.Script.{is_built}
 
--- A scenario that may be created is new, and one that may take a change in has room for it. A statement that is not done yet does not come.
+-- A scenario that may be created is new, and one that may take a change in has room for it.
 abbrev pub IsKnown : Catalog → Bound → Type 0
 IsKnown catalog (bound.CreateScenario name) = is_taken catalog name ≡ false
 IsKnown catalog (bound.Under name change) = nat_le MAX_SCENARIO_CHANGES (change_count catalog name) ≡ false
-IsKnown catalog (bound.ExplainCell asked) = ⊥
 IsKnown catalog _ = ⊤
 
 abbrev bound_to : Bound → Result Bound Refused
@@ -79,20 +78,21 @@ module _ (catalog : Catalog) where
       where_known (not (is_view catalog (folded view))) (unknown_name (folded view)) _ b
       (λ there. made_known (scenarios_named catalog names) (bound.Compare (folded view)) b (λ x. tt))
 
-  pub bound_is_known : (s : Stmt) (b : Bound) → is_built s ≡ true → statement_bound catalog s ≡ Ok b → IsKnown catalog b
-  bound_is_known (stmt.CreateTable name cols key) b h = made_known (table_bound catalog (folded name) cols key) bound.CreateTable b (λ x. tt)
-  bound_is_known (stmt.DropTable name) b h = named_known (is_table catalog (folded name)) (folded name) (bound.DropTable (folded name)) b tt
-  bound_is_known (stmt.CreateView name q) b h = view_known name q b
-  bound_is_known (stmt.DropView name) b h = named_known (is_view catalog (folded name)) (folded name) (bound.DropView (folded name)) b tt
-  bound_is_known (stmt.Change tree) b h = made_known (change_bound catalog tree) bound.Change b (λ x. tt)
-  bound_is_known (stmt.Load name file) b h = named_known (is_table catalog (folded name)) (folded name) (bound.Load (folded name) file) b tt
-  bound_is_known (stmt.Show name) b h = one_known (bound.Show (folded name)) b tt
-  bound_is_known (stmt.Query q) b h = made_known (query_bound catalog q) bound.Query b (λ x. tt)
-  bound_is_known stmt.Begin b h = one_known bound.Begin b tt
-  bound_is_known stmt.Commit b h = one_known bound.Commit b tt
-  bound_is_known stmt.Rollback b h = one_known bound.Rollback b tt
-  bound_is_known (stmt.CreateScenario name) b h = created_known name b
-  bound_is_known (stmt.DropScenario name) b h = named_known (is_scenario catalog (folded name)) (folded name) (bound.DropScenario (folded name)) b tt
-  bound_is_known (stmt.Under scenario tree) b h = under_known scenario tree b
-  bound_is_known (stmt.Compare view scenarios) b h = compared_known view scenarios b
-  bound_is_known (stmt.ExplainCell view measure part cell) b h = absurd cc
+  pub bound_is_known : (s : Stmt) (b : Bound) → statement_bound catalog s ≡ Ok b → IsKnown catalog b
+  bound_is_known (stmt.CreateTable name cols key) b = made_known (table_bound catalog (folded name) cols key) bound.CreateTable b (λ x. tt)
+  bound_is_known (stmt.DropTable name) b = named_known (is_table catalog (folded name)) (folded name) (bound.DropTable (folded name)) b tt
+  bound_is_known (stmt.CreateView name q) b = view_known name q b
+  bound_is_known (stmt.DropView name) b = named_known (is_view catalog (folded name)) (folded name) (bound.DropView (folded name)) b tt
+  bound_is_known (stmt.Change tree) b = made_known (change_bound catalog tree) bound.Change b (λ x. tt)
+  bound_is_known (stmt.Load name file) b = named_known (is_table catalog (folded name)) (folded name) (bound.Load (folded name) file) b tt
+  bound_is_known (stmt.Show name) b = one_known (bound.Show (folded name)) b tt
+  bound_is_known (stmt.Query q) b = made_known (query_bound catalog q) bound.Query b (λ x. tt)
+  bound_is_known stmt.Begin b = one_known bound.Begin b tt
+  bound_is_known stmt.Commit b = one_known bound.Commit b tt
+  bound_is_known stmt.Rollback b = one_known bound.Rollback b tt
+  bound_is_known (stmt.CreateScenario name) b = created_known name b
+  bound_is_known (stmt.DropScenario name) b = named_known (is_scenario catalog (folded name)) (folded name) (bound.DropScenario (folded name)) b tt
+  bound_is_known (stmt.Under scenario tree) b = under_known scenario tree b
+  bound_is_known (stmt.Compare view scenarios) b = compared_known view scenarios b
+  bound_is_known (stmt.ExplainCell view measure part cell) b =
+      made_known (cell_bound catalog (folded view) (folded measure) part cell) bound.ExplainCell b (λ x. tt)

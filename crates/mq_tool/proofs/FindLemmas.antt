@@ -1,6 +1,5 @@
 -- What the parser gives is what the tokens are read as.
-use Rattle.std.proofs.Common.{◌≡◌, List, [], ◌∷◌, true, false, map, Result, Ok, Err, refl, ap, subst}
-use Rattle.std.specs.Prelude.{if◌then◌else◌}
+use Rattle.std.proofs.Common.{◌≡◌, List, [], ◌∷◌, map, Result, Ok, Err, refl, ap, subst}
 use Rattle.mq_values.specs.declared.faults.Refused.{Refused}
 use Rattle.mq_values.specs.declared.faults.Refused.TheVariants as refused
 use Rattle.mq_values.specs.declared.memory.Fail.{Fail}
@@ -11,7 +10,7 @@ use Rattle.mq_ast.specs.declared.statements.Stmt.{Stmt}
 use Rattle.mq_ast.specs.Prelude.{Tok, tok_of, toks}
 use Rattle.mq_parse_words.specs.Reading.{from}
 use Rattle.mq_parse_stmt.specs.Parsing.{Parses}
-use Rattle.mq_tool.specs.Script.{Deep, NoTree, Tree, is_built, seen, tree_of}
+use Rattle.mq_tool.specs.Script.{Deep, NoTree, seen}
 use Rattle.mq_tool.specs.Steps.{Finds}
 
 seen_tokens : (ts : List Token) → toks ts ≡ seen (map lexeme ts)
@@ -21,12 +20,8 @@ seen_tokens (t ∷ ts) = ap (λ k. tok_of t ∷ k) (seen_tokens ts)
 as_seen : (ts : List Token) (r : Result Stmt (Fail Refused)) → Parses (from ts 0) r → Parses (seen (map lexeme ts)) r
 as_seen ts r h = subst (λ (k : List Tok). Parses k r) (seen_tokens ts) h
 
-pub found : (ts : List Token) (s : Stmt) → is_built s ≡ true → Parses (from ts 0) (Ok s) → Finds (map lexeme ts) (Ok s)
-found ts s built h = (as_seen ts (Ok s) h, built)
-
--- a statement that is not done yet is none
-pub not_done : (ts : List Token) (s : Stmt) → is_built s ≡ false → Parses (from ts 0) (Ok s) → Finds (map lexeme ts) (Err (fail.Cause refused.Syntax))
-not_done ts s unbuilt h = (Tree s, as_seen ts (Ok s) h, ap (λ b. tree_of (if b then Tree s else NoTree)) unbuilt)
+pub found : (ts : List Token) (s : Stmt) → Parses (from ts 0) (Ok s) → Finds (map lexeme ts) (Ok s)
+found ts s h = as_seen ts (Ok s) h
 
 module _ (ts : List Token) where
   refuses : (e : Fail Refused) → Parses (seen (map lexeme ts)) (Err e) → Finds (map lexeme ts) (Err e)

@@ -3,6 +3,7 @@ pub mod BoundLemmas
 pub mod CatalogLemmas
 pub mod CommandLemmas
 pub mod CompareLemmas
+pub mod ExplainLemmas
 pub mod FindLemmas
 pub mod LineLemmas
 pub mod LoadLemmas

@@ -14,7 +14,7 @@ use Rattle.mq_ir.specs.Lines.{Line, is_flaw, text_of}
 use Rattle.mq_ir.specs.Statement.{State}
 use Rattle.mq_engine.specs.Sessions.{nothing}
 use Rattle.mq_tool.specs.Loads.{FileMap}
-use Rattle.mq_tool.specs.Script.{ArePrinted, AreReadAs, IsLoad, IsReadAs, Read, StoppedAtLoad, lines_from, program_step, state_from, status_of}
+use Rattle.mq_tool.specs.Script.{ArePrinted, AreReadAs, IsLoad, IsReadAs, Read, StoppedAtLoad, lines_from, state_from, statement_step, status_of}
 use Rattle.mq_tool.specs.declared.statuses.TheConstants.{DONE, FLAWED}
 use Rattle.mq_tool.specs.Steps.{CutShort, IsLoadAt, Writes, WritesAll, WritesFront}
 use Rattle.mq_tool.proofs.LineLemmas.{text_of-append}
@@ -39,7 +39,7 @@ if_told P (Some files) h = h files refl
 -- the state after two lists of statements
 state_from-append : (files : FileMap) (state : State) (xs ys : List (ℕ × Read)) → state_from files state (xs ++ ys) ≡ state_from files (state_from files state xs) ys
 state_from-append files state [] ys = refl
-state_from-append files state (x ∷ xs) ys = state_from-append files (program_step files state x).0 xs ys
+state_from-append files state (x ∷ xs) ys = state_from-append files (statement_step files state x).0 xs ys
 
 -- how two lists of statements are read
 reads-append : (xs ys : List Statement) (rs ts : List (ℕ × Read)) → AreReadAs xs rs → AreReadAs ys ts → AreReadAs (xs ++ ys) (rs ++ ts)
@@ -100,14 +100,14 @@ pub run_goes_on : (files : FileMap) (before now next : Option (List ℕ)) (state
     → RunSoFar files before next state' (flaw || found) all rest
 run_goes_on files before now next state state' flaw found all rest s told is so w =
     let r : ℕ × Read = (s.line, w.0) in
-    let meant = program_step files state r in
+    let meant = statement_step files state r in
     let here = w.2 files is in
     record {
       ran = so.ran ++ s ∷ [];
       parts = so.parts ∙ sym (append_assoc so.ran (s ∷ []) rest);
       reads = so.reads ++ r ∷ [];
       are_read = reads-append so.ran (s ∷ []) so.reads (r ∷ []) so.are_read (refl, w.1, tt);
-      stands = state_from-append files nothing so.reads (r ∷ []) ∙ ap (λ (st : State). (program_step files st r).0) so.stands ∙ sym here.0;
+      stands = state_from-append files nothing so.reads (r ∷ []) ∙ ap (λ (st : State). (statement_step files st r).0) so.stands ∙ sym here.0;
       behind = next_behind so.reads all rest s w.0 w.1 so.behind;
       done = so.done ++ meant.1;
       lines = λ rs.
@@ -131,7 +131,7 @@ run_cut files before now next state flaw all rest s told is so cut lines printed
     by (x ∷ xs) p e =
         let r : ℕ × Read = (s.line, x.1) in
         let first : x ≡ r = at_line s.tokens s.line x r p.0 refl p.1 p.1 in
-        let meant = program_step files state r in
+        let meant = statement_step files state r in
         let others = lines_from files meant.0 xs in
         let all_lines : lines ≡ so.done ++ (meant.1 ++ others) = e ∙ ap (λ y. so.done ++ lines_from files state (y ∷ xs)) first in
         let text : text_of so.done ++ (text_of meant.1 ++ text_of others) ≡ text_of lines =

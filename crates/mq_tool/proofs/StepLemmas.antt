@@ -31,7 +31,7 @@ use Rattle.mq_ready_laws.specs.ReadyLaws.{BoundQueryIsReady, BoundViewIsReady, C
 use Rattle.mq_tool.specs.declared.stops.Stop.{Stop}
 use Rattle.mq_tool.specs.declared.stops.Stop.TheVariants as stop
 use Rattle.mq_tool.specs.Loads.{FileMap}
-use Rattle.mq_tool.specs.Script.{IsReadAs, NoTree, Read, Tree, built, is_built, meaning, or_refusal, program_step}
+use Rattle.mq_tool.specs.Script.{IsReadAs, NoTree, Read, Tree, meaning, or_refusal, statement_step}
 use Rattle.mq_tool.specs.Needs.{CanRun, IsLoadBound}
 use Rattle.mq_tool.specs.Statements.{after_refusal, taken}
 use Rattle.mq_tool.specs.Steps.{CutShort, Does, Ends, Finds, Steps, Takes, Tries, Writes, stop_of}
@@ -39,14 +39,14 @@ use Rattle.mq_tool.proofs.BoundLemmas.{IsKnown, bound_is_known}
 use Rattle.mq_tool.proofs.CatalogLemmas.{has_room, no_scenario, no_view, not_there}
 use Rattle.mq_tool.proofs.ReadLemmas.{one_read}
 
--- what a statement that is done already is bound to can be done
-pub can_run : (state : State) (s : Stmt) (b : Bound) → is_built s ≡ true → statement_bound (catalog_of state) s ≡ Ok b
+-- what a statement is bound to can be done
+pub can_run : (state : State) (s : Stmt) (b : Bound) → statement_bound (catalog_of state) s ≡ Ok b
     → ((def : TableDef) → CreatedTableIsNew (catalog_of state) s def)
     → ((name : List ℕ) (q : BoundQuery) → CreatedViewIsNew (catalog_of state) s name q)
     → ((q : BoundQuery) → BoundQueryIsReady (catalog_of state) s q)
     → ((name : List ℕ) (q : BoundQuery) → BoundViewIsReady (catalog_of state) s name q)
     → CanRun state b
-can_run state s b built e tables named queries views = by b (bound_is_known (catalog_of state) s b built e) e
+can_run state s b e tables named queries views = by b (bound_is_known (catalog_of state) s b e) e
   where
     by : (b : Bound) → IsKnown (catalog_of state) b → statement_bound (catalog_of state) s ≡ Ok b → CanRun state b
     by (bound.CreateTable def) d e = not_there state def.name (tables def e)
@@ -64,7 +64,7 @@ can_run state s b built e tables named queries views = by b (bound_is_known (cat
     by (bound.DropScenario name) d e = tt
     by (bound.Under name change) d e = has_room state name d
     by (bound.Compare view names) d e = tt
-    by (bound.ExplainCell asked) d e = absurd d
+    by (bound.ExplainCell asked) d e = tt
 
 -- the answer of a view that is there or not, and what SHOW prints of it
 abbrev answered : State → Option View → List ℕ → Result Answer NoView
@@ -100,16 +100,10 @@ pub answer_taken : (meant : Result Printed Refused) (old new : State) (a : Answe
     → after ≡ before ++ text_of (answer_lines a) → flaw ≡ list_any is_flaw (answer_lines a) → Takes meant old new before after (Ok flaw)
 answer_taken meant old new a flaw before after e n t f = ((old, answer_lines a), e, (n, t, f))
 
--- a statement that is done already is taken as what it is read as
-built_is : (s : Stmt) → is_built s ≡ true → built (Tree s) ≡ Tree s
-built_is s h = ap (λ b. if b then Tree s else NoTree) h
-
 -- a statement that was bound is taken as its tokens mean it
-meant_by : (files : FileMap) (state : State) (line : ℕ) (s : Stmt) (b : Bound) → is_built s ≡ true → statement_bound (catalog_of state) s ≡ Ok b
-    → meaning files state (line, built (Tree s)) ≡ taken files state line b
-meant_by files state line s b h e =
-    ap (λ (r : Read). meaning files state (line, r)) (built_is s h)
-    ∙ ap (λ (r : Result Bound Refused). r >>= taken files state line) e
+meant_by : (files : FileMap) (state : State) (line : ℕ) (s : Stmt) (b : Bound) → statement_bound (catalog_of state) s ≡ Ok b
+    → meaning files state (line, Tree s) ≡ taken files state line b
+meant_by files state line s b e = ap (λ (r : Result Bound Refused). r >>= taken files state line) e
 
 -- a count that was refused, with nothing changed
 pub count_refused : (f : ℕ → Printed) (meant : Result Printed Refused) (old new : State) (before : List ℕ) (e : Fail Refused) → Gives (result_map f (Err e)) meant
@@ -132,34 +126,34 @@ stopped_otherwise (fail.Cause r) h = absurd cc
 stopped_otherwise fail.Memory h = absurd cc
 
 pub tried : (s : Statement) (told : Option FileMap) (old new : State) (before after : List ℕ) (t : Stmt) (b : Bound) (result : Result Bool Stop)
-    → IsReadAs s.tokens (Tree t) × (is_built t ≡ true) → statement_bound (catalog_of old) t ≡ Ok b
+    → IsReadAs s.tokens (Tree t) → statement_bound (catalog_of old) t ≡ Ok b
     → ((files : FileMap) → told ≡ Some files → Ends (taken files old s.line b) old new before after result)
     → (IsErrOf result stop.NotFetched → IsLoadBound b) → (IsErrOf result stop.NotFetched → (new ≡ old) × (after ≡ before))
     → Tries s told old new before after result
 tried s told old new before after t b (Ok flaw) is e h load same = (
   Tree t,
-  is.0,
-  λ files f. subst (λ (m : Result Printed Refused). Ends m old new before after (Ok flaw)) (sym (meant_by files old s.line t b is.1 e)) (h files f),
+  is,
+  λ files f. subst (λ (m : Result Printed Refused). Ends m old new before after (Ok flaw)) (sym (meant_by files old s.line t b e)) (h files f),
 )
 tried s told old new before after t b (Err stop.Memory) is e h load same = tt
 tried s told old new before after t b (Err stop.NotFetched) is e h load same =
     let l = load refl in
     let kept = same refl in
-    (Tree t, is.0, (l.0, l.1, e ∙ ap Ok l.2), kept.0, kept.1)
+    (Tree t, is, (l.0, l.1, e ∙ ap Ok l.2), kept.0, kept.1)
 tried s told old new before after t b (Err (stop.Refused r)) is e h load same = (
   Tree t,
-  is.0,
-  λ files f. subst (λ (m : Result Printed Refused). Ends m old new before after (Err (stop.Refused r))) (sym (meant_by files old s.line t b is.1 e)) (h files f),
+  is,
+  λ files f. subst (λ (m : Result Printed Refused). Ends m old new before after (Err (stop.Refused r))) (sym (meant_by files old s.line t b e)) (h files f),
 )
 
-pub not_bound : (s : Statement) (told : Option FileMap) (old : State) (before : List ℕ) (t : Stmt) (e : Fail Refused) → IsReadAs s.tokens (Tree t) × (is_built t ≡ true)
+pub not_bound : (s : Statement) (told : Option FileMap) (old : State) (before : List ℕ) (t : Stmt) (e : Fail Refused) → IsReadAs s.tokens (Tree t)
     → Gives (Err e) (statement_bound (catalog_of old) t) → Tries s told old old before before (Err (stop_of e))
 not_bound s told old before t fail.Memory is h = tt
 not_bound s told old before t (fail.Cause r) is h = (
   Tree t,
-  is.0,
+  is,
   λ files f. (
-    ap (λ (r : Read). meaning files old (s.line, r)) (built_is t is.1) ∙ ap (λ (m : Result Bound Refused). m >>= taken files old s.line) h,
+    ap (λ (m : Result Bound Refused). m >>= taken files old s.line) h,
     refl,
     refl,
   ),
@@ -208,4 +202,4 @@ pub cut_at : (s : Statement) (told : Option FileMap) (old new : State) (before a
     → Does s told old new [] text flaw → AppendsFront before after text → CutShort s told old before after
 cut_at s told old new before after text flaw d a files read t is =
     let same : read ≡ d.0 = one_read s.tokens read d.0 is d.1 in
-    subst (AppendsFront before after) ((d.2 files t).1 ∙ ap (λ (r : Read). text_of (program_step files old (s.line, r)).1) (sym same)) a
+    subst (AppendsFront before after) ((d.2 files t).1 ∙ ap (λ (r : Read). text_of (statement_step files old (s.line, r)).1) (sym same)) a

@@ -12,14 +12,13 @@ use Rattle.mq_ir.specs.Tables.{table_at}
 use Rattle.mq_engine.specs.Catalogs.{catalog_of}
 
 -- What the engine asks of a bound statement: a table, a view or a scenario is new, a query is ready, and a scenario has room for one
--- more change. A cell is not explained yet.
+-- more change.
 abbrev pub CanRun : State → Bound → Type 0
 CanRun state (bound.CreateTable def) = table_at state.tables def.name ≡ None
 CanRun state (bound.CreateView name query) = (is_view (catalog_of state) name ≡ false) × QueryIsReady query
 CanRun state (bound.Query query) = QueryIsReady query
 CanRun state (bound.CreateScenario name) = is_scenario (catalog_of state) name ≡ false
 CanRun state (bound.Under name change) = length (changes_at state name) < MAX_SCENARIO_CHANGES
-CanRun state (bound.ExplainCell asked) = ⊥
 CanRun state _ = ⊤
 
 -- the same of a statement that is no LOAD

@@ -1,5 +1,5 @@
 -- What a script prints.
-use Rattle.std.specs.Prelude.{◌≡◌, ◌⊎◌, ◌≤◌, ⊤, ℕ, List, [], ◌∷◌, ◌++◌, length, map, Bool, true, false, Option, Result, Ok, Err, IsUtf8, if◌then◌else◌}
+use Rattle.std.specs.Prelude.{◌≡◌, ◌⊎◌, ◌≤◌, ⊤, ℕ, List, [], ◌∷◌, ◌++◌, length, map, Option, Result, Ok, Err, IsUtf8, if◌then◌else◌}
 use Rattle.std.specs.List.{list_any}
 use Rattle.std.specs.Io.KnownBytes.{Appends}
 use Rattle.mq_values.specs.declared.faults.Refused.{Refused}
@@ -9,7 +9,6 @@ use Rattle.mq_lexer.specs.Lexemes.{Lexeme}
 use Rattle.mq_lexer.specs.Statements.{Statement, statements}
 use Rattle.mq_lexer.specs.Tokens as lexer
 use Rattle.mq_ast.specs.declared.statements.Stmt.{Stmt}
-use Rattle.mq_ast.specs.declared.statements.Stmt.TheVariants as stmt
 use Rattle.mq_ast.specs.Prelude.{StmtE, Tok, tok}
 use Rattle.mq_parse_stmt.specs.Depth.{TooDeep}
 use Rattle.mq_ir.specs.declared.statement.Bound.TheVariants as bound
@@ -44,17 +43,6 @@ AreReadAs [] [] = ⊤
 AreReadAs (s ∷ ss) (r ∷ rs) = (r.0 ≡ s.line) × IsReadAs s.tokens r.1 × AreReadAs ss rs
 AreReadAs _ _ = ⊥
 
--- a statement that is done already: an explained cell is not yet
-abbrev pub is_built : Stmt → Bool
-is_built (stmt.ExplainCell view measure part cell) = false
-is_built _ = true
-
--- what the program takes tokens as: a statement that it does not do yet is none
-abbrev pub built : Read → Read
-built Deep = Deep
-built NoTree = NoTree
-built (Tree s) = if is_built s then Tree s else NoTree
-
 -- the tree, or why there is none
 abbrev pub tree_of : Read → Result Stmt Refused
 tree_of Deep = Err refused.TooDeep
@@ -74,18 +62,14 @@ or_refusal state line (Err refusal) = (after_refusal state line refusal, Refusal
 abbrev pub statement_step : FileMap → State → ℕ × Read → Printed
 statement_step files state r = or_refusal state r.0 (meaning files state r)
 
--- the step that the program takes
-abbrev pub program_step : FileMap → State → ℕ × Read → Printed
-program_step files state r = statement_step files state (r.0, built r.1)
-
 -- the state after statements, one after another, from this state on, and their lines
 abbrev pub state_from : FileMap → State → List (ℕ × Read) → State
 state_from files state [] = state
-state_from files state (r ∷ rs) = state_from files (program_step files state r).0 rs
+state_from files state (r ∷ rs) = state_from files (statement_step files state r).0 rs
 
 abbrev pub lines_from : FileMap → State → List (ℕ × Read) → List Line
 lines_from files state [] = []
-lines_from files state (r ∷ rs) = (program_step files state r).1 ++ lines_from files (program_step files state r).0 rs
+lines_from files state (r ∷ rs) = (statement_step files state r).1 ++ lines_from files (statement_step files state r).0 rs
 
 -- bytes that are a script: not too many, and UTF-8
 abbrev pub IsScript : List ℕ → Type 0

@@ -1,5 +1,5 @@
 -- What the parts of a run give.
-use Rattle.std.specs.Prelude.{◌≡◌, ⊤, ℕ, Bool, true, List, ◌++◌, Option, None, Some, Result, Ok, Err}
+use Rattle.std.specs.Prelude.{◌≡◌, ⊤, ℕ, Bool, List, ◌++◌, Option, None, Some, Result, Ok, Err}
 use Rattle.std.specs.List.{list_any}
 use Rattle.std.specs.Io.KnownBytes.{Appends}
 use Rattle.mq_io.specs.Progress.{AppendsFront}
@@ -17,17 +17,17 @@ use Rattle.mq_tool.specs.declared.stops.Stop.{Stop}
 use Rattle.mq_tool.specs.declared.stops.Stop.TheVariants as stop
 use Rattle.mq_tool.specs.Loads.{FileMap}
 use Rattle.mq_tool.specs.Statements.{inside}
-use Rattle.mq_tool.specs.Script.{ArePrinted, IsLoad, IsReadAs, Read, Tree, built, is_built, meaning, program_step, tree_of}
+use Rattle.mq_tool.specs.Script.{ArePrinted, IsLoad, IsReadAs, Read, Tree, meaning, statement_step, tree_of}
 
 -- why a statement stops that was refused, or found no memory
 abbrev pub stop_of : Fail Refused → Stop
 stop_of (fail.Cause refusal) = stop.Refused refusal
 stop_of fail.Memory = stop.Memory
 
--- What tokens are read as, with the tree where they have one that is done already. Want of memory says nothing.
+-- What tokens are read as, with the tree where they have one. Want of memory says nothing.
 abbrev pub Finds : List Lexeme → Result Stmt (Fail Refused) → Type 0
-Finds tokens (Ok s) = IsReadAs tokens (Tree s) × (is_built s ≡ true)
-Finds tokens (Err (fail.Cause refusal)) = (read : Read) × IsReadAs tokens read × (tree_of (built read) ≡ Err refusal)
+Finds tokens (Ok s) = IsReadAs tokens (Tree s)
+Finds tokens (Err (fail.Cause refusal)) = (read : Read) × IsReadAs tokens read × (tree_of read ≡ Err refusal)
 Finds tokens (Err fail.Memory) = ⊤
 
 -- a change is of the tables, or of those that are pending in a block
@@ -59,7 +59,7 @@ Ends meant old new before after (Err _) = ⊤
 abbrev pub Tried : Statement → Option FileMap → State → State → List ℕ → List ℕ → Result Bool Stop → Type 0
 Tried s told old new before after result =
     (read : Read) × IsReadAs s.tokens read
-    × ((files : FileMap) → told ≡ Some files → Ends (meaning files old (s.line, built read)) old new before after result)
+    × ((files : FileMap) → told ≡ Some files → Ends (meaning files old (s.line, read)) old new before after result)
 
 -- a statement that is a LOAD, at which nothing was done
 abbrev pub NotLoaded : List Lexeme → State → State → List ℕ → List ℕ → Type 0
@@ -74,7 +74,7 @@ Tries s told old new before after result = Tried s told old new before after res
 abbrev pub Does : Statement → Option FileMap → State → State → List ℕ → List ℕ → Bool → Type 0
 Does s told old new before after flaw =
     (read : Read) × IsReadAs s.tokens read
-    × ((files : FileMap) → told ≡ Some files → Steps (program_step files old (s.line, read)) new before after flaw)
+    × ((files : FileMap) → told ≡ Some files → Steps (statement_step files old (s.line, read)) new before after flaw)
 
 -- a statement is a LOAD
 abbrev pub IsLoadAt : Statement → State → Type 0
@@ -84,14 +84,14 @@ IsLoadAt s state = (read : Read) × IsReadAs s.tokens read × IsLoad state read
 abbrev pub Writes : Statement → Option FileMap → State → State → Option (List ℕ) → Option (List ℕ) → Bool → Type 0
 Writes s told old new before after flaw =
     (read : Read) × IsReadAs s.tokens read
-    × ((files : FileMap) → told ≡ Some files → let meant = program_step files old (s.line, read) in
+    × ((files : FileMap) → told ≡ Some files → let meant = statement_step files old (s.line, read) in
     (new ≡ meant.0) × Appends before after (text_of meant.1) × (flaw ≡ list_any is_flaw meant.1))
 
 -- however the statement is read, a front of its lines is written
 abbrev pub CutShort : Statement → Option FileMap → State → Option (List ℕ) → Option (List ℕ) → Type 0
 CutShort s told old before after =
     (files : FileMap) (read : Read) → told ≡ Some files → IsReadAs s.tokens read
-    → AppendsFront before after (text_of (program_step files old (s.line, read)).1)
+    → AppendsFront before after (text_of (statement_step files old (s.line, read)).1)
 
 -- these statements have lines, all of which were written, and it is said whether one of them is a flaw
 abbrev pub WritesAll : FileMap → List Statement → Option (List ℕ) → Option (List ℕ) → Bool → Type 0

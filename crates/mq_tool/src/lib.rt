@@ -6,6 +6,7 @@
 mod blocks;
 mod changes;
 mod commands;
+mod explaining;
 mod generated;
 mod laws;
 mod loads;

@@ -1,12 +1,11 @@
 //! What the tokens of a statement are read as, and what a statement is bound to.
 
-ghost use Rattle.std.specs.Prelude.{◌≡◌, true, map, IfOk};
+ghost use Rattle.std.specs.Prelude.{map, IfOk};
 ghost use Rattle.mq_values.specs.Answers.{Gives};
 ghost use Rattle.mq_lexer.specs.Lexemes.{lexeme};
 ghost use Rattle.mq_binder.specs.StatementWalk.{statement_bound};
 ghost use Rattle.mq_engine.specs.Catalogs.{catalog_of};
 ghost use Rattle.mq_tool.specs.Needs.{CanRun};
-ghost use Rattle.mq_tool.specs.Script as spec;
 ghost use Rattle.mq_tool.specs.Steps.{Finds};
 
 use mq_ast::Stmt;
@@ -22,28 +21,16 @@ use mq_values::{Boxed, Fail, Refused};
 use std::alloc::Global;
 
 /// The statement that the tokens are read as. `TOO_DEEP` comes exactly where they nest too deep, and else `SYNTAX` exactly
-/// where no statement reads them, or one that is not done yet (docs/MEANING.md, "Scripts").
+/// where no statement reads them (docs/MEANING.md, "Scripts").
 pub fn read(alloc: Global, tokens: &[Token<'_>]) -> Result<Boxed<Stmt>, Fail<Refused>>
     ensures { Finds (map lexeme tokens.now) result }
 {
-    let tree = parse(alloc, tokens)?;
-    if !is_built(&tree) {
-        return Err(Fail::Cause(Refused::Syntax));
-    }
-    Ok(Boxed::new(alloc, tree)?)
+    Ok(Boxed::new(alloc, parse(alloc, tokens)?)?)
 }
 
-// Whether a statement is done already: an explained cell is not yet.
-fn is_built(tree: &Stmt) -> bool
-    ensures { result ≡ spec.is_built tree.now }
-{
-    !matches!(tree, Stmt::ExplainCell { .. })
-}
-
-/// What a statement that is done already is bound to under the names that stand, or its first offence. What it is bound to
+/// What a statement is bound to under the names that stand, or its first offence. What it is bound to
 /// can be done.
 pub fn bound_of(alloc: Global, engine: &Engine, tree: &Stmt) -> Result<Bound, Fail<Refused>>
-    requires { spec.is_built tree.now ≡ true }
     ensures exact { Gives result (statement_bound (catalog_of engine.now) tree.now) }
     ensures can_run { IfOk result (CanRun engine.now) }
 {

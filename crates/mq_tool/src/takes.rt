@@ -15,6 +15,7 @@ ghost use Rattle.mq_tool.specs.Steps.{Takes};
 
 use crate::blocks::{begin, take_in_block};
 use crate::changes::do_change;
+use crate::explaining::explain;
 use crate::scenarios::{compare, create_scenario, drop_scenario, take_in};
 use mq_engine::Engine;
 use mq_io::Gate;
@@ -87,8 +88,9 @@ fn take_lent<G: Gate>(
         Bound::Commit | Bound::Rollback => Err(Fail::Cause(Refused::NoBlock)),
         Bound::CreateScenario(name) => create_scenario(alloc, engine, name, out),
         Bound::DropScenario(name) => drop_scenario(engine, name, out),
-        Bound::Compare(view, names) => { compare(alloc, engine, view, names.as_slice(), out, gate) }
-        // Those of which it keeps a part, LOAD, and the one that is not done yet do not come.
+        Bound::Compare(view, names) => compare(alloc, engine, view, names.as_slice(), out, gate),
+        Bound::ExplainCell(asked) => explain(alloc, engine, asked, out, gate),
+        // Those of which it keeps a part, and LOAD, do not come.
         _ => Err(Fail::Cause(Refused::Syntax)),
     }
 }

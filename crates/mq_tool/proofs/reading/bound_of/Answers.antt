@@ -24,7 +24,7 @@ returns-clause-can_run c =
     by (Ok b) g =
         let names = catalog_of c.args.engine.now in
         let tree = c.args.tree.now in
-        can_run c.args.engine.now tree b c.requires g (c.created_tables_are_new.ensures names tree) (c.created_views_are_new.ensures names tree)
+        can_run c.args.engine.now tree b g (c.created_tables_are_new.ensures names tree) (c.created_views_are_new.ensures names tree)
         (c.queries_are_ready.ensures names tree)
         (c.views_are_ready.ensures names tree)
     by (Err e) g = tt

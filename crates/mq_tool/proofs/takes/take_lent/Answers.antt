@@ -36,3 +36,6 @@ returns-in-Compare g c =
     λ files. rw c.in-Compare.is
     (subst (λ (names : List (List ℕ)). Takes (compare_step old c.in-Compare.view names) old old c.args.out.now.items c.compare.new.out.items c.compare.result) c.as_slice.ensures
     (c.compare.ensures files c.args.line))
+
+pub returns-in-ExplainCell : goal.returns-in-ExplainCell
+returns-in-ExplainCell g c = λ files. rw c.in-ExplainCell.is (c.explain.ensures files c.args.line)
