@@ -1,9 +1,9 @@
 -- Rows of which some are gone: those that are left come together at the front.
-use Rattle.std.proofs.Common.{◌≡◌, ℕ, ◌+◌, ◌<◌, ◌≤◌, List, [], ◌∷◌, ◌++◌, Bool, true, false, length, map, take, drop, get_or, set, Result, Ok, Err, refl, sym, ap, ◌∙◌, arith, length-append, ◌⊎◌, inl, inr}
+use Rattle.std.proofs.Common.{◌≡◌, ℕ, zero, suc, ◌+◌, ◌-◌, ◌<◌, ◌≤◌, append_assoc, replicate, subst, List, [], ◌∷◌, ◌++◌, Bool, true, false, length, map, take, drop, get_or, set, Result, Ok, Err, refl, sym, ap, ◌∙◌, arith, length-append, ◌⊎◌, inl, inr}
 use Rattle.std.specs.Prelude.{if◌then◌else◌}
 use Rattle.std.specs.List.{SwappedAt, enumerate_from}
 use Rattle.std.proofs.lemmas.Bool.{cases_lt}
-use Rattle.std.proofs.lemmas.List.{append-nil, drop-drop, drop-set-lt, get_or-drop, get_or_default, length-set, length-take-le, map_push, set-set, take-set-le, take_more, take_more_set}
+use Rattle.std.proofs.lemmas.List.{append-nil, drop-drop, drop-set-lt, get_or-drop, get_or_default, length-map, length-set, length-take-le, map_push, set-set, take-set-le, take_more, take_more_set}
 use Rattle.mq_values.specs.declared.faults.Refused.{Refused}
 use Rattle.mq_ir.specs.declared.statement.Schema.{Schema}
 use Rattle.mq_ir.specs.Changes.{Visited, row_key, visited_as}
@@ -117,6 +117,10 @@ module _ (schema : Schema) (f : ℕ × Tuple → Result Visited Refused) (xs : L
   pub taking_start : (flags : List Bool) (keys : List Tuple) (rows : List (ℕ × Tuple)) → flags ≡ [] → keys ≡ [] → rows ≡ [] → Taking 0 flags keys rows
   taking_start flags keys rows a k r = record { visited = []; walk = number_start f xs [] refl; count = refl; flags_are = a; keys_are = k; rows_are = r ∙ sym (none_taken xs) }
 
+  -- as many are told as were visited
+  pub taking_length : (i : ℕ) (flags : List Bool) (keys : List Tuple) (rows : List (ℕ × Tuple)) → Taking i flags keys rows → length flags ≡ i
+  taking_length i flags keys rows t = ap length t.flags_are ∙ length-map t.visited (λ (row : Visited). row.1) ∙ t.count
+
   module _ (i : ℕ) (flags after : List Bool) (keys : List Tuple) (rows : List (ℕ × Tuple)) (x : Tuple) (h : i < length xs) (e : x ≡ get_or xs i x) (t : Taking i flags keys rows) where
     next : (b : Bool) (more : List Tuple) (gone : List (ℕ × Tuple)) → f (i + 1, x) ≡ Ok (x, b) → after ≡ flags ++ b ∷ []
         → more ≡ map (row_key schema) (visited_as true (t.visited ++ (x, b) ∷ [])) → gone ≡ rows ++ (if b then (i, x) ∷ [] else []) → Taking (i + 1) after more gone
@@ -142,6 +146,35 @@ module _ (schema : Schema) (f : ℕ × Tuple → Result Visited Refused) (xs : L
 
     pub taking_left : f (i + 1, x) ≡ Ok (x, false) → after ≡ flags ++ false ∷ [] → Taking (i + 1) after keys rows
     taking_left g a = next false keys rows g a (t.keys_are ∙ sym (ap (map (row_key schema)) (chosen_same t.visited x))) (sym (append-nil rows))
+
+  -- rows that are left, one behind another
+  taking_over : (k i : ℕ) (flags : List Bool) (keys : List Tuple) (rows : List (ℕ × Tuple)) → i + k ≤ length xs → ((at : ℕ) (x : Tuple) → at < length xs → x ≡ get_or xs at x → i ≤ at → at < i + k → f (at + 1, x) ≡ Ok (x, false))
+      → Taking i flags keys rows → Taking (i + k) (flags ++ replicate k false) keys rows
+  taking_over zero i flags keys rows h g t =
+      subst (λ n. Taking n (flags ++ []) keys rows) (let e : i ≡ i + 0 = omega arith in e) (subst (λ l. Taking i l keys rows) (sym (append-nil flags)) t)
+  taking_over (suc k) i flags keys rows h g t =
+      let x = get_or xs i [] in
+      let l : i < length xs = omega (arith, h) in
+      let e : x ≡ get_or xs i x = get_or_default xs i [] x l in
+      subst (λ n. Taking n (flags ++ replicate (suc k) false) keys rows) (let m : (i + 1) + k ≡ i + suc k = omega arith in m)
+      (subst (λ l. Taking ((i + 1) + k) l keys rows) (append_assoc flags (false ∷ []) (replicate k false))
+      (taking_over k (i + 1) (flags ++ false ∷ []) keys rows (omega (arith, h)) (λ at y a b c d. g at y a b (omega (arith, c)) (omega (arith, d)))
+      (taking_left i flags (flags ++ false ∷ []) keys rows x l e t (g i x l e (omega arith) (omega arith)) refl)))
+
+  pub taking_front : (n : ℕ) (flags after : List Bool) (keys : List Tuple) (rows : List (ℕ × Tuple)) → n ≤ length xs → ((at : ℕ) (x : Tuple) → at < length xs → x ≡ get_or xs at x → at < n → f (at + 1, x) ≡ Ok (x, false))
+      → flags ≡ [] → after ≡ flags ++ replicate (n - length flags) false → keys ≡ [] → rows ≡ [] → Taking n after keys rows
+  taking_front n flags after keys rows h g p a k r =
+      let all : after ≡ replicate n false = a ∙ ap (λ (l : List Bool). l ++ replicate (n - length l) false) p ∙ ap (λ (k : ℕ). replicate k false) (let z : n - 0 ≡ n = omega arith in z) in
+      subst (λ l. Taking n l keys rows) (sym all)
+      (subst (λ m. Taking m (replicate n false) keys rows) (let m : 0 + n ≡ n = omega arith in m)
+      (taking_over n 0 [] keys rows (omega (arith, h)) (λ at x a b c d. g at x a b (omega (arith, d))) (taking_start [] keys rows refl k r)))
+
+  pub taking_back : (i : ℕ) (flags after : List Bool) (keys : List Tuple) (rows : List (ℕ × Tuple)) → i ≤ length xs → ((at : ℕ) (x : Tuple) → at < length xs → x ≡ get_or xs at x → i ≤ at → f (at + 1, x) ≡ Ok (x, false))
+      → after ≡ flags ++ replicate (length xs - length flags) false → Taking i flags keys rows → Taking (length xs) after keys rows
+  taking_back i flags after keys rows h g a t =
+      subst (λ l. Taking (length xs) l keys rows) (sym (a ∙ ap (λ n. flags ++ replicate (length xs - n) false) (taking_length i flags keys rows t)))
+      (subst (λ m. Taking m (flags ++ replicate (length xs - i) false) keys rows) (let m : i + (length xs - i) ≡ length xs = omega (arith, h) in m)
+      (taking_over (length xs - i) i flags keys rows (omega (arith, h)) (λ at x a b c d. g at x a b c) t))
 
   pub taking_fault : (i : ℕ) (flags : List Bool) (keys : List Tuple) (rows : List (ℕ × Tuple)) (x : Tuple) (fault : Refused) → i < length xs → x ≡ get_or xs i x → f (i + 1, x) ≡ Err fault
       → Taking i flags keys rows → (each f (enumerate_from 1 xs) >>= (λ visited. Ok (gone schema xs visited))) ≡ Err fault

@@ -4,6 +4,7 @@ pub mod ChangingLemmas
 pub mod FitLemmas
 pub mod HeldLemmas
 pub mod HeldStandLemmas
+pub mod GroupLemmas
 pub mod HoldLemmas
 pub mod JudgeLemmas
 pub mod KeyLemmas
@@ -11,17 +12,17 @@ pub mod KeyOrderLemmas
 pub mod KeyedLemmas
 pub mod LeftLemmas
 pub mod LoseLemmas
-pub mod MarkLemmas
 pub mod NoteLemmas
 pub mod OldPlaceLemmas
 pub mod OwnLemmas
 pub mod PendingLemmas
 pub mod PutLemmas
 pub mod RemovalLemmas
+pub mod SeekLemmas
 pub mod SetLemmas
-pub mod SieveLemmas
 pub mod SparedLemmas
 pub mod StageLemmas
 pub mod StandLemmas
 pub mod VisitLemmas
 pub mod Walks
+pub mod WantedLemmas

@@ -1,9 +1,9 @@
 -- Rows that are put in the place of others.
-use Rattle.std.proofs.Common.{◌≡◌, ℕ, ◌+◌, ◌<◌, ◌≤◌, get_or, List, [], ◌∷◌, ◌++◌, Bool, true, false, length, map, Option, Some, None, Result, Ok, Err, refl, sym, ap, ◌∙◌, arith, length-append}
+use Rattle.std.proofs.Common.{◌≡◌, ℕ, zero, suc, ◌+◌, ◌-◌, ◌<◌, ◌≤◌, subst, get_or, List, [], ◌∷◌, ◌++◌, Bool, true, false, length, map, Option, Some, None, Result, Ok, Err, refl, sym, ap, ◌∙◌, arith, length-append}
 use Rattle.std.specs.Prelude.{if◌then◌else◌, slice_set}
 use Rattle.std.specs.List.{enumerate_from, filter}
 use Rattle.std.proofs.lemmas.List.Elements.{filter-append}
-use Rattle.std.proofs.lemmas.List.{append-nil, map_push}
+use Rattle.std.proofs.lemmas.List.{append-nil, get_or_default, map_push}
 use Rattle.mq_values.specs.declared.faults.Refused.{Refused}
 use Rattle.mq_ir.specs.Changes.{Visited}
 use Rattle.mq_ir.specs.Keys.{Tuple}
@@ -102,6 +102,29 @@ module _ (f : ℕ × Tuple → Result Visited Refused) (xs : List Tuple) where
         by : (s : Result Visited Refused) → f (i + 1, x) ≡ s → (s >>= (λ v. Ok (if_true v))) ≡ Err fault → f (i + 1, x) ≡ Err fault
         by (Ok v) k m = absurd (cc)
         by (Err d) k m = k ∙ ap Err (let q : d ≡ fault = cc in q)
+
+  -- rows that are left, one behind another
+  replacing_over : (k i : ℕ) (puts were : List (ℕ × Tuple)) → i + k ≤ length xs → ((at : ℕ) (x : Tuple) → at < length xs → x ≡ get_or xs at x → i ≤ at → at < i + k → f (at + 1, x) ≡ Ok (x, false))
+      → Replacing i puts were → Replacing (i + k) puts were
+  replacing_over zero i puts were h g r = subst (λ n. Replacing n puts were) (let e : i ≡ i + 0 = omega arith in e) r
+  replacing_over (suc k) i puts were h g r =
+      let x = get_or xs i [] in
+      let l : i < length xs = omega (arith, h) in
+      let e : x ≡ get_or xs i x = get_or_default xs i [] x l in
+      subst (λ n. Replacing n puts were) (let m : (i + 1) + k ≡ i + suc k = omega arith in m)
+      (replacing_over k (i + 1) puts were (omega (arith, h)) (λ at y a b c d. g at y a b (omega (arith, c)) (omega (arith, d))) (replacing_left i puts were x l e r (g i x l e (omega arith) (omega arith))))
+
+  pub replacing_front : (n : ℕ) (puts were : List (ℕ × Tuple)) → n ≤ length xs → ((at : ℕ) (x : Tuple) → at < length xs → x ≡ get_or xs at x → at < n → f (at + 1, x) ≡ Ok (x, false))
+      → puts ≡ [] → were ≡ [] → Replacing n puts were
+  replacing_front n puts were h g p w =
+      subst (λ m. Replacing m puts were) (let m : 0 + n ≡ n = omega arith in m)
+      (replacing_over n 0 puts were (omega (arith, h)) (λ at x a b c d. g at x a b (omega (arith, d))) (replacing_start puts were p w))
+
+  pub replacing_back : (i : ℕ) (puts were : List (ℕ × Tuple)) → i ≤ length xs → ((at : ℕ) (x : Tuple) → at < length xs → x ≡ get_or xs at x → i ≤ at → f (at + 1, x) ≡ Ok (x, false))
+      → Replacing i puts were → Replacing (length xs) puts were
+  replacing_back i puts were h g r =
+      subst (λ m. Replacing m puts were) (let m : i + (length xs - i) ≡ length xs = omega (arith, h) in m)
+      (replacing_over (length xs - i) i puts were (omega (arith, h)) (λ at x a b c d. g at x a b c) r)
 
   pub replacing_end : (i : ℕ) (puts were : List (ℕ × Tuple)) → length xs ≤ i → Replacing i puts were
       → (each f (enumerate_from 1 xs) >>= (λ visited. Ok (found xs visited))) ≡ Ok (record { puts = puts; were = were })

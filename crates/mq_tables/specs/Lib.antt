@@ -1,13 +1,14 @@
 pub mod Columns
+pub mod Groups
 pub mod Held
 pub mod InPlace
 pub mod KeyOrder
-pub mod Marks
 pub mod OldPlaces
 pub mod Pending
 pub mod Rows
-pub mod Sieves
+pub mod Seeking
 pub mod Sizes
 pub mod Staging
 pub mod Touching
 pub mod Visits
+pub mod Wanted

@@ -6,7 +6,8 @@ ghost use Rattle.mq_values.specs.Order.{cmp_key};
 ghost use Rattle.mq_ir.specs.Keys.{is_among};
 ghost use Rattle.mq_tables.specs.KeyOrder.{HoldsSame, Loses, LosesOne};
 
-use mq_values::{Key, Memory};
+use crate::numbered_key::NumberedKey;
+use mq_values::Memory;
 use std::alloc::Global;
 use std::collections::BTreeSet;
 use std::marker::Model;
@@ -17,7 +18,7 @@ const FEW: usize = 32;
 /// Keys, each greater than those before it. Contracts see them as their list.
 #[derive(Drop)]
 pub struct Ascending {
-    keys: Vec<Key>,
+    keys: Vec<NumberedKey>,
 }
 
 impl Model for Ascending {
@@ -44,7 +45,7 @@ impl Ascending {
     }
 
     /// The keys.
-    pub fn as_slice(&self) -> &[Key]
+    pub fn as_slice(&self) -> &[NumberedKey]
         ensures all { result.now ≡ self.now }
         ensures ascending { IsStrictlySortedBy cmp_key self.now }
     {
@@ -52,14 +53,22 @@ impl Ascending {
     }
 
     /// Whether a key is among these. Where it is greater than all of these that takes one comparison.
-    pub fn contains(&self, key: &Key) -> bool
+    pub fn contains(&self, key: &NumberedKey) -> bool
         ensures { result ≡ is_among self.now key.now }
     {
         !comes_behind(self.keys.as_slice(), key) && is_found(self.keys.as_slice(), key)
     }
 
+    /// The number of the row of a key, where it is among these. No answer rests on it.
+    pub fn number_of(&self, key: &NumberedKey) -> Option<usize> {
+        match self.keys.binary_search(key) {
+            Ok(at) => Some(self.keys[at].number()),
+            Err(_) => None,
+        }
+    }
+
     /// Whether a key is greater than all of these. No answer rests on `false`, which costs a search.
-    pub fn is_below(&self, key: &Key) -> bool
+    pub fn is_below(&self, key: &NumberedKey) -> bool
         ensures { result ≡ true → IsStrictlySortedBy cmp_key (self.now ++ key.now ∷ []) }
     {
         comes_behind(self.keys.as_slice(), key)
@@ -73,7 +82,7 @@ impl Ascending {
     }
 
     /// Puts a key to the end, which is greater than all of these.
-    pub fn push(&mut self, key: Key) -> Result<(), Memory>
+    pub fn push(&mut self, key: NumberedKey) -> Result<(), Memory>
         requires { IsStrictlySortedBy cmp_key (self.old ++ key ∷ []) }
         ensures { OnOk result (self.new ≡ self.old ++ key ∷ []) }
     {
@@ -91,7 +100,7 @@ impl Ascending {
     }
 
     /// The keys as an ordered set.
-    pub fn to_set(&self, alloc: Global) -> Result<BTreeSet<Key>, Memory>
+    pub fn to_set(&self, alloc: Global) -> Result<BTreeSet<NumberedKey>, Memory>
         ensures { IfOk result (λ keys. keys.keys ≡ self.now) }
     {
         ordered(alloc, self.keys.as_slice())
@@ -99,7 +108,7 @@ impl Ascending {
 
     /// Takes keys away: a few of them one by one, more of them in one pass, where there is memory for an ordered set of
     /// those. Whether it did; else nothing is changed.
-    pub fn lose(&mut self, gone: &[Key]) -> bool
+    pub fn lose(&mut self, gone: &[NumberedKey]) -> bool
         ensures lost { result ≡ true → Loses self.old gone.now self.new }
         ensures kept { result ≡ false → self.new ≡ self.old }
     {
@@ -114,7 +123,7 @@ impl Ascending {
         true
     }
 
-    fn into_vec(self) -> Vec<Key>
+    fn into_vec(self) -> Vec<NumberedKey>
         ensures { result.items ≡ self }
     {
         self.keys
@@ -122,7 +131,7 @@ impl Ascending {
 }
 
 // Whether a key is greater than the greatest of ascending ones.
-fn comes_behind(keys: &[Key], key: &Key) -> bool
+fn comes_behind(keys: &[NumberedKey], key: &NumberedKey) -> bool
     requires { IsStrictlySortedBy cmp_key keys.now }
     ensures { result ≡ true → IsStrictlySortedBy cmp_key (keys.now ++ key.now ∷ []) }
 {
@@ -132,14 +141,14 @@ fn comes_behind(keys: &[Key], key: &Key) -> bool
     }
 }
 
-fn is_greater(key: &Key, other: &Key) -> bool
+fn is_greater(key: &NumberedKey, other: &NumberedKey) -> bool
     ensures { result ≡ is_gt (cmp_key key.now other.now) }
 {
     key.cmp(other).is_gt()
 }
 
 // Whether the least of ascending keys is greater than the greatest of others.
-fn all_come_behind(keys: &[Key], others: &[Key]) -> bool
+fn all_come_behind(keys: &[NumberedKey], others: &[NumberedKey]) -> bool
     requires these { IsStrictlySortedBy cmp_key keys.now }
     requires those { IsStrictlySortedBy cmp_key others.now }
     ensures { result ≡ true → IsStrictlySortedBy cmp_key (keys.now ++ others.now) }
@@ -151,7 +160,7 @@ fn all_come_behind(keys: &[Key], others: &[Key]) -> bool
 }
 
 // Whether a key is among ascending ones, by halves.
-fn is_found(keys: &[Key], key: &Key) -> bool
+fn is_found(keys: &[NumberedKey], key: &NumberedKey) -> bool
     requires { IsStrictlySortedBy cmp_key keys.now }
     ensures { result ≡ is_among keys.now key.now }
 {
@@ -159,11 +168,11 @@ fn is_found(keys: &[Key], key: &Key) -> bool
 }
 
 // Ascending keys as an ordered set.
-fn ordered(alloc: Global, keys: &[Key]) -> Result<BTreeSet<Key>, Memory>
+fn ordered(alloc: Global, keys: &[NumberedKey]) -> Result<BTreeSet<NumberedKey>, Memory>
     requires { IsStrictlySortedBy cmp_key keys.now }
     ensures { IfOk result (λ set. set.keys ≡ keys.now) }
 {
-    let mut set: BTreeSet<Key> = BTreeSet::new(alloc);
+    let mut set: BTreeSet<NumberedKey> = BTreeSet::new(alloc);
     'keys: for key in keys {
         set.insert(key.copy()?)?;
     }
@@ -171,10 +180,10 @@ fn ordered(alloc: Global, keys: &[Key]) -> Result<BTreeSet<Key>, Memory>
 }
 
 // Keys as an ordered set.
-fn set_of(alloc: Global, keys: &[Key]) -> Result<BTreeSet<Key>, Memory>
+fn set_of(alloc: Global, keys: &[NumberedKey]) -> Result<BTreeSet<NumberedKey>, Memory>
     ensures { IfOk result (λ set. HoldsSame keys.now set.keys) }
 {
-    let mut set: BTreeSet<Key> = BTreeSet::new(alloc);
+    let mut set: BTreeSet<NumberedKey> = BTreeSet::new(alloc);
     'keys: for key in keys {
         set.insert(key.copy()?)?;
     }
@@ -182,7 +191,7 @@ fn set_of(alloc: Global, keys: &[Key]) -> Result<BTreeSet<Key>, Memory>
 }
 
 // Keeps the keys that are not among those that are gone.
-fn keep_others(keys: &mut Vec<Key>, gone: &BTreeSet<Key>)
+fn keep_others(keys: &mut Vec<NumberedKey>, gone: &BTreeSet<NumberedKey>)
     ensures left { Loses keys.old.items gone.now.keys keys.new.items }
     ensures ascending { IsStrictlySortedBy cmp_key keys.old.items → IsStrictlySortedBy cmp_key keys.new.items }
 {
@@ -190,7 +199,7 @@ fn keep_others(keys: &mut Vec<Key>, gone: &BTreeSet<Key>)
 }
 
 // Takes a key out of ascending ones, where it is among them.
-fn take_out(keys: &mut Vec<Key>, key: &Key)
+fn take_out(keys: &mut Vec<NumberedKey>, key: &NumberedKey)
     requires { IsStrictlySortedBy cmp_key keys.old.items }
     ensures lost { LosesOne key.now keys.old.items keys.new.items }
     ensures ascending { IsStrictlySortedBy cmp_key keys.new.items }
@@ -201,7 +210,7 @@ fn take_out(keys: &mut Vec<Key>, key: &Key)
 }
 
 // Takes keys out of ascending ones, one by one.
-fn take_each(keys: &mut Vec<Key>, gone: &[Key])
+fn take_each(keys: &mut Vec<NumberedKey>, gone: &[NumberedKey])
     requires { IsStrictlySortedBy cmp_key keys.old.items }
     ensures lost { Loses keys.old.items gone.now keys.new.items }
     ensures ascending { IsStrictlySortedBy cmp_key keys.new.items }

@@ -1,38 +1,33 @@
 //! The body of every change: it is made in place, on rows that its caller owns, all of it or nothing.
-ghost use Rattle.std.specs.Prelude.{◌≡◌, ◌≤◌, List, length, OnErr};
+ghost use Rattle.std.specs.Prelude.{◌≡◌, ◌≤◌, length, OnErr};
 ghost use Rattle.mq_values.specs.Answers.{Gives, result_map};
 ghost use Rattle.mq_values.specs.declared.limits.TheConstants.{MAX_ROWS};
 ghost use Rattle.mq_ir.specs.Changes.{rows_added};
-ghost use Rattle.mq_tables.specs.declared.marks.RowMark.{RowMark as Mark};
-ghost use Rattle.mq_tables.specs.Marks.{AreMarks};
 ghost use Rattle.mq_tables.specs.Touching as spec;
 
 use crate::columns::inserted_rows;
 use crate::keyed_rows::KeyedRows;
 use crate::keys::spares_key;
-use crate::marks::{RowMark, lose_marks, mark_rows};
 use crate::rows::row_copies;
+use crate::seeking::places_to_visit;
 use crate::touched::Touched;
 use crate::visits::{gone_rows, replaced_rows};
 use mq_ir::{Change, Expr, Row, Schema};
 use mq_values::{Fail, Items, Refused};
 use std::alloc::Global;
 
-/// Makes a change of the rows of a table that has this schema, where its size is judged, and tells what it touched. The
-/// marks are of the first rows, before and after it. After an error the rows are as before.
+/// Makes a change of the rows of a table that has this schema, where its size is judged, and tells what it touched. After an
+/// error the rows are as before.
 pub fn change_rows(
     alloc: Global,
     schema: &Schema,
     rows: &mut KeyedRows,
-    marks: &mut Vec<RowMark>,
     c: &Change,
 ) -> Result<Touched, Fail<Refused>>
     requires within { length rows.old ≤ MAX_ROWS }
     requires added { rows_added c.now ≤ MAX_ROWS }
-    requires marked { AreMarks schema.now rows.old marks.old.items }
     ensures exact { Gives (result_map (λ touched. (rows.new, touched)) result) (spec.made schema.now rows.old c.now) }
     ensures err { OnErr result (rows.new ≡ rows.old) }
-    ensures marked { AreMarks schema.now rows.new marks.new.items }
 {
     match c {
         Change::Insert { rows: new, .. } => {
@@ -44,9 +39,9 @@ pub fn change_rows(
             grow(alloc, schema, rows, Items::from_vec(new))
         }
         Change::Update { sets, filter, .. } => {
-            update(alloc, schema, rows, marks, sets.as_slice(), filter)
+            update(alloc, schema, rows, sets.as_slice(), filter)
         }
-        Change::Delete { filter, .. } => delete(alloc, schema, rows, marks, filter),
+        Change::Delete { filter, .. } => delete(alloc, schema, rows, filter),
     }
 }
 
@@ -59,7 +54,6 @@ fn grow(
 ) -> Result<Touched, Fail<Refused>>
     ensures exact { Gives (result_map (λ touched. (rows.new, touched)) result) (spec.made_behind schema.now rows.old new) }
     ensures err { OnErr result (rows.new ≡ rows.old) }
-    ensures marked { (marks : List Mark) → AreMarks schema.now rows.old marks → AreMarks schema.now rows.new marks }
 {
     let first = rows.as_slice().len();
     let count = new.len();
@@ -72,30 +66,19 @@ fn update(
     alloc: Global,
     schema: &Schema,
     rows: &mut KeyedRows,
-    marks: &mut Vec<RowMark>,
     sets: &[(u32, Expr)],
     filter: &Option<Expr>,
 ) -> Result<Touched, Fail<Refused>>
     requires within { length rows.old ≤ MAX_ROWS }
-    requires marked { AreMarks schema.now rows.old marks.old.items }
     ensures exact { Gives (result_map (λ touched. (rows.new, touched)) result) (spec.made_by_update schema.now sets.now filter.now rows.old) }
     ensures err { OnErr result (rows.new ≡ rows.old) }
-    ensures marked { AreMarks schema.now rows.new marks.new.items }
 {
-    mark_rows(schema, rows.as_slice(), marks);
-    let found = replaced_rows(
-        alloc,
-        schema,
-        sets,
-        filter,
-        rows.as_slice(),
-        marks.as_slice(),
-    )?;
+    let places = places_to_visit(alloc, schema, filter, rows);
+    let found = replaced_rows(alloc, schema, sets, filter, rows.as_slice(), places)?;
     if spares_key(sets, schema.key.as_slice()) {
         rows.put_same_keys(alloc, schema, found.puts)?;
         return Ok(Touched::Replaced(found.were));
     }
-    marks.clear();
     rows.put(alloc, schema, found.puts)?;
     Ok(Touched::Replaced(found.were))
 }
@@ -105,19 +88,15 @@ fn delete(
     alloc: Global,
     schema: &Schema,
     rows: &mut KeyedRows,
-    marks: &mut Vec<RowMark>,
     filter: &Option<Expr>,
 ) -> Result<Touched, Fail<Refused>>
     requires within { length rows.old ≤ MAX_ROWS }
-    requires marked { AreMarks schema.now rows.old marks.old.items }
     ensures exact { Gives (result_map (λ touched. (rows.new, touched)) result) (spec.made_by_delete schema.now filter.now rows.old) }
     ensures err { OnErr result (rows.new ≡ rows.old) }
-    ensures marked { AreMarks schema.now rows.new marks.new.items }
 {
-    mark_rows(schema, rows.as_slice(), marks);
-    let gone = gone_rows(alloc, schema, filter, rows.as_slice(), marks.as_slice())?;
+    let places = places_to_visit(alloc, schema, filter, rows);
+    let gone = gone_rows(alloc, schema, filter, rows.as_slice(), places)?;
     rows.lose(alloc, schema, gone.flags.as_slice(), gone.keys.as_slice())?;
-    lose_marks(marks, gone.flags.as_slice());
     Ok(Touched::Gone {
         flags: gone.flags,
         rows: gone.rows,

@@ -126,23 +126,6 @@ pub fn is_chosen(
     }
 }
 
-/// The same of a row that may be passed over, since it is known that it is not visited as true.
-pub fn is_chosen_unless(
-    alloc: Global,
-    passed: bool,
-    filter: &Option<Expr>,
-    number: u32,
-    row: &Row,
-) -> Result<bool, Fail<Refused>>
-    requires { passed ≡ true → spec.is_chosen filter.now (number, row.now) ≡ Ok false }
-    ensures { Gives result (spec.is_chosen filter.now (number, row.now)) }
-{
-    if passed {
-        return Ok(false);
-    }
-    is_chosen(alloc, filter, number, row)
-}
-
 // What SET puts into a column, over the row as it was.
 fn set_value(
     alloc: Global,

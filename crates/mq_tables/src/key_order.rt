@@ -1,10 +1,13 @@
 //! The keys of rows, kept in runs of which each is in order, so that one is found again.
-ghost use Rattle.std.specs.Prelude.{◌≡◌, ◌≤◌, [], ◌++◌, ◌||◌, true, false, not, map, length, flat_map, IfOk, OnOk};
+ghost use Rattle.std.specs.Prelude.{◌≡◌, ◌≤◌, [], ◌++◌, ◌||◌, true, false, not, map, length, flat_map, Some, IfSome, IfOk, OnOk};
 ghost use Rattle.mq_ir.specs.Changes as spec;
 ghost use Rattle.mq_ir.specs.Keys.{is_among};
+ghost use Rattle.mq_tables.specs.Groups.{AreAlike, AreLike};
 ghost use Rattle.mq_tables.specs.KeyOrder.{Adds, GrowsTo, HoldsBoth, HoldsSame, Loses, PutsTo, all_keys};
 
-use crate::keys::row_key;
+use crate::groups::have_groups_of;
+use crate::keys::numbered_key;
+use crate::numbered_key::NumberedKey;
 use crate::own_keys::OwnKeys;
 use mq_ir::{Row, Schema};
 use mq_values::{Fail, Items, Key, Memory, Refused, Shared};
@@ -19,7 +22,7 @@ const LONGER: usize = 2;
 // Keys in order, which many hold at once. Contracts see them as a list.
 #[derive(Drop)]
 struct Run {
-    keys: Arc<BTreeSet<Key>>,
+    keys: Arc<BTreeSet<NumberedKey>>,
 }
 
 impl Model for Run {
@@ -37,16 +40,21 @@ impl Model for Run {
 pub struct KeyOrder {
     runs: Shared<Run>,
     own: OwnKeys,
+    // A key of whose groups all of these are, where that is known.
+    sample: Option<Key>,
 }
 
 impl Model for KeyOrder {
-    ghost use Rattle.std.specs.Prelude.{List, ◌++◌};
+    ghost use Rattle.std.specs.Prelude.{List, ◌++◌, IfSome};
     ghost use Rattle.mq_ir.specs.Keys.{Tuple};
+    ghost use Rattle.mq_tables.specs.Groups.{AreLike};
     ghost use Rattle.mq_tables.specs.KeyOrder.{all_keys};
 
     ghost Value = { List Tuple };
 
     ghost view = { λ order. all_keys order.runs ++ order.own };
+
+    ghost invariant = { λ order. IfSome order.sample (λ sample. AreLike sample (all_keys order.runs ++ order.own)) };
 }
 
 impl KeyOrder {
@@ -57,6 +65,18 @@ impl KeyOrder {
         KeyOrder {
             runs: Shared::empty(),
             own: OwnKeys::empty(alloc),
+            sample: None,
+        }
+    }
+
+    /// No key yet, and those that come are expected to be of the groups of this one.
+    pub fn expecting(alloc: Global, sample: Key) -> KeyOrder
+        ensures { result ≡ [] }
+    {
+        KeyOrder {
+            runs: Shared::empty(),
+            own: OwnKeys::empty(alloc),
+            sample: Some(sample),
         }
     }
 
@@ -64,38 +84,80 @@ impl KeyOrder {
     pub fn copy(&self, alloc: Global) -> Result<KeyOrder, Memory>
         ensures { IfOk result (HoldsSame self.now) }
     {
+        let mut copy = self.copied_keys(alloc)?;
+        copy.expect(sample_copy(&self.sample)?);
+        Ok(copy)
+    }
+
+    // The same keys once more, of which no groups are known.
+    fn copied_keys(&self, alloc: Global) -> Result<KeyOrder, Memory>
+        ensures { IfOk result (HoldsSame self.now) }
+    {
         let runs = self.shared_runs(alloc)?;
         let (stay, joined) = runs.as_slice().split_at(staying(runs.as_slice()));
         Ok(KeyOrder {
             own: joined_keys(joined, OwnKeys::empty(alloc))?,
             runs: Shared::new(alloc, run_copies(alloc, stay)?)?,
+            sample: None,
         })
     }
 
+    // Notes of whose groups all keys are, where that is known.
+    fn expect(&mut self, sample: Option<Key>)
+        requires { IfSome sample (λ sample. AreLike sample self.old) }
+        ensures { self.new ≡ self.old }
+    {
+        self.sample = sample;
+    }
+
     /// Whether a key is among these. It takes no memory.
-    pub fn contains(&self, key: &Key) -> bool
+    pub fn contains(&self, key: &NumberedKey) -> bool
         ensures { result ≡ is_among self.now key.now }
     {
         is_in_runs(self.runs.as_slice(), key) || self.own.contains(key)
     }
 
+    /// The number of the row of a key, where it is among these. No answer rests on it.
+    pub fn number_of(&self, key: &NumberedKey) -> Option<usize> {
+        for run in self.runs.as_slice() {
+            if let Some(found) = run.keys.get(key) {
+                return Some(found.number());
+            }
+        }
+        self.own.number_of(key)
+    }
+
+    /// Whether all of these are known to be of the same groups. No answer rests on `false`.
+    pub fn are_alike(&self) -> bool
+        ensures { result ≡ true → AreAlike self.now }
+    {
+        match &self.sample {
+            Some(_) => true,
+            None => false,
+        }
+    }
+
     /// Puts the keys of new rows to these. A key that is among these, or is that of an earlier new row, refuses the rows:
-    /// that at the least place comes back, and nothing is changed. After `Memory` some of the new keys may be here.
+    /// that at the least place comes back, and nothing is changed. After `Memory` some of the new keys may be here. The rows
+    /// have the numbers from `first` on.
     pub fn grow(
         &mut self,
         alloc: Global,
         schema: &Schema,
         rows: &[Row],
+        first: usize,
     ) -> Result<(), Fail<Refused>>
         ensures { GrowsTo self.old (map (spec.row_key schema.now) rows.now) self.new result }
     {
-        let keys = new_keys(alloc, schema, self, rows)?;
+        let keys = new_keys(alloc, schema, self, rows, first)?;
+        let sample = sample_of_all(schema, self.sample.take(), rows);
         self.own.join(alloc, keys)?;
+        self.sample = sample;
         Ok(())
     }
 
     /// Takes keys away, where nobody else may hold any of these. Whether it did; else nothing is changed.
-    pub fn lose(&mut self, keys: &[Key]) -> bool
+    pub fn lose(&mut self, keys: &[NumberedKey]) -> bool
         ensures lost { result ≡ true → Loses self.old keys.now self.new }
         ensures kept { result ≡ false → self.new ≡ self.old }
     {
@@ -117,7 +179,29 @@ impl KeyOrder {
     }
 }
 
-fn is_in_runs(runs: &[Run], key: &Key) -> bool
+// The sample once more.
+fn sample_copy(sample: &Option<Key>) -> Result<Option<Key>, Memory>
+    ensures { IfOk result (λ copy. copy ≡ sample.now) }
+{
+    match sample {
+        Some(key) => Ok(Some(key.copy()?)),
+        None => Ok(None),
+    }
+}
+
+// The sample, where the keys of new rows are of its groups too.
+fn sample_of_all(schema: &Schema, sample: Option<Key>, rows: &[Row]) -> Option<Key>
+    ensures { IfSome result (λ key. (sample ≡ Some key) × AreLike key (map (spec.row_key schema.now) rows.now)) }
+{
+    let key = sample?;
+    if have_groups_of(schema, rows, key.as_slice()) {
+        Some(key)
+    } else {
+        None
+    }
+}
+
+fn is_in_runs(runs: &[Run], key: &NumberedKey) -> bool
     ensures { result ≡ is_among (all_keys runs.now) key.now }
 {
     'runs: for run in runs {
@@ -168,7 +252,7 @@ fn joined_keys(runs: &[Run], keys: OwnKeys) -> Result<OwnKeys, Memory>
 }
 
 // Puts a run of keys behind others, where there is any key.
-fn put_run(alloc: Global, runs: &mut Items<Run>, keys: BTreeSet<Key>) -> Result<(), Memory>
+fn put_run(alloc: Global, runs: &mut Items<Run>, keys: BTreeSet<NumberedKey>) -> Result<(), Memory>
     ensures { OnOk result (all_keys runs.new ≡ all_keys runs.old ++ keys.keys) }
 {
     if keys.is_empty() {
@@ -193,27 +277,31 @@ fn run_copies(alloc: Global, runs: &[Run]) -> Result<Items<Run>, Memory>
     Ok(copies)
 }
 
-// The keys of new rows, where none of them is among those of `order` or is that of an earlier new row.
+// The keys of new rows, which have the numbers from `first` on, where none of them is among those of `order` or is that of
+// an earlier new row.
 fn new_keys(
     alloc: Global,
     schema: &Schema,
     order: &KeyOrder,
     rows: &[Row],
+    first: usize,
 ) -> Result<OwnKeys, Fail<Refused>>
     ensures { Adds order.now (map (spec.row_key schema.now) rows.now) result }
 {
     let mut keys = OwnKeys::empty(alloc);
+    let mut number = first;
     'rows: for row in rows {
-        let key = row_key(alloc, schema, row)?;
+        let key = numbered_key(alloc, schema, row, number)?;
         if !put_new(&mut keys, order, &key)? {
-            return Err(Fail::Cause(Refused::DuplicateKey(key)));
+            return Err(Fail::Cause(Refused::DuplicateKey(key.into_key())));
         }
+        number = number.saturating_add(1);
     }
     Ok(keys)
 }
 
 // Puts a key to the new ones, unless it is among them or among those of `order`. Whether it was put.
-fn put_new(keys: &mut OwnKeys, order: &KeyOrder, key: &Key) -> Result<bool, Memory>
+fn put_new(keys: &mut OwnKeys, order: &KeyOrder, key: &NumberedKey) -> Result<bool, Memory>
     ensures new { IfOk result (λ new. new ≡ not (is_among order.now key.now || is_among keys.old key.now)) }
     ensures put { IfOk result (λ new. new ≡ true → PutsTo key.now keys.old keys.new) }
 {

@@ -1,14 +1,20 @@
 //! Rows with their keys.
-ghost use Rattle.std.specs.Prelude.{◌≡◌, ◌≢◌, ◌++◌, [], true, map, length, IfOk, OnErr};
+ghost use Rattle.std.specs.Prelude.{◌≡◌, ◌≢◌, ◌++◌, [], true, map, length, IfSome, IfOk, OnErr};
 ghost use Rattle.mq_values.specs.Answers.{Gives, result_map};
 ghost use Rattle.mq_ir.specs.Changes as spec;
 ghost use Rattle.mq_tables.specs.InPlace.{PutsBehind, put_at, rows_gone, rows_left};
 ghost use Rattle.mq_tables.specs.KeyOrder.{judged};
+ghost use Rattle.mq_tables.specs.Seeking.{AreTold, FirstIsLike, HasKeyAt, IsPlaceWith};
 
+use crate::groups::has_groups_of;
 use crate::key_order::KeyOrder;
+use crate::keys::{numbered_key, row_key};
+use crate::numbered_key::NumberedKey;
+use crate::places::Places;
+use crate::row_numbers::RowNumbers;
 use crate::rows::{put_rows, row_copies, take_away};
 use mq_ir::{Row, Schema};
-use mq_values::{Fail, Items, Key, Memory, Refused, Shared};
+use mq_values::{Fail, Items, Memory, Refused, Shared};
 use std::alloc::Global;
 use std::marker::Model;
 
@@ -18,6 +24,7 @@ pub struct KeyedRows {
     rows: Vec<Row>,
     columns: Shared<u32>,
     order: KeyOrder,
+    numbers: RowNumbers,
 }
 
 impl Model for KeyedRows {
@@ -41,6 +48,7 @@ impl KeyedRows {
             rows: Vec::new(alloc),
             columns: Shared::empty(),
             order: KeyOrder::empty(alloc),
+            numbers: RowNumbers::of(alloc, 0),
         }
     }
 
@@ -57,7 +65,45 @@ impl KeyedRows {
         if schema.key.is_empty() {
             return Ok(without_key(alloc, rows));
         }
+        if rows.is_empty() {
+            // The first rows that come tell of which groups their keys are.
+            return Ok(without_key(alloc, rows));
+        }
         with_keys(alloc, schema, rows)
+    }
+
+    /// Places outside of which no row has this key: that of the row that has it, no place where no row has it, and all places
+    /// where the keys do not tell. The keys of the rows outside are of the groups of this one.
+    pub fn places_of(&self, alloc: Global, schema: &Schema, key: &NumberedKey) -> Places
+        ensures { AreTold schema.now self.now key.now result }
+    {
+        match self.places_told(alloc, schema, key) {
+            Some(places) => places,
+            None => Places::first(self.rows.len()),
+        }
+    }
+
+    // The same where the keys tell.
+    fn places_told(&self, alloc: Global, schema: &Schema, key: &NumberedKey) -> Option<Places>
+        ensures { IfSome result (AreTold schema.now self.now key.now) }
+    {
+        if !is_key_of(self.columns.as_slice(), schema) {
+            return None;
+        }
+        if !self.order.are_alike() {
+            return None;
+        }
+        if let Some(number) = self.order.number_of(key) {
+            let place = self.numbers.place_of(number);
+            return place_with(alloc, schema, self.rows.as_slice(), place, key);
+        }
+        if self.order.contains(key) {
+            return None;
+        }
+        if !first_has_groups_of(schema, self.rows.as_slice(), key) {
+            return None;
+        }
+        Some(Places::first(0))
     }
 
     /// The same rows under the same keys once more, to be changed beside these. Rows and keys are shared, not copied.
@@ -68,6 +114,7 @@ impl KeyedRows {
             rows: row_copies(alloc, self.rows.as_slice(), 0)?,
             columns: self.columns.copy()?,
             order: self.order.copy(alloc)?,
+            numbers: self.numbers.copy(alloc)?,
         })
     }
 }
@@ -95,8 +142,13 @@ impl KeyedRows {
             *self = KeyedRows::new(alloc, schema, Items::from_vec(rows))?;
             return Ok(());
         }
-        match put_behind(alloc, schema, &mut self.rows, &mut self.order, new) {
-            Ok(()) => Ok(()),
+        let count = new.len();
+        let first = self.numbers.next();
+        match put_behind(alloc, schema, &mut self.rows, &mut self.order, new, first) {
+            Ok(()) => {
+                self.numbers.come(count);
+                Ok(())
+            }
             Err(Fail::Cause(refused)) => Err(Fail::Cause(refused)),
             Err(Fail::Memory) => {
                 // The keys may be more than those of the rows: they are made anew when they are next asked for.
@@ -153,7 +205,7 @@ impl KeyedRows {
         alloc: Global,
         schema: &Schema,
         gone: &[bool],
-        keys: &[Key],
+        keys: &[NumberedKey],
     ) -> Result<(), Fail<Refused>>
         requires told { length gone.now ≡ length self.old }
         requires keyed { keys.now ≡ map (spec.row_key schema.now) (rows_gone self.old gone.now) }
@@ -167,12 +219,55 @@ impl KeyedRows {
         }
         if is_key_of(self.columns.as_slice(), schema) && self.order.lose(keys) {
             take_away(&mut self.rows, gone);
+            self.numbers.lose(gone);
             return Ok(());
         }
         let mut rows = row_copies(alloc, self.rows.as_slice(), 0)?;
         take_away(&mut rows, gone);
         *self = KeyedRows::new(alloc, schema, Items::from_vec(rows))?;
         Ok(())
+    }
+}
+
+// A place alone, where the row there has this key.
+fn place_with(
+    alloc: Global,
+    schema: &Schema,
+    rows: &[Row],
+    place: usize,
+    key: &NumberedKey,
+) -> Option<Places>
+    ensures { IfSome result (IsPlaceWith schema.now rows.now key.now) }
+{
+    if !has_key(alloc, schema, rows, place, key) {
+        return None;
+    }
+    Some(Places {
+        from: place,
+        to: place + 1,
+    })
+}
+
+// Whether the row at a place has this key. No answer rests on `false`.
+fn has_key(alloc: Global, schema: &Schema, rows: &[Row], place: usize, key: &NumberedKey) -> bool
+    ensures { result ≡ true → HasKeyAt schema.now rows.now key.now place }
+{
+    let Some(row) = rows.get(place) else {
+        return false;
+    };
+    match row_key(alloc, schema, row) {
+        Ok(found) => found.cmp(key.key()).is_eq(),
+        Err(_) => false,
+    }
+}
+
+// Whether the key of the first row, where there is one, is of the groups of this one.
+fn first_has_groups_of(schema: &Schema, rows: &[Row], key: &NumberedKey) -> bool
+    ensures { result ≡ true → FirstIsLike schema.now rows.now key.now }
+{
+    match rows.first() {
+        Some(row) => has_groups_of(schema, row, key.key().as_slice()),
+        None => true,
     }
 }
 
@@ -183,11 +278,12 @@ fn put_behind(
     rows: &mut Vec<Row>,
     order: &mut KeyOrder,
     new: Items<Row>,
+    first: usize,
 ) -> Result<(), Fail<Refused>>
     ensures { PutsBehind schema.now rows.old.items order.old new rows.new.items order.new result }
 {
     rows.reserve(new.len())?;
-    order.grow(alloc, schema, new.as_slice())?;
+    order.grow(alloc, schema, new.as_slice(), first)?;
     rows.append(&mut new.into_vec())?;
     Ok(())
 }
@@ -207,6 +303,7 @@ fn without_key(alloc: Global, rows: Items<Row>) -> KeyedRows
         rows: rows.into_vec(),
         columns: Shared::empty(),
         order: KeyOrder::empty(alloc),
+        numbers: RowNumbers::of(alloc, 0),
     }
 }
 
@@ -215,13 +312,25 @@ fn with_keys(alloc: Global, schema: &Schema, rows: Items<Row>) -> Result<KeyedRo
     requires { schema.now.key ≢ [] }
     ensures { Gives result (judged schema.now rows) }
 {
-    let mut order = KeyOrder::empty(alloc);
-    order.grow(alloc, schema, rows.as_slice())?;
+    let mut order = order_for(alloc, schema, rows.as_slice())?;
+    order.grow(alloc, schema, rows.as_slice(), 0)?;
+    let numbers = RowNumbers::of(alloc, rows.len());
     Ok(KeyedRows {
         rows: rows.into_vec(),
         columns: copied_columns(alloc, schema.key.as_slice())?,
         order,
+        numbers,
     })
+}
+
+// No key yet, of rows whose keys are expected to be of the groups of the first one.
+fn order_for(alloc: Global, schema: &Schema, rows: &[Row]) -> Result<KeyOrder, Memory>
+    ensures { IfOk result (λ order. order ≡ []) }
+{
+    match rows.first() {
+        Some(row) => Ok(KeyOrder::expecting(alloc, row_key(alloc, schema, row)?)),
+        None => Ok(KeyOrder::empty(alloc)),
+    }
 }
 
 fn copied_columns(alloc: Global, columns: &[u32]) -> Result<Shared<u32>, Memory>

@@ -3,6 +3,7 @@ ghost use Rattle.std.specs.Prelude.{◌≡◌, IfOk};
 ghost use Rattle.mq_ir.specs.Changes as spec;
 ghost use Rattle.mq_tables.specs.Columns as drafts;
 
+use crate::numbered_key::NumberedKey;
 use crate::scopes::value_at;
 use mq_ir::{Expr, Row, Schema};
 use mq_values::{Items, Key, Memory};
@@ -17,6 +18,18 @@ pub fn row_key(alloc: Global, schema: &Schema, row: &Row) -> Result<Key, Memory>
         values.push(value_at(row, *column)?)?;
     }
     Key::new(alloc, values)
+}
+
+/// The same with the number of the row.
+pub fn numbered_key(
+    alloc: Global,
+    schema: &Schema,
+    row: &Row,
+    number: usize,
+) -> Result<NumberedKey, Memory>
+    ensures { IfOk result (λ key. key ≡ spec.row_key schema.now row.now) }
+{
+    Ok(NumberedKey::new(row_key(alloc, schema, row)?, number))
 }
 
 /// Whether SET puts a value into no column of the key.

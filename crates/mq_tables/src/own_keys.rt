@@ -4,7 +4,8 @@ ghost use Rattle.mq_ir.specs.Keys.{is_among};
 ghost use Rattle.mq_tables.specs.KeyOrder.{HoldsBoth, Loses, PutsTo};
 
 use crate::ascending::Ascending;
-use mq_values::{Key, Memory};
+use crate::numbered_key::NumberedKey;
+use mq_values::Memory;
 use std::alloc::Global;
 use std::collections::BTreeSet;
 use std::marker::Model;
@@ -13,7 +14,7 @@ use std::marker::Model;
 /// keys, in an order that nothing rests on.
 #[derive(Drop)]
 pub struct OwnKeys {
-    last: BTreeSet<Key>,
+    last: BTreeSet<NumberedKey>,
     behind: Ascending,
 }
 
@@ -45,14 +46,22 @@ impl OwnKeys {
     }
 
     /// Whether a key is among these. It takes no memory.
-    pub fn contains(&self, key: &Key) -> bool
+    pub fn contains(&self, key: &NumberedKey) -> bool
         ensures { result ≡ is_among self.now key.now }
     {
         self.last.contains(key) || self.behind.contains(key)
     }
 
+    /// The number of the row of a key, where it is among these. No answer rests on it.
+    pub fn number_of(&self, key: &NumberedKey) -> Option<usize> {
+        match self.last.get(key) {
+            Some(found) => Some(found.number()),
+            None => self.behind.number_of(key),
+        }
+    }
+
     /// Puts a key to these, unless it is among them. Whether it was put.
-    pub fn put(&mut self, key: &Key) -> Result<bool, Memory>
+    pub fn put(&mut self, key: &NumberedKey) -> Result<bool, Memory>
         ensures new { IfOk result (λ new. new ≡ not (is_among self.old key.now)) }
         ensures put { IfOk result (λ new. new ≡ true → PutsTo key.now self.old self.new) }
     {
@@ -85,7 +94,7 @@ impl OwnKeys {
     }
 
     /// Puts the keys of an ordered set to these. After `Memory` some of them may be here.
-    pub fn put_all(&mut self, keys: &BTreeSet<Key>) -> Result<(), Memory>
+    pub fn put_all(&mut self, keys: &BTreeSet<NumberedKey>) -> Result<(), Memory>
         ensures { OnOk result (HoldsBoth keys.now.keys self.old self.new) }
     {
         put_keys(&mut self.last, keys)?;
@@ -93,7 +102,7 @@ impl OwnKeys {
     }
 
     /// Takes keys away. Whether it did; else nothing is changed.
-    pub fn lose(&mut self, keys: &[Key]) -> bool
+    pub fn lose(&mut self, keys: &[NumberedKey]) -> bool
         ensures lost { result ≡ true → Loses self.old keys.now self.new }
         ensures kept { result ≡ false → self.new ≡ self.old }
     {
@@ -105,13 +114,16 @@ impl OwnKeys {
     }
 
     /// The keys that came in ascending order as an ordered set, behind the others.
-    pub fn sets(&self, alloc: Global) -> Result<(BTreeSet<Key>, BTreeSet<Key>), Memory>
+    pub fn sets(
+        &self,
+        alloc: Global,
+    ) -> Result<(BTreeSet<NumberedKey>, BTreeSet<NumberedKey>), Memory>
         ensures { IfOk result (λ sets. sets.0.keys ++ sets.1.keys ≡ self.now) }
     {
         Ok((self.last.clone()?, self.behind.to_set(alloc)?))
     }
 
-    fn into_parts(self) -> (BTreeSet<Key>, Ascending)
+    fn into_parts(self) -> (BTreeSet<NumberedKey>, Ascending)
         ensures { result.0.keys ++ result.1 ≡ self }
     {
         (self.last, self.behind)
@@ -119,7 +131,7 @@ impl OwnKeys {
 }
 
 // Puts keys to others.
-fn put_keys(keys: &mut BTreeSet<Key>, others: &BTreeSet<Key>) -> Result<(), Memory>
+fn put_keys(keys: &mut BTreeSet<NumberedKey>, others: &BTreeSet<NumberedKey>) -> Result<(), Memory>
     ensures { OnOk result (HoldsBoth others.now.keys keys.old.keys keys.new.keys) }
 {
     'keys: for key in others.iter() {
@@ -129,7 +141,7 @@ fn put_keys(keys: &mut BTreeSet<Key>, others: &BTreeSet<Key>) -> Result<(), Memo
 }
 
 // Takes keys out of others.
-fn take_away(keys: &mut BTreeSet<Key>, others: &[Key])
+fn take_away(keys: &mut BTreeSet<NumberedKey>, others: &[NumberedKey])
     ensures { Loses keys.old.keys others.now keys.new.keys }
 {
     'keys: for key in others {

@@ -147,8 +147,7 @@ fn change_noting(
     ensures err { OnErr result (rows.new ≡ rows.old) }
     ensures same { OnErr result (places.new.items ≡ places.old.items) }
 {
-    let mut marks = Vec::new(alloc);
-    let touched = change_rows(alloc, schema, rows, &mut marks, c)?;
+    let touched = change_rows(alloc, schema, rows, c)?;
     note(places, &touched);
     Ok(touched)
 }

@@ -7,7 +7,6 @@ ghost use Rattle.mq_tables.specs.Touching.{made};
 
 use crate::changing::change_rows;
 use crate::keyed_rows::KeyedRows;
-use crate::marks::RowMark;
 use crate::touched::Touched;
 use mq_ir::{Change, Row, Schema, TableDef};
 use mq_values::{Fail, Memory, Refused, Words};
@@ -20,18 +19,14 @@ pub struct Table {
     name: Words,
     schema: Schema,
     rows: KeyedRows,
-    marks: Vec<RowMark>,
 }
 
 impl Model for Table {
     ghost use Rattle.mq_ir.specs.Tables.{Table as Seen};
-    ghost use Rattle.mq_tables.specs.Marks.{AreMarks};
 
     ghost Value = { Seen };
 
     ghost view = { λ t. record { name = t.name; schema = t.schema; rows = t.rows } };
-
-    ghost invariant = { λ t. AreMarks t.schema t.rows t.marks.items };
 }
 
 impl Table {
@@ -43,7 +38,6 @@ impl Table {
             name: def.name,
             schema: def.schema,
             rows: KeyedRows::empty(alloc),
-            marks: Vec::new(alloc),
         }
     }
 
@@ -83,7 +77,6 @@ impl Table {
     pub fn set_rows(&mut self, rows: KeyedRows)
         ensures { self.new ≡ record self.old { rows = rows } }
     {
-        self.marks.clear();
         self.rows = rows;
     }
 
@@ -96,6 +89,6 @@ impl Table {
         ensures same { self.new ≡ record self.old { rows = self.new.rows } }
         ensures err { OnErr result (self.new ≡ self.old) }
     {
-        change_rows(alloc, &self.schema, &mut self.rows, &mut self.marks, c)
+        change_rows(alloc, &self.schema, &mut self.rows, c)
     }
 }

@@ -1,16 +1,16 @@
-//! The rows that UPDATE and DELETE visit as true. A row whose mark is passed over is not read.
-ghost use Rattle.std.specs.Prelude.{◌≤◌, length};
+//! The rows that UPDATE and DELETE visit as true, of which none stands outside of the places that they look at.
+ghost use Rattle.std.specs.Prelude.{◌≡◌, ◌≤◌, ◌-◌, ◌++◌, false, length, replicate, OnOk};
 ghost use Rattle.mq_values.specs.Answers.{Gives};
 ghost use Rattle.mq_values.specs.declared.limits.TheConstants.{MAX_ROWS};
-ghost use Rattle.mq_tables.specs.Marks.{AreMarks};
+ghost use Rattle.mq_tables.specs.Seeking.{AreWithin, PassesOutside};
 ghost use Rattle.mq_tables.specs.Visits.{rows_found, rows_taken};
 
-use crate::columns::{is_chosen_unless, replaced_row};
-use crate::keys::row_key;
-use crate::marks::RowMark;
-use crate::sieve::{is_passed_over, sieve_of};
+use crate::columns::{is_chosen, replaced_row};
+use crate::keys::numbered_key;
+use crate::numbered_key::NumberedKey;
+use crate::places::Places;
 use mq_ir::{Expr, Row, Schema};
-use mq_values::{Fail, Items, Key, Refused};
+use mq_values::{Fail, Items, Memory, Refused};
 use std::alloc::Global;
 
 /// The rows that UPDATE visits as true, each with its place: as they will be, and as they are.
@@ -27,19 +27,17 @@ pub fn replaced_rows(
     sets: &[(u32, Expr)],
     filter: &Option<Expr>,
     rows: &[Row],
-    marks: &[RowMark],
+    places: Places,
 ) -> Result<Found, Fail<Refused>>
     requires within { length rows.now ≤ MAX_ROWS }
-    requires marked { AreMarks schema.now rows.now marks.now }
+    requires there { AreWithin places (length rows.now) }
+    requires outside { PassesOutside filter.now rows.now places }
     ensures { Gives result (rows_found schema.now sets.now filter.now rows.now) }
 {
-    let sieve = sieve_of(schema, filter);
     let mut puts = Items::new(alloc);
     let mut were = Items::new(alloc);
-    'rows: for (at, row) in rows.iter().enumerate() {
-        if is_passed_over(&sieve, marks, at) {
-            continue;
-        }
+    'rows: for at in places.from..places.to {
+        let row = &rows[at];
         match replaced_row(alloc, schema, sets, filter, at as u32 + 1, row)? {
             Some(new) => {
                 puts.push((at as u32, new))?;
@@ -55,7 +53,7 @@ pub fn replaced_rows(
 #[derive(Drop)]
 pub struct Gone {
     pub flags: Items<bool>,
-    pub keys: Items<Key>,
+    pub keys: Items<NumberedKey>,
     pub rows: Items<(u32, Row)>,
 }
 
@@ -65,28 +63,39 @@ pub fn gone_rows(
     schema: &Schema,
     filter: &Option<Expr>,
     rows: &[Row],
-    marks: &[RowMark],
+    places: Places,
 ) -> Result<Gone, Fail<Refused>>
     requires within { length rows.now ≤ MAX_ROWS }
-    requires marked { AreMarks schema.now rows.now marks.now }
+    requires there { AreWithin places (length rows.now) }
+    requires outside { PassesOutside filter.now rows.now places }
     ensures { Gives result (rows_taken schema.now filter.now rows.now) }
 {
-    let sieve = sieve_of(schema, filter);
-    let mut flags = Items::new(alloc);
+    let mut flags = Vec::with_capacity(alloc, rows.len())?;
     let mut keys = Items::new(alloc);
     let mut gone = Items::new(alloc);
-    'rows: for (at, row) in rows.iter().enumerate() {
-        let passed = is_passed_over(&sieve, marks, at);
-        let chosen = is_chosen_unless(alloc, passed, filter, at as u32 + 1, row)?;
+    fill_up(&mut flags, places.from)?;
+    'rows: for at in places.from..places.to {
+        let row = &rows[at];
+        let chosen = is_chosen(alloc, filter, at as u32 + 1, row)?;
         if chosen {
-            keys.push(row_key(alloc, schema, row)?)?;
+            keys.push(numbered_key(alloc, schema, row, at)?)?;
             gone.push((at as u32, row.copy()?))?;
         }
         flags.push(chosen)?;
     }
+    fill_up(&mut flags, rows.len())?;
     Ok(Gone {
-        flags,
+        flags: Items::from_vec(flags),
         keys,
         rows: gone,
     })
+}
+
+// Puts `false` behind the others, so that there are so many.
+fn fill_up(flags: &mut Vec<bool>, count: usize) -> Result<(), Memory>
+    requires { length flags.old.items ≤ count }
+    ensures { OnOk result (flags.new.items ≡ flags.old.items ++ replicate (count - length flags.old.items) false) }
+{
+    flags.resize(count, false)?;
+    Ok(())
 }

@@ -3,4 +3,4 @@ use Rattle.mq_tables.proofs.LeftLemmas.{Taking}
 use Rattle.mq_tables.proofs.visits.gone_rows.Given as goal
 
 abbrev pub invariant-rows : goal.invariant-rows
-invariant-rows l = Taking l.schema (deleted_row l.filter) l.rows l.at l.flags l.keys l.gone
+invariant-rows l = Taking l.schema (deleted_row l.filter) l.rows l.at l.flags.items l.keys l.gone

@@ -1,5 +1,0 @@
-use Rattle.mq_tables.proofs.SieveLemmas.{GoesOn}
-use Rattle.mq_tables.proofs.sieve.wanted_by_all.Given as goal
-
-abbrev pub invariant-conjuncts : goal.invariant-conjuncts
-invariant-conjuncts l = GoesOn l.es l.e-index
