@@ -1,15 +1,5 @@
-// Steps over a partition of three cells: which lists of them are accepted, and which are told of a measure, by hand.
-ghost use Rattle.std.specs.Prelude.{◌≡◌, ◌↔◌, length, IfOk, IsTrue};
-ghost use Rattle.std.specs.Map.{keys_of};
-ghost use Rattle.mq_ir.specs.Ready.{HaveLength, IsReady, LeftHasPlaces, LeftsHavePlaces};
-ghost use Rattle.mq_ir.specs.Unfolding.{model_of};
-ghost use Rattle.mq_auto.specs.Meaning.{HoldsValues};
-ghost use Rattle.mq_lineage.specs.Found.{MayBeDerived};
-
-use crate::slots::is_same_slot;
-use crate::{check, derive, what_is_computed_may_be_derived};
-use mq_auto::{Verdict, compute};
-use mq_cells::{Cells, PlainCells, keys_ascend};
+// Steps over a partition of three cells: which lists of them are accepted, by hand.
+use crate::check;
 use mq_ir::{
     BoundSum, CellName, Derivation, DerivationStep, Expr, Leaf, Left, LeftItem, Model, ModelPart,
     PartInput, PartShape, Rule, Slot,
@@ -107,25 +97,12 @@ fn model_with(
     }
 }
 
-// One dimension and one measure, and these rules.
-fn model_by(alloc: Global, rules: Items<Rule>) -> Result<ModelPart, Memory> {
+// One dimension and one measure, and the two rules.
+fn model(alloc: Global) -> Result<ModelPart, Memory> {
     let dims = one(alloc, Kind::Int)?;
     let measures = one(alloc, Kind::Int)?;
     let names = one(alloc, Words::new(alloc, "M")?)?;
-    Ok(model_with(alloc, dims, measures, names, rules))
-}
-
-// .. and the two rules.
-fn model(alloc: Global) -> Result<ModelPart, Memory> {
-    let rules = rules(alloc)?;
-    model_by(alloc, rules)
-}
-
-// The third cell comes from the first, and the first from the second: no cell stands before those behind it.
-fn crossed(alloc: Global) -> Result<ModelPart, Memory> {
-    let mut rules = one(alloc, rule(alloc, 3, 1)?)?;
-    rules.push(rule(alloc, 1, 2)?)?;
-    model_by(alloc, rules)
+    Ok(model_with(alloc, dims, measures, names, rules(alloc)?))
 }
 
 fn cell(alloc: Global, number: i128, measure: Value) -> Result<(Key, Key), Memory> {
@@ -280,182 +257,6 @@ fn steps_that_come_from_something_else_are_refused(rt: HostRuntime) -> Result<()
     ];
     for (number, told) in cases {
         assert!(rt; !accepts(rt.alloc(), number, told)?);
-    }
-    Ok(())
-}
-
-// Whether the rules may run over a partition.
-fn is_ready(alloc: Global, part: &ModelPart, p: &PartInput) -> Result<bool, Memory>
-    ensures { IfOk result (λ ready. IsTrue ready ↔ IsReady part.now p.now) }
-{
-    let keys = keys_in(alloc, p.cells.as_slice())?;
-    Ok(
-        lefts_have_places(part)
-            && have_length(part.dims.len(), &keys)
-            && (p.repeated.is_some() || keys_ascend(&keys)),
-    )
-}
-
-fn lefts_have_places(part: &ModelPart) -> bool
-    ensures { IsTrue result ↔ LeftsHavePlaces part.now }
-{
-    let n = part.dims.len();
-    part.rules
-        .as_slice()
-        .iter()
-        .all(|rule| has_places(n, &rule.left))
-}
-
-fn has_places(n: usize, left: &Left) -> bool
-    ensures { IsTrue result ↔ LeftHasPlaces n left.now }
-{
-    match left {
-        Left::Places(items) => items.len() == n,
-        Left::Tuples(_, _) => true,
-    }
-}
-
-fn have_length(n: usize, keys: &[Key]) -> bool
-    ensures { IsTrue result ↔ HaveLength n keys.now }
-{
-    keys.iter().all(|key| has_length(n, key))
-}
-
-fn has_length(n: usize, key: &Key) -> bool
-    ensures { IsTrue result ↔ (length key.now ≡ n) }
-{
-    key.as_slice().len() == n
-}
-
-fn keys_in(alloc: Global, cells: &[(Key, Key)]) -> Result<Vec<Key>, Memory>
-    ensures { IfOk result (λ keys. keys.items ≡ keys_of cells.now) }
-{
-    let mut keys = Vec::with_capacity(alloc, cells.len())?;
-    for (key, _measures) in cells {
-        keys.push(key.copy()?)?;
-    }
-    Ok(keys)
-}
-
-fn is_same_step(a: &DerivationStep, b: &DerivationStep) -> bool {
-    a.name.key.cmp(&b.name.key).is_eq()
-        && a.name.measure == b.name.measure
-        && a.rule == b.rule
-        && is_same_slot(&a.slot, &b.slot)
-}
-
-fn are_same_steps(a: &[DerivationStep], b: &[DerivationStep]) -> bool {
-    if a.len() != b.len() {
-        return false;
-    }
-    for i in 0..a.len() {
-        if !is_same_step(&a[i], &b[i]) {
-            return false;
-        }
-    }
-    true
-}
-
-// Whether these steps are told of the measure of a cell, and accepted, over what is computed.
-fn tells_over<C: Cells>(
-    alloc: Global,
-    model: &Model<'_>,
-    input: &PartInput,
-    shape: &PartShape,
-    cells: &mut C,
-    target: i128,
-    told: &[Step],
-) -> Result<bool, Memory>
-    requires shape { MayBeDerived (model_of model.now) input.now shape.now }
-    requires values { HoldsValues (model_of model.now) shape.now input.now.cells (C.input cells.old) (C.results cells.old) }
-{
-    let key = key(alloc, target)?;
-    let found = derive(alloc, model, shape, cells, &CellName { key, measure: 0 })?;
-    let told = steps(alloc, told)?;
-    let accepted = check(alloc, model, input, shape, &found)?;
-    Ok(accepted && are_same_steps(found.steps.as_slice(), told.steps.as_slice()))
-}
-
-fn computes_and_tells(
-    alloc: Global,
-    model: &Model<'_>,
-    input: &PartInput,
-    target: i128,
-    told: &[Step],
-) -> Result<bool, Memory>
-    requires { IsReady model.now.part.now input.now }
-{
-    what_is_computed_may_be_derived();
-    let mut cells = PlainCells::new(alloc, input)?;
-    let verdict = compute(alloc, model, input, &mut cells)?;
-    match verdict {
-        Verdict::Done(shape) => tells_over(alloc, model, input, &shape, &mut cells, target, told),
-        Verdict::Broken(_) => Ok(false),
-    }
-}
-
-fn tells_in(
-    alloc: Global,
-    part: &ModelPart,
-    first: i128,
-    target: i128,
-    told: &[Step],
-) -> Result<bool, Memory> {
-    let input = input(alloc, first)?;
-    let model = Model {
-        part,
-        lists: &[],
-        refs: &[],
-    };
-    if !is_ready(alloc, part, &input)? {
-        return Ok(false);
-    }
-    computes_and_tells(alloc, &model, &input, target, told)
-}
-
-// Whether these steps are told of the measure of a cell, where the first cell holds this number.
-fn tells(alloc: Global, first: i128, target: i128, told: &[Step]) -> Result<bool, Memory> {
-    let part = model(alloc)?;
-    tells_in(alloc, &part, first, target, told)
-}
-
-// The same of the third cell, by rules that go against the order of the cells.
-fn tells_crossed(alloc: Global, told: &[Step]) -> Result<bool, Memory> {
-    let part = crossed(alloc)?;
-    tells_in(alloc, &part, 5, 3, told)
-}
-
-#[test]
-fn what_a_measure_comes_from_is_told(rt: HostRuntime) -> Result<(), Failed> {
-    let cases: [(i128, i128, &[Step]); 5] = [
-        (5, 3, &[FIRST, (2, 1, At::Is(6)), (3, 2, At::Is(7))]),
-        // what stands beside is not told
-        (5, 2, &[FIRST, (2, 1, At::Is(6))]),
-        // a cell that no rule assigns, and one that is not there
-        (5, 1, &[FIRST]),
-        (5, 9, &[(9, 0, At::Null)]),
-        // a fault, and what looks at one
-        (
-            i128::MAX,
-            3,
-            &[
-                (1, 0, At::Is(i128::MAX)),
-                (2, 1, At::Overflows),
-                (3, 2, At::Poisoned),
-            ],
-        ),
-    ];
-    for (number, target, told) in cases {
-        assert!(rt; tells(rt.alloc(), number, target, told)?);
-    }
-    Ok(())
-}
-
-#[test]
-fn the_steps_of_a_measure_go_by_rounds(rt: HostRuntime) -> Result<(), Failed> {
-    let cases: [&[Step]; 1] = [&[(2, 0, At::Is(0)), (1, 2, At::Is(1)), (3, 1, At::Is(2))]];
-    for told in cases {
-        assert!(rt; tells_crossed(rt.alloc(), told)?);
     }
     Ok(())
 }

@@ -1,4 +1,5 @@
-// Scenarios over two tables, with ample memory: the rows as they come out by hand.
+// Scenarios over two tables, with ample memory: the rows as they come out by hand. Whether they do is told as a truth by
+// small functions: a test that holds what is let go is dear to prove.
 ghost use Rattle.std.specs.Prelude.{◌≤◌, length};
 ghost use Rattle.mq_values.specs.declared.limits.TheConstants.{MAX_SCENARIO_CHANGES};
 
@@ -19,6 +20,9 @@ enum Step {
     Update(i32, i32),
     Delete(i32),
 }
+
+// The tables as they stand.
+const STANDING: &[u8] = b"T(1 10 )(2 20 )U(7 70 )X";
 
 fn value(number: i32) -> Value {
     Value::Num(Num::new(number as i128, 0))
@@ -180,12 +184,46 @@ fn under(alloc: Global, tables: &Tables, changes: &[Change]) -> Result<Vec<u8>, 
     Ok(out)
 }
 
+fn are_written(alloc: Global, tables: &Tables, wanted: &[u8]) -> Result<bool, Memory> {
+    let mut out = Vec::new(alloc);
+    write_tables(tables, &mut out)?;
+    Ok(out.as_slice() == wanted)
+}
+
+fn comes_to(
+    alloc: Global,
+    tables: &Tables,
+    changes: &[Change],
+    wanted: &[u8],
+) -> Result<bool, Memory> {
+    if changes.len() > MAX_SCENARIO_CHANGES {
+        return Ok(false);
+    }
+    let out = under(alloc, tables, changes)?;
+    Ok(out.as_slice() == wanted)
+}
+
+fn steps_come_to(
+    alloc: Global,
+    tables: &Tables,
+    steps: &[(&str, Step)],
+    wanted: &[u8],
+) -> Result<bool, Memory> {
+    let changes = changes(alloc, steps)?;
+    comes_to(alloc, tables, changes.as_slice(), wanted)
+}
+
+// Whether these changes leave what is wanted, and the tables beside it as they stood.
+fn leaves(alloc: Global, steps: &[(&str, Step)], wanted: &[u8]) -> Result<bool, Memory> {
+    let tables = tables(alloc)?;
+    let met = steps_come_to(alloc, &tables, steps, wanted)?;
+    Ok(met & are_written(alloc, &tables, STANDING)?)
+}
+
 #[test]
 fn a_scenario_changes_tables_beside_those_that_stand(rt: HostRuntime) -> Result<(), Failed> {
-    let alloc = rt.alloc();
-    let standing = b"T(1 10 )(2 20 )U(7 70 )X".as_slice();
     let cases: [(&[(&str, Step)], &[u8]); 7] = [
-        (&[], standing),
+        (&[], STANDING),
         (
             &[
                 ("T", Step::Update(1, 11)),
@@ -224,20 +262,11 @@ fn a_scenario_changes_tables_beside_those_that_stand(rt: HostRuntime) -> Result<
         ),
         (
             &[("T", Step::Delete(5)), ("T", Step::Update(5, 1))],
-            standing,
+            STANDING,
         ),
     ];
     for (steps, wanted) in cases {
-        let tables = tables(alloc)?;
-        let changes = changes(alloc, steps)?;
-        assert!(rt; changes.len() <= MAX_SCENARIO_CHANGES);
-        assert_eq!(rt;
-            under(alloc, &tables, changes.as_slice())?.as_slice(),
-            wanted
-        );
-        let mut after = Vec::new(alloc);
-        write_tables(&tables, &mut after)?;
-        assert_eq!(rt; after.as_slice(), standing);
+        assert!(rt; leaves(rt.alloc(), steps, wanted)?);
     }
     Ok(())
 }
