@@ -1,9 +1,10 @@
 //! The store of a partition in hand.
-ghost use Rattle.std.specs.Prelude.{◌≡◌, ◌<◌, false, true, None, Some, length, is_some, slice_index_or, IfOk, IfSome, OnOk, OnErr};
+ghost use Rattle.std.specs.Prelude.{◌≡◌, ◌<◌, false, true, None, Some, length, is_some, slice_index_or, unwrap_or, IfOk, IfSome, OnOk, OnErr};
 ghost use Rattle.std.specs.List.Sorted.{IsStrictlySortedBy};
 ghost use Rattle.std.specs.Map.{keys_of};
 ghost use Rattle.std.specs.Option.{option_copied};
 ghost use Rattle.mq_values.specs.Order.{cmp_key};
+ghost use Rattle.mq_values.specs.declared.value.Value.TheVariants.{Null};
 ghost use Rattle.mq_dim_index.specs.Places.{is_there, with_key};
 ghost use Rattle.mq_ir.specs.declared.query.CellName.{CellName};
 ghost use Rattle.mq_ir.specs.declared.query.Slot.TheVariants.{Done};
@@ -23,7 +24,7 @@ use crate::lane::Lane;
 use crate::lanes::Lanes;
 use crate::lent_store::LentStore;
 use crate::numbers::Numbers;
-use crate::slots::{copy_slot, is_done, value_of};
+use crate::slots::{copy_slot, is_done, lent_value, value_of};
 use mq_dim_index::DimIndex;
 use mq_ir::{PartInput, PartShape, Slot};
 use mq_values::{Key, Memory, Value};
@@ -160,7 +161,17 @@ impl IndexedCells {
         value_here(&self.given, &self.results, self.cells.at(place), m)
     }
 
-    /// The same by key. The cell is looked for at `near` and beside it first, and `near` is where it was found then.
+    /// The same value, lent: `None` where it is null. It takes no memory.
+    #[tactic(auto, unfolding(crate::specs::IndexedStores::keys_in))]
+    pub fn lent_at(&self, place: u32, m: u32) -> Option<&Value>
+        requires { place < length (keys_in self.now) }
+        ensures { (other : Tuple) →
+            unwrap_or (option_copied result) Null ≡ value_in self.now (cell_name (slice_index_or (keys_in self.now) place other) m) }
+    {
+        lent_here(&self.given, &self.results, self.cells.at(place), m)
+    }
+
+    /// The value of a measure by key. The cell is looked for at `near` and beside it first, and `near` is where it was found then.
     #[tactic(auto, unfolding(crate::specs::IndexedStores::input_in, crate::specs::IndexedStores::results_of))]
     pub fn value_near(&self, key: &[Value], m: u32, near: &mut u32) -> Result<Value, Memory>
         ensures { IfOk result (λ v. v ≡ value_in self.now (cell_name key.now m)) }
@@ -302,5 +313,33 @@ fn value_here(
     match results.get(m, number) {
         Some(slot) => value_of(slot),
         None => value_by(given, number, m),
+    }
+}
+
+// The same value, lent; `None` where it is null.
+fn lent_here<'a>(
+    given: &'a Lane<Key>,
+    results: &'a Lanes<Slot>,
+    number: u32,
+    m: u32,
+) -> Option<&'a Value>
+    ensures { unwrap_or (option_copied result) Null ≡ done_value (spec.slot_by given.now results.now m (Some number)) }
+{
+    match results.get(m, number) {
+        Some(slot) => lent_value(slot),
+        None => lent_by(given, number, m),
+    }
+}
+
+// What the input has there, lent; `None` where that is null or it does not have the cell.
+fn lent_by(given: &Lane<Key>, number: u32, m: u32) -> Option<&Value>
+    ensures { unwrap_or (option_copied result) Null ≡ spec.value_by given.now m (Some number) }
+{
+    let Some(values) = given.get(number as usize) else {
+        return None;
+    };
+    match values.as_slice().get(m as usize) {
+        Some(v) => Some(v),
+        None => None,
     }
 }

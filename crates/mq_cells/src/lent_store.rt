@@ -54,4 +54,9 @@ impl<'a> LentStore<'a> {
         self.near = place;
         self.cells.value_near(key, m, &mut self.near)
     }
+
+    /// Where the next cell is looked for first.
+    pub fn near(&self) -> u32 {
+        self.near
+    }
 }

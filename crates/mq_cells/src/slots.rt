@@ -1,5 +1,7 @@
 //! Slots that are read.
-ghost use Rattle.std.specs.Prelude.{◌≡◌, Some, IfOk};
+ghost use Rattle.std.specs.Prelude.{◌≡◌, Some, unwrap_or, IfOk};
+ghost use Rattle.std.specs.Option.{option_copied};
+ghost use Rattle.mq_values.specs.declared.value.Value.TheVariants.{Null};
 ghost use Rattle.mq_ir.specs.Slots.{done_value};
 ghost use Rattle.mq_cells.specs.IndexedStores.{is_sound};
 
@@ -31,5 +33,15 @@ pub fn value_of(slot: &Slot) -> Result<Value, Memory>
     match slot {
         Slot::Done(v) => v.copy(),
         _ => Ok(Value::Null),
+    }
+}
+
+/// The same value, lent; `None` where it is null.
+pub fn lent_value(slot: &Slot) -> Option<&Value>
+    ensures { unwrap_or (option_copied result) Null ≡ done_value slot.now }
+{
+    match slot {
+        Slot::Done(v) => Some(v),
+        _ => None,
     }
 }

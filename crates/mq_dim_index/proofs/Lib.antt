@@ -5,6 +5,8 @@ pub mod LeastLemmas
 pub mod MapLemmas
 pub mod NearLemmas
 pub mod PlaceLemmas
+pub mod PlaceRunLemmas
 pub mod RangeLemmas
 pub mod RunLemmas
+pub mod SpanLemmas
 pub mod SumLemmas

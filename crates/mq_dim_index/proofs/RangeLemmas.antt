@@ -1,12 +1,13 @@
 -- The numbers of the keys that meet some tests.
-use Rattle.std.proofs.Common.{◌≡◌, ℕ, zero, suc, ◌+◌, ◌-◌, ◌<◌, ◌≤◌, List, [], ◌∷◌, Bool, true, false, cond, drop, length, get_or, map, refl, sym, subst, ap, ◌∙◌, arith}
-use Rattle.std.specs.List.{All, AllWithin, enumerate_from, filter}
+use Rattle.std.proofs.Common.{◌≡◌, ℕ, zero, suc, ◌+◌, ◌-◌, ◌<◌, ◌≤◌, List, [], ◌∷◌, ◌++◌, Bool, true, false, cond, drop, length, get_or, map, refl, sym, subst, ap, ◌∙◌, arith}
+use Rattle.std.specs.List.{All, AllWithin, enumerate_from, filter, range_with_len}
 use Rattle.std.proofs.Math.ListN.{drop_of_length-le}
-use Rattle.std.proofs.lemmas.List.{drop_more}
+use Rattle.std.proofs.lemmas.List.{append-nil, drop_more}
 use Rattle.std.proofs.lemmas.List.Elements.{All-cons, All-nil}
 use Rattle.mq_values.specs.declared.operators.DimTest.{DimTest}
 use Rattle.mq_dim_index.specs.Runs.{MissesOne}
 use Rattle.mq_dim_index.specs.Places.{Tuple, meets_every, places_from, places_meeting}
+use Rattle.mq_dim_index.specs.Spans.{IsSpan}
 
 -- what each step leaves is left by all
 pub steady : (F : ℕ → List ℕ) (a m : ℕ) → ((k : ℕ) → a ≤ k → k < a + m → F (k + 1) ≡ F k) → F (a + m) ≡ F a
@@ -73,3 +74,37 @@ module _ (tests : List DimTest) where
   places_none keys a l h =
       let all : length keys ≤ length keys = omega arith in
       sym (places_behind keys a (length keys) l all h) ∙ ap (places_from (length keys) tests) (drop_of_length-le keys all)
+
+  -- keys in a row that all meet the tests
+  met_so_far : (keys : List Tuple) (a n : ℕ) → a + n ≤ length keys → AllWithin (λ key. meets_every tests key ≡ true) keys a (a + n) →
+      places_from a tests (drop a keys) ≡ range_with_len a n ++ places_from (a + n) tests (drop (a + n) keys)
+  met_so_far keys a zero l h = let e : a ≡ a + 0 = omega arith in ap (λ k. places_from k tests (drop k keys)) e
+  met_so_far keys a (suc n) l h =
+      let e : a + 1 + n ≡ a + suc n = omega arith in
+      ap (places_from a tests) (drop_more keys a [] (omega arith))
+      ∙ first_meets a (get_or keys a []) (drop (a + 1) keys) (h a [] (omega arith) (omega arith))
+      ∙ ap (λ l. a ∷ l)
+      (met_so_far keys (a + 1) n (omega arith) (λ k d low m. h k d (omega arith) (omega arith))
+      ∙ ap (λ k. range_with_len (a + 1) n ++ places_from k tests (drop k keys)) e)
+
+  places_met : (keys : List Tuple) (a b : ℕ) → a ≤ b → b ≤ length keys → AllWithin (λ key. meets_every tests key ≡ true) keys a b →
+      places_from a tests (drop a keys) ≡ range_with_len a (b - a) ++ places_from b tests (drop b keys)
+  places_met keys a b l m h =
+      let e : a + (b - a) ≡ b = omega arith in
+      met_so_far keys a (b - a) (omega arith) (λ k d low n. h k d low (omega arith)) ∙ ap (λ k. range_with_len a (b - a) ++ places_from k tests (drop k keys)) e
+
+  -- the keys of one row, and no others, meet the tests
+  pub span_places : (keys : List Tuple) (start end : ℕ) → IsSpan (meets_every tests) keys start end → places_meeting tests keys ≡ range_with_len start (end - start)
+  span_places keys start end span =
+      let ordered = span.ordered in
+      let within = span.within in
+      sym (places_behind keys 0 start (omega arith) (omega arith) span.before)
+      ∙ places_met keys start end ordered within span.among
+      ∙ ap (λ l. range_with_len start (end - start) ++ l) (places_none keys end within span.behind)
+      ∙ append-nil (range_with_len start (end - start))
+
+  -- behind the last key there are no numbers
+  pub places_behind_all : (keys : List Tuple) (ns : List ℕ) → ns ++ places_from (length keys) tests (drop (length keys) keys) ≡ ns
+  places_behind_all keys ns =
+      let all : length keys ≤ length keys = omega arith in
+      ap (λ l. ns ++ places_from (length keys) tests l) (drop_of_length-le keys all) ∙ append-nil ns

@@ -21,7 +21,7 @@ use Rattle.mq_values.specs.declared.value.Value.TheVariants as value
 use Rattle.mq_dim_index.specs.Places.{Tuple, meets_every}
 use Rattle.mq_dim_index.specs.Runs.{AscendIn, IsBound, Misses, cmp_bound, cmp_by_worth, cmp_from, cmp_in, first_has_value, has_value, value_meets}
 
-less_is : (r : Ordering) → is_lt r ≡ true → r ≡ Less
+pub less_is : (r : Ordering) → is_lt r ≡ true → r ≡ Less
 less_is Less h = refl
 less_is Equal h = cc
 less_is Greater h = cc
@@ -82,40 +82,40 @@ first_no_greater Less s h = λ e. cc
 first_no_greater Equal s h = λ e. cc
 first_no_greater Greater s h = cc
 
-module _ (x y w : Value) (n : cmp_by_worth x y ≢ Greater) where
-  lower : is_lt (cmp_by_worth y w) ≡ true → is_lt (cmp_by_worth x w) ≡ true
-  lower l = by (cmp_by_worth x y) refl
+module _ {A : Type 0} {R : A → A → Ordering} (o : IsTotalOrder R) (x y w : A) (n : R x y ≢ Greater) where
+  pub lower : is_lt (R y w) ≡ true → is_lt (R x w) ≡ true
+  lower l = by (R x y) refl
     where
-      by : (r : Ordering) → cmp_by_worth x y ≡ r → is_lt (cmp_by_worth x w) ≡ true
-      by Less e = ap is_lt (worth_total.trans x y w e (less_is (cmp_by_worth y w) l))
-      by Equal e = ap is_lt (worth_total.congr x y w e) ∙ l
+      by : (r : Ordering) → R x y ≡ r → is_lt (R x w) ≡ true
+      by Less e = ap is_lt (o.trans x y w e (less_is (R y w) l))
+      by Equal e = ap is_lt (o.congr x y w e) ∙ l
       by Greater e = absurd (n e)
 
-  below_level : cmp_by_worth x y ≡ Less → cmp_by_worth y w ≡ Equal → cmp_by_worth x w ≡ Less
+  below_level : R x y ≡ Less → R y w ≡ Equal → R x w ≡ Less
   below_level e f =
-      worth_total.antisymm x w
-      ∙ ap ordering_reverse (worth_total.congr w y x (worth_total.antisymm w y ∙ ap ordering_reverse f) ∙ worth_total.antisymm y x ∙ ap ordering_reverse e)
+      o.antisymm x w
+      ∙ ap ordering_reverse (o.congr w y x (o.antisymm w y ∙ ap ordering_reverse f) ∙ o.antisymm y x ∙ ap ordering_reverse e)
 
-  lower_or_level : is_le (cmp_by_worth y w) ≡ true → is_le (cmp_by_worth x w) ≡ true
-  lower_or_level l = by (cmp_by_worth x y) (cmp_by_worth y w) refl refl
+  pub lower_or_level : is_le (R y w) ≡ true → is_le (R x w) ≡ true
+  lower_or_level l = by (R x y) (R y w) refl refl
     where
-      by : (r s : Ordering) → cmp_by_worth x y ≡ r → cmp_by_worth y w ≡ s → is_le (cmp_by_worth x w) ≡ true
-      by Less Less e f = ap is_le (worth_total.trans x y w e f)
+      by : (r s : Ordering) → R x y ≡ r → R y w ≡ s → is_le (R x w) ≡ true
+      by Less Less e f = ap is_le (o.trans x y w e f)
       by Less Equal e f = ap is_le (below_level e f)
       by Less Greater e f = let g : true ≡ false = sym l ∙ ap is_le f in cc
-      by Equal s e f = ap is_le (worth_total.congr x y w e) ∙ l
+      by Equal s e f = ap is_le (o.congr x y w e) ∙ l
       by Greater s e f = absurd (n e)
 
 -- values of which the first is not greater, where the second is below a value
 there_lower : (w : Value) (a b : Option Value) → option_cmp cmp_value a b ≢ Greater → is_lt (cmp_bound b w) ≡ true → is_lt (cmp_bound a w) ≡ true
 there_lower w None b n l = refl
 there_lower w (Some x) None n l = absurd (n refl)
-there_lower w (Some x) (Some y) n l = lower x y w (no_greater x y n) l
+there_lower w (Some x) (Some y) n l = lower worth_total x y w (no_greater x y n) l
 
 there_lower_or_level : (w : Value) (a b : Option Value) → option_cmp cmp_value a b ≢ Greater → is_le (cmp_bound b w) ≡ true → is_le (cmp_bound a w) ≡ true
 there_lower_or_level w None b n l = refl
 there_lower_or_level w (Some x) None n l = absurd (n refl)
-there_lower_or_level w (Some x) (Some y) n l = lower_or_level x y w (no_greater x y n) l
+there_lower_or_level w (Some x) (Some y) n l = lower_or_level worth_total x y w (no_greater x y n) l
 
 -- keys in order ascend by their first values
 ascend_heads : (a b : Tuple) → cmp_key a b ≡ Less → cmp_in 0 a b ≢ Greater
@@ -133,7 +133,7 @@ ascend_from n keys s i j d l m =
     first_no_greater (cmp_in n (get_or keys i d) (get_or keys j d)) (cmp_key (get_or keys i d) (get_or keys j d)) (Less-from_sorted (cmp_from n) keys i j d s l m)
 
 module _ (n : ℕ) (keys : List Tuple) (s : AscendIn n keys) where
-  partitioned : (p : Option Value → Bool) → ((a b : Option Value) → option_cmp cmp_value a b ≢ Greater → p b ≡ true → p a ≡ true) → IsPartitionedBy (λ key. p (slice_get key n)) keys
+  pub partitioned : (p : Option Value → Bool) → ((a b : Option Value) → option_cmp cmp_value a b ≢ Greater → p b ≡ true → p a ≡ true) → IsPartitionedBy (λ key. p (slice_get key n)) keys
   partitioned p lowers i j d low l h = by (cases_lt i j)
     where
       by : (i < j) ⊎ (j ≤ i) → p (slice_get (get_or keys i d) n) ≡ true

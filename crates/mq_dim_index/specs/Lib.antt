@@ -1,4 +1,6 @@
 pub mod Found
 pub mod Maps
+pub mod PlaceRuns
 pub mod Places
 pub mod Runs
+pub mod Spans

@@ -4,6 +4,7 @@ ghost use Rattle.std.specs.List.{All, filter, remove};
 ghost use Rattle.std.specs.List.Sorted.{IsStrictlySortedBy};
 ghost use Rattle.mq_values.specs.Order.{cmp_key};
 ghost use Rattle.mq_dim_index.specs.Maps.{MapsKeys};
+ghost use Rattle.mq_dim_index.specs.PlaceRuns.{AreRuns, numbers_of};
 ghost use Rattle.mq_dim_index.specs.Places.{Tuple, is_there, meets_every, place_of, with_key, without_key};
 ghost use Rattle.mq_dim_index.specs.Places as spec;
 ghost use Rattle.mq_dim_index.specs.declared.search.TheConstants.{MAX_KEYS};
@@ -11,7 +12,8 @@ ghost use Rattle.mq_dim_index.specs.declared.search.TheConstants.{MAX_KEYS};
 use crate::dimension_map::DimensionMap;
 use crate::maps::{add_to_maps, is_mapped, take_from_maps};
 use crate::near;
-use crate::ranges::places_meeting;
+use crate::place_runs::PlaceRun;
+use crate::ranges::{places_meeting, runs_meeting};
 use crate::search::{MAX_KEYS, search};
 use mq_values::{DimTest, Key, Memory, Value};
 use std::alloc::Global;
@@ -160,6 +162,17 @@ impl DimIndex {
             IfOk result (λ places. map (λ place. slice_index_or self.now place other) places.items ≡ filter (meets_every tests.now) self.now) }
     {
         places_meeting(alloc, self.keys.as_slice(), self.maps.as_slice(), tests)
+    }
+
+    /// The same numbers as runs, which ascend: none is empty or reaches into the next.
+    pub fn runs_in_range(&self, alloc: Global, tests: &[DimTest]) -> Result<Vec<PlaceRun>, Memory>
+        ensures numbers { IfOk result (λ runs. numbers_of runs.items ≡ spec.places_meeting tests.now self.now) }
+        ensures apart { IfOk result (λ runs. AreRuns 0 (length self.now) runs.items) }
+        ensures below { IfOk result (λ runs. All (λ run. run.past ≤ length self.now) runs.items) }
+        ensures keys { (other : Tuple) → IfOk result (λ runs.
+            map (λ place. slice_index_or self.now place other) (numbers_of runs.items) ≡ filter (meets_every tests.now) self.now) }
+    {
+        runs_meeting(alloc, self.keys.as_slice(), self.maps.as_slice(), tests)
     }
 }
 

@@ -56,8 +56,8 @@ pub fn count_in_runs(keys: &[Key], dimension: usize, tests: &[DimTest], most: us
     count
 }
 
-// Whether the first key has a value in this dimension. Where keys ascend, each has one then.
-fn first_has_value(keys: &[Key], dimension: usize) -> bool
+/// Whether the first key has a value in this dimension. Where keys ascend, each has one then.
+pub fn first_has_value(keys: &[Key], dimension: usize) -> bool
     ensures { result ≡ spec.first_has_value dimension keys.now }
 {
     match keys.first() {

@@ -1,3 +1,4 @@
+pub mod FoldLemmas
 pub mod KeyLemmas
 pub mod ListLemmas
 pub mod LookLaws

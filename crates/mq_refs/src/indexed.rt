@@ -5,6 +5,7 @@ use crate::cell_keys::CellKeys;
 use crate::standpoint::Standpoint;
 use crate::worths::Worths;
 use mq_cells::{IndexedCells, LentStore};
+use mq_dim_index::PlaceRun;
 use mq_ir::Expr;
 use mq_values::{DimTest, Key, Memory, Value};
 use std::alloc::Global;
@@ -22,6 +23,10 @@ impl CellKeys for IndexedCells {
 
     fn meeting(&self, alloc: Global, tests: &[DimTest]) -> Result<Vec<u32>, Memory> {
         self.index().in_range(alloc, tests)
+    }
+
+    fn runs_meeting(&self, alloc: Global, tests: &[DimTest]) -> Result<Vec<PlaceRun>, Memory> {
+        self.index().runs_in_range(alloc, tests)
     }
 
     fn key_at(&self, place: u32) -> &Key {

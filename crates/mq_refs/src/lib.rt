@@ -6,6 +6,7 @@
 mod cell_keys;
 mod indexed;
 mod inside;
+mod lent;
 mod looks;
 mod names;
 mod order;
@@ -27,5 +28,5 @@ pub use order::{RefsOrder, UNKNOWN_ORDER, refs_order};
 pub use reading::{Reading, cell_value};
 pub use shape_keys::ShapeKeys;
 pub use standpoint::Standpoint;
-pub use targets::{eval_cell, slot_over, value_over};
+pub use targets::{eval_cell, lent_value, slot_over, value_over};
 pub use worths::Worths;

@@ -1,11 +1,14 @@
 //! What the leaves of a right side are worth, over measures that are read one by one.
-ghost use Rattle.std.specs.Prelude.{◌≡◌, map};
+ghost use Rattle.std.specs.Prelude.{◌≡◌, ◌≤◌, List, [], ◌++◌, length, map, slice_index_or, IfOk};
 ghost use Rattle.std.specs.List.{filter};
 ghost use Rattle.mq_values.specs.Aggregate.{aggregate};
 ghost use Rattle.mq_values.specs.Answers.{Gives};
+ghost use Rattle.mq_values.specs.declared.value.Value.{Value as OneValue};
+ghost use Rattle.mq_dim_index.specs.PlaceRuns.{numbers_in};
 ghost use Rattle.mq_ir.specs.Expression as expression;
 ghost use Rattle.mq_ir.specs.Reads as spec;
 ghost use Rattle.mq_ir.specs.Targets.{meets_every};
+ghost use Rattle.mq_reads.specs.Aggregation.{comes_to};
 ghost use Rattle.mq_cells.specs.Stores.{cell_name};
 ghost use Rattle.mq_refs.specs.Orders.{IsOrderOf, IsOrderOf-prop};
 ghost use Rattle.mq_refs.specs.Sites as sites;
@@ -18,10 +21,11 @@ use crate::order::RefsOrder;
 use crate::references::{kind_in, reference_cell};
 use crate::standpoint::Standpoint;
 use crate::worths::Worths;
+use mq_dim_index::PlaceRun;
 use mq_ir::{Expr, Leaf, Test};
 use mq_reads::{Aggregation, nav};
 use mq_scalar::Env;
-use mq_values::{Agg, DimTest, Fail, Kind, Num, Value, ValueFault};
+use mq_values::{Agg, DimTest, Fail, Kind, Memory, Num, Value, ValueFault};
 use std::alloc::Global;
 use std::slice;
 
@@ -40,29 +44,38 @@ impl<K: CellKeys, W: Worths + Drop> Env for Reading<'_, K, W> {
     ghost gives = { λ env. spec.read (site_over env.at.now (K.set env.keys.now)) (K.base env.keys.now) (W.worth env.worths) };
 
     fn leaf(&mut self, alloc: Global, leaf: &Leaf) -> Result<Value, Fail<ValueFault>> {
-        let at = self.at;
-        match leaf {
-            Leaf::Cell(measure, indices) => {
-                cell_value(alloc, at, *measure, indices.as_slice(), &mut self.worths)
-            }
-            Leaf::Range(agg, measure, places) => range_value(
-                alloc,
-                at,
-                self.keys,
-                *agg,
-                *measure,
-                places.as_slice(),
-                &mut self.worths,
-            ),
-            Leaf::RefCell(r, measure, indices) => {
-                reference_cell(alloc, at, self.refs, *r, *measure, indices.as_slice())
-            }
-            Leaf::Present(indices) => presence(alloc, at, self.keys, indices.as_slice()),
-            Leaf::NotNull(measure, indices) => {
-                not_null(alloc, at, *measure, indices.as_slice(), &mut self.worths)
-            }
-            _ => inner_leaf(at, leaf),
+        leaf_value(alloc, self.at, self.keys, self.refs, leaf, &mut self.worths)
+    }
+}
+
+/// What a leaf is worth.
+pub fn leaf_value<K: CellKeys, W: Worths>(
+    alloc: Global,
+    at: &Standpoint<'_>,
+    keys: &K,
+    refs: RefsOrder,
+    leaf: &Leaf,
+    worths: &mut W,
+) -> Result<Value, Fail<ValueFault>>
+    requires { IsOrderOf refs at.now.model.now }
+    ensures exact { Gives result (spec.read (site_over at.now (K.set keys.now)) (K.base keys.now) (W.worth worths.old) leaf.now) }
+    ensures same { W.worth worths.new ≡ W.worth worths.old }
+{
+    match leaf {
+        Leaf::Cell(measure, indices) => {
+            cell_value(alloc, at, *measure, indices.as_slice(), worths)
         }
+        Leaf::Range(agg, measure, places) => {
+            range_value(alloc, at, keys, *agg, *measure, places.as_slice(), worths)
+        }
+        Leaf::RefCell(r, measure, indices) => {
+            reference_cell(alloc, at, refs, *r, *measure, indices.as_slice())
+        }
+        Leaf::Present(indices) => presence(alloc, at, keys, indices.as_slice()),
+        Leaf::NotNull(measure, indices) => {
+            not_null(alloc, at, *measure, indices.as_slice(), worths)
+        }
+        _ => inner_leaf(at, leaf),
     }
 }
 
@@ -200,15 +213,35 @@ fn aggregate_of<K: CellKeys, W: Worths>(
         (filter (meets_every tests.now) (K.set keys.now)))) }
     ensures same { W.worth worths.new ≡ W.worth worths.old }
 {
-    let places = keys.meeting(alloc, tests)?;
+    let runs = keys.runs_meeting(alloc, tests)?;
     let mut aggregation = Aggregation::new(agg);
-    for place in places.as_slice() {
-        let key = keys.key_at(*place).as_slice();
-        let v = worths.value_at(*place, key, measure)?;
-        aggregation = aggregation.with(&v)?;
+    for run in runs.as_slice() {
+        aggregation = with_run(aggregation, *run, measure, keys, worths)?;
     }
     match aggregation.finish() {
         Ok(v) => Ok(v),
         Err(fault) => Err(Fail::Cause(fault)),
     }
+}
+
+// The aggregate with the values of a measure at the places of a run taken.
+fn with_run<K: CellKeys, W: Worths>(
+    aggregation: Aggregation,
+    run: PlaceRun,
+    measure: u32,
+    keys: &K,
+    worths: &mut W,
+) -> Result<Aggregation, Memory>
+    requires { run.past ≤ length (K.set keys.now) }
+    ensures taken { (values : List OneValue) → IfOk result (λ a. comes_to a values ≡ comes_to aggregation
+        (map (λ place. W.worth worths.old (cell_name (slice_index_or (K.set keys.now) place []) measure)) (numbers_in run) ++ values)) }
+    ensures same { W.worth worths.new ≡ W.worth worths.old }
+{
+    let mut aggregation = aggregation;
+    for place in run.first..run.past {
+        let key = keys.key_at(place).as_slice();
+        let v = worths.value_at(place, key, measure)?;
+        aggregation = aggregation.with(&v)?;
+    }
+    Ok(aggregation)
 }

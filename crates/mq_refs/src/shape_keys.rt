@@ -5,7 +5,7 @@ ghost use Rattle.mq_dim_index.specs.Places.{places_meeting};
 
 use crate::cell_keys::CellKeys;
 use crate::names::meets_every;
-use mq_dim_index::DimIndex;
+use mq_dim_index::{DimIndex, PlaceRun, runs_among};
 use mq_ir::PartShape;
 use mq_values::{DimTest, Key, Memory, Value};
 use std::alloc::Global;
@@ -30,6 +30,10 @@ impl CellKeys for ShapeKeys<'_> {
         self.cells.in_range(alloc, tests)
     }
 
+    fn runs_meeting(&self, alloc: Global, tests: &[DimTest]) -> Result<Vec<PlaceRun>, Memory> {
+        self.cells.runs_in_range(alloc, tests)
+    }
+
     fn key_at(&self, place: u32) -> &Key {
         &self.cells.keys()[place as usize]
     }
@@ -51,6 +55,14 @@ impl CellKeys for PartShape {
             return Err(Memory);
         }
         places_among(alloc, keys, tests)
+    }
+
+    fn runs_meeting(&self, alloc: Global, tests: &[DimTest]) -> Result<Vec<PlaceRun>, Memory> {
+        let keys = self.cells.as_slice();
+        if keys.len() > MAX_KEYS {
+            return Err(Memory);
+        }
+        runs_among(alloc, keys, tests)
     }
 
     fn key_at(&self, place: u32) -> &Key {

@@ -5,6 +5,7 @@ ghost use Rattle.mq_ir.specs.Looks as looks;
 ghost use Rattle.mq_ir.specs.Reads as spec;
 ghost use Rattle.mq_ir.specs.Slots.{cell_slot, site_in, slot_of};
 ghost use Rattle.mq_ir.specs.Unfolding.{model_of};
+ghost use Rattle.mq_cells.specs.IndexedStores.{base_in, keys_in, value_in};
 ghost use Rattle.mq_cells.specs.Stores.{slot_at};
 ghost use Rattle.mq_refs.specs.Orders.{IsOrderOf};
 ghost use Rattle.mq_refs.specs.Sightings.{measures_in};
@@ -12,6 +13,7 @@ ghost use Rattle.mq_refs.specs.Sites.{site_with};
 ghost use Rattle.mq_refs.specs.SlotsOver.{cell_slot_over};
 
 use crate::cell_keys::CellKeys;
+use crate::lent::LentReading;
 use crate::looks::looks_from;
 use crate::order::{RefsOrder, UNKNOWN_ORDER};
 use crate::plain::brought;
@@ -21,7 +23,7 @@ use crate::seen::Seen;
 use crate::sights::seen_at;
 use crate::standpoint::Standpoint;
 use crate::worths::Worths;
-use mq_cells::Cells;
+use mq_cells::{Cells, IndexedCells, LentStore};
 use mq_ir::{Model, PartShape, Rule, Slot, reads_are_among_looks};
 use mq_scalar::eval;
 use mq_values::{Fail, Key, Memory, Value, ValueFault};
@@ -133,6 +135,55 @@ pub fn value_over<K: CellKeys, W: Worths + Drop>(
         keys,
         refs,
         worths,
+    };
+    let v = eval(alloc, &r.right, &mut reading)?;
+    let kind = kind_in(m.part.measures.as_slice(), r.measure);
+    brought(alloc, v, kind)
+}
+
+/// The same as `value_over` over the cells of the store that `lent` is and the values that it lends: those of a range are found at
+/// the places of its keys, so none of these keys is looked at.
+pub fn lent_value(
+    alloc: Global,
+    r: &Rule,
+    m: &Model<'_>,
+    target: &Key,
+    turn: u32,
+    refs: RefsOrder,
+    lent: LentStore<'_>,
+) -> Result<Value, Fail<ValueFault>>
+    requires { IsOrderOf refs m.now }
+    ensures { Gives result (spec.right_value (site_with (model_of m.now) turn target.now (keys_in lent.entry))
+        (base_in lent.entry) (value_in lent.entry) r.now) }
+{
+    value_in_store(alloc, r, m, target, turn, refs, lent.store(), lent.near())
+}
+
+// The same over the store itself. The first cell is looked for beside the place `near`.
+fn value_in_store(
+    alloc: Global,
+    r: &Rule,
+    m: &Model<'_>,
+    target: &Key,
+    turn: u32,
+    refs: RefsOrder,
+    store: &IndexedCells,
+    near: u32,
+) -> Result<Value, Fail<ValueFault>>
+    requires { IsOrderOf refs m.now }
+    ensures { Gives result (spec.right_value (site_with (model_of m.now) turn target.now (keys_in store.now))
+        (base_in store.now) (value_in store.now) r.now) }
+{
+    let at = Standpoint {
+        model: m,
+        target,
+        turn,
+    };
+    let mut reading = LentReading {
+        at: &at,
+        refs,
+        store,
+        near,
     };
     let v = eval(alloc, &r.right, &mut reading)?;
     let kind = kind_in(m.part.measures.as_slice(), r.measure);

@@ -12,7 +12,7 @@ ghost use Rattle.mq_seq.specs.Steps.{act_in, target_done, target_value};
 use crate::acting::Acting;
 use crate::grid::Grid;
 use mq_ir::{PlacedFault, kind_of};
-use mq_refs::value_over as right_side_over;
+use mq_refs::lent_value;
 use mq_values::{Fail, Key, Value, ValueFault};
 use std::alloc::Global;
 
@@ -86,13 +86,12 @@ fn value_over(
     ensures { Gives result (right_value (site_of (act_in act.now grid.now.input) (keys_of grid.now.track.cells) target.now)
         grid.now.input (measure_at grid.now.track.cells) act.now.rule.now) }
 {
-    right_side_over(
+    lent_value(
         alloc,
         act.rule,
         act.model,
         target,
         act.turn,
-        grid.store(),
         act.refs,
         grid.lent(),
     )

@@ -91,7 +91,9 @@ impl Grid {
 
     /// The values of all measures, lent.
     pub fn lent(&self) -> LentStore<'_>
-        ensures { value_in result ≡ measure_at self.now.track.cells }
+        ensures values { value_in result ≡ measure_at self.now.track.cells }
+        ensures keys { keys_in result ≡ keys_of self.now.track.cells }
+        ensures base { base_in result ≡ self.now.input }
     {
         self.cells.lent()
     }

@@ -84,7 +84,9 @@ impl MarkedCells {
 
     /// The values of all measures, lent.
     pub fn lent(&self) -> LentStore<'_>
-        ensures { value_in result ≡ measure_at self.now.cells }
+        ensures values { value_in result ≡ measure_at self.now.cells }
+        ensures keys { keys_in result ≡ keys_of self.now.cells }
+        ensures base { base_in result ≡ self.now.input }
     {
         let _index = self.store.index();
         match self.store.lent() {

@@ -8,6 +8,6 @@ pub returns : goal.returns
 returns c =
     let act = c.args.act.now in
     let model = model_of act.model.now in
-    subst (Gives c.value_over.result)
-    (λ i. right_value (record { model = model; target = c.args.target.now; turn = act.turn; set = c.store.ensures.keys i }) (c.store.ensures.base i) (c.lent.ensures i) act.rule.now)
-    c.value_over.ensures
+    subst (Gives c.lent_value.result)
+    (λ i. right_value (record { model = model; target = c.args.target.now; turn = act.turn; set = c.lent.ensures.keys i }) (c.lent.ensures.base i) (c.lent.ensures.values i) act.rule.now)
+    c.lent_value.ensures

@@ -5,4 +5,4 @@ use Rattle.mq_refs.specs.Sites.{site_over}
 use Rattle.mq_seq.proofs.until.leaf_now.Goals as goal
 
 pub returns : goal.returns
-returns c = subst (Gives c.leaf.result) (λ i. read (site_over c.args.at.now (c.store.ensures.keys i)) (c.store.ensures.base i) (c.lent.ensures i) c.args.leaf.now) c.leaf.ensures.exact
+returns c = subst (Gives c.leaf.result) (λ i. read (site_over c.args.at.now (c.store.ensures.keys i)) (c.store.ensures.base i) (c.lent.ensures.values i) c.args.leaf.now) c.leaf.ensures.exact

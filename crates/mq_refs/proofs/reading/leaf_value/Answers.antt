@@ -5,14 +5,14 @@ use Rattle.mq_ir.specs.declared.expression.Leaf.TheVariants as leaf
 use Rattle.mq_ir.specs.Reads.{cell_value, not_null, presence, read_layer, reference_cell}
 use Rattle.mq_refs.specs.Sites.{site_of, site_over}
 use Rattle.mq_refs.proofs.SiteLemmas.{cell_over, not_null_over, presence_over, reference_over}
-use Rattle.mq_refs.proofs.reading.ReadingEnv.leaf.Goals as goal
+use Rattle.mq_refs.proofs.reading.leaf_value.Goals as goal
 
 pub returns-in-Cell-clause-exact : goal.returns-in-Cell-clause-exact
 returns-in-Cell-clause-exact g c =
-    let at = c.args.self.now.at.now in
-    let set = g.K.CellKeys.set c.args.self.now.keys.now in
-    let base = g.K.CellKeys.base c.args.self.now.keys.now in
-    let now = g.W.Worths.worth c.args.self.now.worths in
+    let at = c.args.at.now in
+    let set = g.K.CellKeys.set c.args.keys.now in
+    let base = g.K.CellKeys.base c.args.keys.now in
+    let now = g.W.Worths.worth c.args.worths.now in
     subst (Gives c.cell_value.result)
     (ap (cell_value (site_of at) now c.in-Cell.measure) c.as_slice.ensures
     ∙ cell_over at set now c.in-Cell.measure c.in-Cell.indices
@@ -21,10 +21,10 @@ returns-in-Cell-clause-exact g c =
 
 pub returns-in-RefCell-clause-exact : goal.returns-in-RefCell-clause-exact
 returns-in-RefCell-clause-exact g c =
-    let at = c.args.self.now.at.now in
-    let set = g.K.CellKeys.set c.args.self.now.keys.now in
-    let base = g.K.CellKeys.base c.args.self.now.keys.now in
-    let now = g.W.Worths.worth c.args.self.now.worths in
+    let at = c.args.at.now in
+    let set = g.K.CellKeys.set c.args.keys.now in
+    let base = g.K.CellKeys.base c.args.keys.now in
+    let now = g.W.Worths.worth c.args.worths.now in
     subst (Gives c.reference_cell.result)
     (ap (reference_cell (site_of at) c.in-RefCell.r c.in-RefCell.measure) c.as_slice-in-RefCell.ensures
     ∙ reference_over at set c.in-RefCell.r c.in-RefCell.measure c.in-RefCell.indices
@@ -33,10 +33,10 @@ returns-in-RefCell-clause-exact g c =
 
 pub returns-in-Present-clause-exact : goal.returns-in-Present-clause-exact
 returns-in-Present-clause-exact g c =
-    let at = c.args.self.now.at.now in
-    let set = g.K.CellKeys.set c.args.self.now.keys.now in
-    let base = g.K.CellKeys.base c.args.self.now.keys.now in
-    let now = g.W.Worths.worth c.args.self.now.worths in
+    let at = c.args.at.now in
+    let set = g.K.CellKeys.set c.args.keys.now in
+    let base = g.K.CellKeys.base c.args.keys.now in
+    let now = g.W.Worths.worth c.args.worths.now in
     subst (Gives c.presence.result)
     (ap (presence (site_of at) base) c.as_slice-in-Present.ensures
     ∙ presence_over at set base c.in-Present.indices
@@ -45,10 +45,10 @@ returns-in-Present-clause-exact g c =
 
 pub returns-in-NotNull-clause-exact : goal.returns-in-NotNull-clause-exact
 returns-in-NotNull-clause-exact g c =
-    let at = c.args.self.now.at.now in
-    let set = g.K.CellKeys.set c.args.self.now.keys.now in
-    let base = g.K.CellKeys.base c.args.self.now.keys.now in
-    let now = g.W.Worths.worth c.args.self.now.worths in
+    let at = c.args.at.now in
+    let set = g.K.CellKeys.set c.args.keys.now in
+    let base = g.K.CellKeys.base c.args.keys.now in
+    let now = g.W.Worths.worth c.args.worths.now in
     subst (Gives c.not_null.result)
     (ap (not_null (site_of at) now c.in-NotNull.measure) c.as_slice-in-NotNull.ensures
     ∙ not_null_over at set now c.in-NotNull.measure c.in-NotNull.indices

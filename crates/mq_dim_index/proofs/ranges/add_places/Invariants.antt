@@ -1,8 +1,0 @@
-use Rattle.std.proofs.Common.{◌≡◌, ◌++◌, drop}
-use Rattle.mq_dim_index.specs.Places.{places_from}
-use Rattle.mq_dim_index.proofs.ranges.add_places.Given as goal
-
--- the numbers so far, and those of the keys that are left
-abbrev pub invariant-loop-at : goal.invariant-loop-at
-invariant-loop-at l =
-    l.places.items ++ places_from l.at l.tests (drop l.at l.keys) ≡ l.initial.places.items ++ places_from l.fn.run.start l.tests (drop l.fn.run.start l.keys)
