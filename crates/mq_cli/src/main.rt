@@ -22,7 +22,7 @@ fn main(rt: HostRuntime) -> ExitCode {
     let mut files = FolderShelf::new(&rt, ".");
     let mut out = WriterSink::new(io::writer(&rt));
     let gate = OpenGate;
-    let status = run(alloc, &words, &mut script, &mut files, &mut out, &gate);
+    let status = run(&rt, alloc, &words, &mut script, &mut files, &mut out, &gate);
     ExitCode::from(status)
 }
 

@@ -3,6 +3,7 @@ pub mod BlockLemmas
 pub mod CatalogLemmas
 pub mod ChangeLemmas
 pub mod ColumnLemmas
+pub mod CrossLemmas
 pub mod DropLemmas
 pub mod ExplainLemmas
 pub mod HoldLemmas
@@ -17,5 +18,7 @@ pub mod RowLemmas
 pub mod ScenarioLemmas
 pub mod StageLemmas
 pub mod StateLemmas
+pub mod StretchLemmas
+pub mod TakenLemmas
 pub mod TurnLemmas
 pub mod UseLemmas

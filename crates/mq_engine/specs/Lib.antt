@@ -6,3 +6,4 @@ pub mod Printing
 pub mod Queries
 pub mod Scenarios
 pub mod Sessions
+pub mod Stretches

@@ -17,12 +17,14 @@ use crate::open_block::OpenBlock;
 use crate::queries::answer_over;
 use crate::uses::user_of;
 use crate::views::NoView;
+use crate::workers::{Crew, Workers};
 use mq_io::Gate;
 use mq_ir::{Answer, BoundQuery, ByName, Catalog, CellName, Change, Explained, TableDef, View};
 use mq_tables::Tables;
 use mq_values::{Fail, Key, Memory, Refused, Words};
 use std::alloc::Global;
 use std::marker::Model;
+use std::thread::Threads;
 
 /// How many workers there may be.
 pub const MAX_WORKERS: u32 = 64;
@@ -37,6 +39,7 @@ pub struct Engine {
     pub(crate) block: Option<OpenBlock>,
     // Where scenarios are kept.
     pub(crate) alloc: Global,
+    workers: Workers,
 }
 
 impl Model for Engine {
@@ -61,10 +64,9 @@ impl Model for Engine {
 }
 
 impl Engine {
-    /// No table, no view, no scenario and no block. It takes no memory. Answers are worked out on one thread so far, whatever the
-    /// number of workers.
-    pub fn new(alloc: Global, _workers: u32) -> Engine
-        requires { (1 ≤ _workers) × (_workers ≤ MAX_WORKERS) }
+    /// No table, no view, no scenario and no block, and so many workers, whose number no answer tells. It takes no memory.
+    pub fn new(alloc: Global, workers: u32) -> Engine
+        requires { (1 ≤ workers) × (workers ≤ MAX_WORKERS) }
         ensures { result ≡ nothing }
     {
         Engine {
@@ -76,6 +78,16 @@ impl Engine {
             },
             block: None,
             alloc,
+            workers: Workers::new(workers),
+        }
+    }
+
+    // Who works out its answers.
+    pub(crate) fn crew<'r, 'g, R, G>(&self, rt: &'r R, gate: &'g G) -> Crew<'r, 'g, R, G> {
+        Crew {
+            rt,
+            workers: self.workers,
+            gate,
         }
     }
 
@@ -166,17 +178,19 @@ impl Engine {
 
     /// What the view of this name answers over the tables as they stand: its rows as they are printed, or its first fault.
     /// `NoView` comes exactly where no such view is (docs/MEANING.md, "Answers").
-    pub fn answer<G: Gate>(
+    pub fn answer<R: Threads + Sync, G: Gate>(
         &mut self,
+        rt: &R,
         alloc: Global,
         view: &str,
-        _gate: &G,
+        gate: &G,
     ) -> Result<Answer, Fail<NoView>>
         ensures exact { Gives result (view_answer self.old view.now) }
         ensures same { self.new ≡ self.old }
     {
+        let crew = self.crew(rt, gate);
         match self.catalog.views.get(view) {
-            Some(found) => Ok(answer_over(alloc, &self.tables, &found.query)?),
+            Some(found) => Ok(answer_over(&crew, alloc, &self.tables, &found.query)?),
             None => Err(Fail::Cause(NoView {
                 name: Words::new(alloc, view)?,
             })),
@@ -185,11 +199,17 @@ impl Engine {
 
     /// What a query that is ready (mq_ir's `specs/Ready`) answers over the tables as they stand (docs/MEANING.md, "Answers").
     /// `Memory` is the only error.
-    pub fn query<G: Gate>(&self, alloc: Global, q: &BoundQuery, _gate: &G) -> Result<Answer, Memory>
+    pub fn query<R: Threads + Sync, G: Gate>(
+        &self,
+        rt: &R,
+        alloc: Global,
+        q: &BoundQuery,
+        gate: &G,
+    ) -> Result<Answer, Memory>
         requires { QueryIsReady q.now }
         ensures { IfOk result (λ a. a ≡ answer_of self.now.tables q.now) }
     {
-        answer_over(alloc, &self.tables, q)
+        answer_over(&self.crew(rt, gate), alloc, &self.tables, q)
     }
 
     /// Where a measure of a cell of the view of this name comes from, in the partition with this key: its steps, which `check` of

@@ -17,10 +17,13 @@ mod printing;
 mod queries;
 mod results;
 mod scenarios;
+mod stretches;
 mod uses;
 mod views;
+mod workers;
 
 pub use engine::{Engine, MAX_WORKERS};
 pub use explaining::explained_over;
 pub use queries::answer_over;
 pub use views::NoView;
+pub use workers::{Crew, Workers};

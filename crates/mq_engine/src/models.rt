@@ -1,5 +1,5 @@
-//! The rows of a query with MODEL: its partitions one after another, ascending.
-ghost use Rattle.std.specs.Prelude.{◌≡◌, [], IfOk};
+//! The rows of a query with MODEL: its partitions one after another, ascending, whoever ran them.
+ghost use Rattle.std.specs.Prelude.{◌≡◌, ◌<◌, ◌≤◌, [], IfOk};
 ghost use Rattle.std.specs.List.{All};
 ghost use Rattle.mq_values.specs.Answers.{Gives, result_map};
 ghost use Rattle.mq_ir.specs.Answer as spec;
@@ -11,27 +11,35 @@ ghost use Rattle.mq_ir.specs.Unfolding.{model_of};
 ghost use Rattle.mq_ir.specs.Ready.{IsReady};
 ghost use Rattle.mq_sources.specs.References.{cells_of_arrays};
 ghost use Rattle.mq_engine.specs.Models.{MayRun, gathered_rows};
+ghost use Rattle.mq_engine.specs.Stretches.{HasRun, with_found, with_stretch};
 
 use crate::model_rows::ModelRow;
-use crate::results::result_of;
-use mq_auto::AutoRunner;
+use crate::stretches::{Found, Stretch, stretches_of};
+use crate::workers::Crew;
+use mq_io::Gate;
 use mq_ir::{Model as Lent, ModelPart, OutCell, PartInput, PartResult, PlacedFault, RefArray};
 use mq_shape::partitions;
 use mq_sources::{lists_over, references_over};
 use mq_tables::TableSet;
 use mq_values::{Fail, FaultKind, Items, Key, MAX_CELLS_OF_QUERY, Memory, QueryFault};
+use mq_workers::run_pieces;
 use std::alloc::Global;
 use std::marker::Model;
+use std::thread::Threads;
+
+/// How many partitions the first wave has.
+const FIRST_WAVE: usize = 32;
 
 /// The rows of the cells that the rules of a model leave, over the items of its query, or the first fault: the references
-/// come first, then the FOR subqueries, then the partitions (docs/MEANING.md, "Answers").
-pub fn model_rows<T: TableSet>(
+/// come first, then the FOR subqueries, then the partitions (docs/MEANING.md, "Answers"), which the crew shares.
+pub fn model_rows<R: Threads + Sync, T: TableSet, G: Gate>(
+    crew: &Crew<'_, '_, R, G>,
     alloc: Global,
     tables: &T,
     items: Items<Key>,
     part: &ModelPart,
 ) -> Result<Vec<ModelRow>, Fail<QueryFault>>
-    requires { MayRun part.now items }
+    requires may_run { MayRun part.now items }
     ensures { Gives (result_map (λ rows. rows.items) result) (spec.model_rows (T.tables tables.now) items part.now) }
 {
     let refs = arrays_over(alloc, tables, part)?;
@@ -42,7 +50,7 @@ pub fn model_rows<T: TableSet>(
         refs: refs.as_slice(),
     };
     let inputs = inputs_of(alloc, part, items)?;
-    all_partitions(alloc, &model, &inputs)
+    all_partitions(crew, alloc, &model, inputs)
 }
 
 /// The partitions of these items, which are let go before the rules run: their values stand in the cells.
@@ -68,33 +76,118 @@ pub fn arrays_over<T: TableSet>(
 }
 
 // The rows of all partitions.
-fn all_partitions(
+fn all_partitions<R: Threads + Sync, G: Gate>(
+    crew: &Crew<'_, '_, R, G>,
     alloc: Global,
     m: &Lent<'_>,
-    inputs: &Items<PartInput>,
+    inputs: Items<PartInput>,
 ) -> Result<Vec<ModelRow>, Fail<QueryFault>>
-    requires { All (IsReady m.now.part.now) inputs.now }
-    ensures { Gives (result_map (λ rows. rows.items) result) (gathered_rows (model_of m.now) inputs.now) }
+    requires ready { All (IsReady m.now.part.now) inputs }
+    ensures { Gives (result_map (λ rows. rows.items) result) (gathered_rows (model_of m.now) inputs) }
 {
-    let gathered = gathered_of(alloc, m, inputs.as_slice())?;
+    let gathered = gathered_of(crew, alloc, m, inputs)?;
     Ok(gathered.rows)
 }
 
-// What all partitions make, one after another; one runner runs over them all.
-fn gathered_of(
+// What all partitions make, wave by wave. Each wave is twice as long as the one before it: so behind a fault about as many
+// partitions are run in vain as there were before it, or those of the first wave.
+fn gathered_of<R: Threads + Sync, G: Gate>(
+    crew: &Crew<'_, '_, R, G>,
     alloc: Global,
     m: &Lent<'_>,
-    inputs: &[PartInput],
+    inputs: Items<PartInput>,
 ) -> Result<Gathered, Fail<QueryFault>>
-    requires { All (IsReady m.now.part.now) inputs.now }
-    ensures { Gives result (each_in_turn (spec.partition_step (model_of m.now)) inputs.now (0, [])) }
+    requires ready { All (IsReady m.now.part.now) inputs }
+    ensures { Gives result (each_in_turn (spec.partition_step (model_of m.now)) inputs (0, [])) }
 {
-    let mut runner = AutoRunner::new(m);
     let mut gathered = Gathered::new(alloc);
-    for p in inputs {
-        gathered = with_partition(alloc, m, p, &mut runner, gathered)?;
+    let mut left = inputs.into_vec();
+    let mut length = FIRST_WAVE;
+    'waves: while !left.is_empty() {
+        let rest = left.split_off(wave_length(length, left.len()))?;
+        gathered = with_wave(crew, alloc, m, Items::from_vec(left), gathered)?;
+        left = rest;
+        length = length.saturating_mul(2);
     }
     Ok(gathered)
+}
+
+// How many of those that are left are in a wave that may have so many.
+fn wave_length(most: usize, left: usize) -> usize
+    requires { (0 < most) × (0 < left) }
+    ensures { (0 < result) × (result ≤ left) }
+{
+    if most < left { most } else { left }
+}
+
+// What some partitions make of what is gathered so far; the workers share them in stretches.
+fn with_wave<R: Threads + Sync, G: Gate>(
+    crew: &Crew<'_, '_, R, G>,
+    alloc: Global,
+    m: &Lent<'_>,
+    inputs: Items<PartInput>,
+    gathered: Gathered,
+) -> Result<Gathered, Fail<QueryFault>>
+    requires ready { All (IsReady m.now.part.now) inputs }
+    ensures { Gives result (each_in_turn (spec.partition_step (model_of m.now)) inputs gathered) }
+{
+    let stretches = stretches_of(alloc, m, inputs, crew.workers)?.into_vec();
+    let done = run_pieces(crew.rt, alloc, stretches, crew.workers.count(), crew.gate)?;
+    with_done(m, done, gathered)
+}
+
+// What stretches that were run make of what is gathered so far, one after another.
+fn with_done(
+    m: &Lent<'_>,
+    done: Vec<Stretch<'_>>,
+    gathered: Gathered,
+) -> Result<Gathered, Fail<QueryFault>>
+    requires { All (HasRun m.now) done.items }
+    ensures { Gives result (each_in_turn (with_stretch (model_of m.now)) done.entry.items gathered) }
+{
+    let mut gathered = gathered;
+    for stretch in done {
+        gathered = with_stretch(m, stretch, gathered)?;
+    }
+    Ok(gathered)
+}
+
+// What a stretch makes of what is gathered so far.
+fn with_stretch(
+    m: &Lent<'_>,
+    stretch: Stretch<'_>,
+    gathered: Gathered,
+) -> Result<Gathered, Fail<QueryFault>>
+    requires { HasRun m.now stretch }
+    ensures { Gives result (with_stretch (model_of m.now) stretch.entry gathered) }
+{
+    with_all(m, stretch.found?, gathered)
+}
+
+// The same of what was found in the stretch.
+fn with_all(
+    m: &Lent<'_>,
+    found: Items<Found>,
+    gathered: Gathered,
+) -> Result<Gathered, Fail<QueryFault>>
+    ensures { Gives result (each_in_turn (with_found (model_of m.now)) found gathered) }
+{
+    let mut gathered = gathered;
+    for next in found.into_vec() {
+        gathered = with_found(m, next, gathered)?;
+    }
+    Ok(gathered)
+}
+
+// What a partition makes of what is gathered so far.
+fn with_found(m: &Lent<'_>, found: Found, gathered: Gathered) -> Result<Gathered, Fail<QueryFault>>
+    ensures { Gives result (with_found (model_of m.now) found gathered) }
+{
+    let Found { key, made } = found;
+    match made {
+        PartResult::Rows(cells) => with_cells(m, &key, gathered, cells),
+        PartResult::Fault(fault) => Err(Fail::Cause(fault)),
+    }
 }
 
 // How many cells there were so far, and the rows so far.
@@ -124,25 +217,6 @@ impl Gathered {
             count: 0,
             rows: Vec::new(alloc),
         }
-    }
-}
-
-// What a partition makes of what is gathered so far.
-fn with_partition(
-    alloc: Global,
-    m: &Lent<'_>,
-    p: &PartInput,
-    runner: &mut AutoRunner<'_>,
-    gathered: Gathered,
-) -> Result<Gathered, Fail<QueryFault>>
-    requires ready { IsReady m.now.part.now p.now }
-    requires runner { runner.old ≡ model_of m.now }
-    ensures exact { Gives result (spec.partition_step (model_of m.now) p.now gathered) }
-    ensures same { runner.new ≡ runner.old }
-{
-    match result_of(alloc, m, p, runner)? {
-        PartResult::Rows(cells) => with_cells(m, &p.key, gathered, cells),
-        PartResult::Fault(fault) => Err(Fail::Cause(fault)),
     }
 }
 

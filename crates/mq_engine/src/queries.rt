@@ -10,19 +10,27 @@ ghost use Rattle.mq_engine.specs.Queries.{rows_shown};
 
 use crate::models::model_rows;
 use crate::printing::{printed_rows, sorted};
+use crate::workers::Crew;
+use mq_io::Gate;
 use mq_ir::{Answer, BoundQuery, ModelPart};
 use mq_sources::items_over;
 use mq_tables::TableSet;
 use mq_values::{Fail, Items, Key, Memory, QueryFault};
 use std::alloc::Global;
+use std::thread::Threads;
 
 /// What a query answers over these tables: its rows as they are printed, or its first fault (docs/MEANING.md, "Answers").
-/// `Memory` is the only error.
-pub fn answer_over<T: TableSet>(alloc: Global, tables: &T, q: &BoundQuery) -> Result<Answer, Memory>
-    requires { QueryIsReady q.now }
+/// Its partitions are shared by the crew, which no answer tells. `Memory` is the only error.
+pub fn answer_over<R: Threads + Sync, T: TableSet, G: Gate>(
+    crew: &Crew<'_, '_, R, G>,
+    alloc: Global,
+    tables: &T,
+    q: &BoundQuery,
+) -> Result<Answer, Memory>
+    requires ready { QueryIsReady q.now }
     ensures { IfOk result (λ a. a ≡ spec.answer_of (T.tables tables.now) q.now) }
 {
-    match rows_over(alloc, tables, q) {
+    match rows_over(crew, alloc, tables, q) {
         Ok(rows) => Ok(Answer::Rows(rows)),
         Err(Fail::Cause(fault)) => Ok(Answer::Fault(fault)),
         Err(Fail::Memory) => Err(Memory),
@@ -30,33 +38,35 @@ pub fn answer_over<T: TableSet>(alloc: Global, tables: &T, q: &BoundQuery) -> Re
 }
 
 // The rows of a query as they are printed, or its first fault.
-fn rows_over<T: TableSet>(
+fn rows_over<R: Threads + Sync, T: TableSet, G: Gate>(
+    crew: &Crew<'_, '_, R, G>,
     alloc: Global,
     tables: &T,
     q: &BoundQuery,
 ) -> Result<Items<Key>, Fail<QueryFault>>
-    requires { QueryIsReady q.now }
+    requires ready { QueryIsReady q.now }
     ensures { Gives result (rows_shown (T.tables tables.now) q.now) }
 {
     let items = items_over(alloc, tables, &q.from, &q.items)?;
     match &q.model {
-        Some(part) => shown_cells(alloc, tables, q, part, items),
+        Some(part) => shown_cells(crew, alloc, tables, q, part, items),
         None => Ok(shown_items(alloc, q, items)?),
     }
 }
 
 // The rows of the cells that a model leaves, as they are printed.
-fn shown_cells<T: TableSet>(
+fn shown_cells<R: Threads + Sync, T: TableSet, G: Gate>(
+    crew: &Crew<'_, '_, R, G>,
     alloc: Global,
     tables: &T,
     q: &BoundQuery,
     part: &ModelPart,
     items: Items<Key>,
 ) -> Result<Items<Key>, Fail<QueryFault>>
-    requires { MayRun part.now items }
+    requires may_run { MayRun part.now items }
     ensures { Gives result (result_map (printing.printed_rows q.now) (spec.model_rows (T.tables tables.now) items part.now)) }
 {
-    let rows = model_rows(alloc, tables, items, part)?;
+    let rows = model_rows(crew, alloc, tables, items, part)?;
     Ok(printed_rows(alloc, q, rows)?)
 }
 

@@ -14,12 +14,14 @@ use crate::change_copies::{same_change, same_changes};
 use crate::engine::Engine;
 use crate::queries::answer_over;
 use crate::views::NoView;
+use crate::workers::Crew;
 use mq_io::Gate;
 use mq_ir::{BoundQuery, ByName, Change, Compared, Scenario};
 use mq_overlay::overlay;
 use mq_tables::Tables;
 use mq_values::{Boxed, Fail, Items, Memory, Words};
 use std::alloc::Global;
+use std::thread::Threads;
 
 impl Engine {
     /// Adds a scenario whose name no other has: it is the last, and has no changes. After `Memory` nothing is changed.
@@ -56,17 +58,19 @@ impl Engine {
     /// What the view of this name answers under each of these scenarios, over the tables as they stand: what its query answers
     /// over the tables as the changes of the scenario leave them, or the number of its first change that is refused, from 1,
     /// with the refusal. `NoView` comes exactly where no such view is (docs/MEANING.md, "Scenarios").
-    pub fn compare<G: Gate>(
+    pub fn compare<R: Threads + Sync, G: Gate>(
         &self,
+        rt: &R,
         alloc: Global,
         view: &str,
         names: &[Words],
-        _gate: &G,
+        gate: &G,
     ) -> Result<Vec<Compared>, Fail<NoView>>
         ensures { Gives (result_map (λ found. found.items) result) (view_compared self.now view.now names.now) }
     {
         match self.catalog.views.get(view) {
             Some(found) => Ok(compared_under_each(
+                &self.crew(rt, gate),
                 alloc,
                 &self.tables,
                 &found.query,
@@ -141,7 +145,8 @@ fn longer(alloc: Global, scenario: &Scenario, name: &str, c: &Change) -> Result<
 }
 
 // What a query answers under each of these scenarios.
-fn compared_under_each(
+fn compared_under_each<R: Threads + Sync, G: Gate>(
+    crew: &Crew<'_, '_, R, G>,
     alloc: Global,
     tables: &Tables,
     q: &BoundQuery,
@@ -155,13 +160,14 @@ fn compared_under_each(
     let mut found = Vec::with_capacity(alloc, names.len())?;
     for name in names {
         let changes = changes_of(scenarios, name.as_str());
-        found.push(compared_under(alloc, tables, q, changes)?)?;
+        found.push(compared_under(crew, alloc, tables, q, changes)?)?;
     }
     Ok(found)
 }
 
 // What a query answers over the tables as these changes leave them, or the first change that is refused.
-fn compared_under(
+fn compared_under<R: Threads + Sync, G: Gate>(
+    crew: &Crew<'_, '_, R, G>,
     alloc: Global,
     tables: &Tables,
     q: &BoundQuery,
@@ -172,7 +178,7 @@ fn compared_under(
     ensures { IfOk result (λ found. found ≡ spec.compared tables.now q.now changes.now) }
 {
     match overlay(alloc, tables, changes) {
-        Ok(under) => Ok(Compared::Shown(answer_over(alloc, &under, q)?)),
+        Ok(under) => Ok(Compared::Shown(answer_over(crew, alloc, &under, q)?)),
         Err(Fail::Cause((number, refusal))) => Ok(Compared::Stopped(number, refusal)),
         Err(Fail::Memory) => Err(Memory),
     }

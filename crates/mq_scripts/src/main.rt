@@ -3,6 +3,7 @@
 //! It has no contracts: what it writes is compared with a table that was worked out by hand.
 #![tactic(auto)]
 
+mod gates;
 mod heads;
 mod runs;
 mod shows;
@@ -16,12 +17,12 @@ fn main(rt: HostRuntime) -> io::Result<()> {
     let mut out = io::writer(&rt);
     let mut table = table::Table::new(rt.alloc());
     for line in rt.lines(rt.alloc()) {
-        let Ok(answer) = table::answered(rt.alloc(), &mut table, line?.as_str()) else {
+        let Ok(answer) = table::answered(&rt, rt.alloc(), &mut table, line?.as_str()) else {
             return Err(AllocError.into());
         };
         out.write_all(&answer)?;
     }
-    let Ok(answer) = table::ended(rt.alloc(), &mut table) else {
+    let Ok(answer) = table::ended(&rt, rt.alloc(), &mut table) else {
         return Err(AllocError.into());
     };
     out.write_all(&answer)?;

@@ -1,19 +1,23 @@
 //! A run of a script over the objects in memory.
 
+use crate::gates::Meeting;
 use crate::heads::{ask, count, failing, piece};
-use mq_io::{BytesSource, MapShelf, OpenGate, VecSink};
+use mq_io::{BytesSource, MapShelf, VecSink};
 use mq_values::Memory;
 use std::alloc::Global;
+use std::thread::Threads;
 
-/// What a run has written, and its status.
+/// What a run has written, its status, and how many pieces of its work have met.
 #[derive(Drop)]
 pub(crate) struct Done {
     pub sink: VecSink,
     pub status: u8,
+    pub met: u64,
 }
 
 /// Runs a script as the head of its row asks, over those of the files that it names.
-pub(crate) fn run_script(
+pub(crate) fn run_script<R: Threads + Sync>(
+    rt: &R,
     alloc: Global,
     head: &str,
     bytes: Vec<u8>,
@@ -25,19 +29,23 @@ pub(crate) fn run_script(
     let mut shelf = shelf_of(alloc, head, files)?;
     let failing = failing_calls(alloc, head, "sink")?;
     let sink = VecSink::new(alloc, failing, piece(head, "sink"));
-    Ok(run_over(alloc, &words, &mut source, &mut shelf, sink))
+    let gate = Meeting::new(count(head, "meet", 0) as u64);
+    Ok(run_over(rt, alloc, &words, &mut source, &mut shelf, sink, &gate))
 }
 
-fn run_over(
+fn run_over<R: Threads + Sync>(
+    rt: &R,
     alloc: Global,
     words: &[String],
     source: &mut BytesSource,
     shelf: &mut MapShelf,
     sink: VecSink,
+    gate: &Meeting,
 ) -> Done {
     let mut sink = sink;
-    let status = mq_tool::run(alloc, words, source, shelf, &mut sink, &OpenGate);
-    Done { sink, status }
+    let status = mq_tool::run(rt, alloc, words, source, shelf, &mut sink, gate);
+    let met = gate.met();
+    Done { sink, status, met }
 }
 
 // The files that the head names, with commas between them, on a shelf that fails where the head says so.

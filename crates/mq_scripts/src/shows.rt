@@ -43,8 +43,17 @@ pub(crate) fn lines(taken: &[u8]) -> usize {
 
 /// The line of a status.
 pub(crate) fn add_status(status: u8, answer: &mut Vec<u8>) -> Result<(), Memory> {
-    answer.extend_from_slice(b"status ")?;
-    Num::new(status as i128, 0).print(answer)?;
+    add_count(b"status ", status as u64, answer)
+}
+
+/// The line of how many pieces of work have met.
+pub(crate) fn add_met(met: u64, answer: &mut Vec<u8>) -> Result<(), Memory> {
+    add_count(b"met ", met, answer)
+}
+
+fn add_count(name: &[u8], count: u64, answer: &mut Vec<u8>) -> Result<(), Memory> {
+    answer.extend_from_slice(name)?;
+    Num::new(count as i128, 0).print(answer)?;
     answer.push(b'\n')?;
     Ok(())
 }

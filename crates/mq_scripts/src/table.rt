@@ -3,10 +3,11 @@
 
 use crate::heads::{ask, name_of};
 use crate::runs::run_script;
-use crate::shows::{add_last, add_lines, add_status, lines};
+use crate::shows::{add_last, add_lines, add_met, add_status, lines};
 use crate::texts::{bytes_of, joined};
 use mq_values::Memory;
 use std::alloc::Global;
+use std::thread::Threads;
 
 /// The row that is being read, and the scripts of those before it that have been named as bases.
 #[derive(Drop)]
@@ -33,9 +34,14 @@ impl Table {
 }
 
 /// What a line makes known: the answer of the row before, where it begins a new one.
-pub(crate) fn answered(alloc: Global, table: &mut Table, line: &str) -> Result<Vec<u8>, Memory> {
+pub(crate) fn answered<R: Threads + Sync>(
+    rt: &R,
+    alloc: Global,
+    table: &mut Table,
+    line: &str,
+) -> Result<Vec<u8>, Memory> {
     if let Some(head) = line.strip_prefix("## ") {
-        let answer = ended(alloc, table)?;
+        let answer = ended(rt, alloc, table)?;
         table.head.clear();
         table.head.push_str(head)?;
         table.text.clear();
@@ -63,21 +69,26 @@ fn add_line(table: &mut Table, line: &str) -> Result<(), Memory> {
 }
 
 /// The answer of the last row.
-pub(crate) fn ended(alloc: Global, table: &mut Table) -> Result<Vec<u8>, Memory> {
+pub(crate) fn ended<R: Threads + Sync>(
+    rt: &R,
+    alloc: Global,
+    table: &mut Table,
+) -> Result<Vec<u8>, Memory> {
     let mut answer = Vec::new(alloc);
     if table.open {
         let bytes = bytes_of(alloc, table.head.as_str(), table.text.as_str())?;
         if ask(table.head.as_str(), "file").is_some() {
             keep(alloc, table.head.as_str(), bytes, &mut table.files)?;
         } else {
-            add_answer(alloc, table, bytes, &mut answer)?;
+            add_answer(rt, alloc, table, bytes, &mut answer)?;
         }
     }
     Ok(answer)
 }
 
 // The name of the row, and the lines of its script, which is kept where others may begin with it.
-fn add_answer(
+fn add_answer<R: Threads + Sync>(
+    rt: &R,
     alloc: Global,
     table: &mut Table,
     script: Vec<u8>,
@@ -90,11 +101,12 @@ fn add_answer(
         let copy = script.clone()?;
         keep(alloc, table.head.as_str(), copy, &mut table.bases)?;
     }
-    add_shown(alloc, table, script, answer)
+    add_shown(rt, alloc, table, script, answer)
 }
 
 // The lines of a script, over the base that it begins with.
-fn add_shown(
+fn add_shown<R: Threads + Sync>(
+    rt: &R,
     alloc: Global,
     table: &Table,
     script: Vec<u8>,
@@ -102,10 +114,10 @@ fn add_shown(
 ) -> Result<(), Memory> {
     match ask(table.head.as_str(), "over") {
         Some(name) => match base_of(&table.bases, name) {
-            Some(base) => add_over(alloc, table, base, &script, answer),
+            Some(base) => add_over(rt, alloc, table, base, &script, answer),
             None => Ok(answer.extend_from_slice(b"no such base\n")?),
         },
-        None => add_run(alloc, table, script, 0, answer),
+        None => add_run(rt, alloc, table, script, 0, answer),
     }
 }
 
@@ -130,7 +142,8 @@ fn base_of<'a>(bases: &'a [(String, Vec<u8>)], name: &str) -> Option<&'a [u8]> {
 }
 
 // The lines of a script over what a base leaves; those of the base are not shown.
-fn add_over(
+fn add_over<R: Threads + Sync>(
+    rt: &R,
     alloc: Global,
     table: &Table,
     base: &[u8],
@@ -138,12 +151,13 @@ fn add_over(
     answer: &mut Vec<u8>,
 ) -> Result<(), Memory> {
     let before = joined(alloc, base, b"")?;
-    let hidden = lines(run_script(alloc, "", before, &[])?.sink.taken());
+    let hidden = lines(run_script(rt, alloc, "", before, &[])?.sink.taken());
     let whole = joined(alloc, base, script)?;
-    add_run(alloc, table, whole, hidden, answer)
+    add_run(rt, alloc, table, whole, hidden, answer)
 }
 
-fn add_run(
+fn add_run<R: Threads + Sync>(
+    rt: &R,
     alloc: Global,
     table: &Table,
     script: Vec<u8>,
@@ -151,11 +165,15 @@ fn add_run(
     answer: &mut Vec<u8>,
 ) -> Result<(), Memory> {
     let head = table.head.as_str();
-    let done = run_script(alloc, head, script, &table.files)?;
+    let done = run_script(rt, alloc, head, script, &table.files)?;
     if ask(head, "last").is_some() {
         add_last(done.sink.taken(), hidden, answer)?;
     } else {
         add_lines(done.sink.taken(), hidden, answer)?;
     }
-    add_status(done.status, answer)
+    add_status(done.status, answer)?;
+    if ask(head, "meet").is_some() {
+        add_met(done.met, answer)?;
+    }
+    Ok(())
 }

@@ -19,6 +19,7 @@ use mq_io::{Fetched, Gate, IoFault, Shelf, Sink, write_all};
 use mq_lexer::{statements, tokens};
 use mq_values::Memory;
 use std::alloc::Global;
+use std::thread::Threads;
 
 // A shelf without files.
 #[derive(Drop)]
@@ -43,7 +44,8 @@ pub(crate) struct Summary {
 
 /// Runs the script that the number and the size generate, over no files, and writes the summary of its output. The answer
 /// is the status of the run (docs/LANGUAGE.md, "The generated script").
-pub(crate) fn run_generated<K: Sink, G: Gate>(
+pub(crate) fn run_generated<R: Threads + Sync, K: Sink, G: Gate>(
+    rt: &R,
     alloc: Global,
     number: u32,
     size: u32,
@@ -58,7 +60,7 @@ pub(crate) fn run_generated<K: Sink, G: Gate>(
     ensures cut_short { (result ≡ WRITE_FAILED) ⊎ (result ≡ NO_MEMORY) → (lines : List Line) → IsOutput no_files (script_of number size) lines
         → AppendsFront (K.taken out.old) (K.taken out.new) (summary_text number size lines) }
 {
-    let Ok(summary) = generated_summary(alloc, number, size, gate) else {
+    let Ok(summary) = generated_summary(rt, alloc, number, size, gate) else {
         return NO_MEMORY;
     };
     match write_all(out, &summary.text) {
@@ -70,7 +72,8 @@ pub(crate) fn run_generated<K: Sink, G: Gate>(
 }
 
 // The summary of the script that the number and the size generate.
-fn generated_summary<G: Gate>(
+fn generated_summary<R: Threads + Sync, G: Gate>(
+    rt: &R,
     alloc: Global,
     number: u32,
     size: u32,
@@ -82,19 +85,25 @@ fn generated_summary<G: Gate>(
     scripts_are_text();
     let script = generated(alloc, number, size)?;
     match str::from_utf8(&script) {
-        Ok(text) => summary_of(alloc, text, gate),
+        Ok(text) => summary_of(rt, alloc, text, gate),
         Err(_) => unreachable!(),
     }
 }
 
 // The summary of the script of this text.
-fn summary_of<G: Gate>(alloc: Global, text: &str, gate: &G) -> Result<Summary, Memory>
+fn summary_of<R: Threads + Sync, G: Gate>(
+    rt: &R,
+    alloc: Global,
+    text: &str,
+    gate: &G,
+) -> Result<Summary, Memory>
     ensures { IfOk result (IsSummaryOf text.now) }
 {
     let tokens = tokens(alloc, text)?;
     let statements = statements(alloc, &tokens)?;
     let mut sink = SummarySink::new(alloc);
     match run_statements(
+        rt,
         alloc,
         DEFAULT_WORKERS,
         &statements,

@@ -19,13 +19,15 @@ use crate::statuses::{BAD_WORDS, NO_MEMORY, NOT_UTF8, READ_FAILED, TOO_LONG, WRI
 use mq_io::{Gate, READ_SIZE, Shelf, Sink, Source};
 use mq_values::MAX_SCRIPT_BYTES;
 use std::alloc::Global;
+use std::thread::Threads;
 
 /// Does what the words ask for: reads the whole script, runs it statement by statement, and writes each statement's lines
 /// before the next one starts; or runs a generated script, and writes a summary of its output. The answer is the status of
 /// the program (docs/LANGUAGE.md, "Statuses"): `DONE` and `FLAWED` where all was done, `BAD_WORDS` for words that are not
 /// known, `READ_FAILED` where the source failed, or the shelf at a LOAD, `WRITE_FAILED` where the sink failed, `NO_MEMORY`
 /// for want of memory, `TOO_LONG` for a script that is too long, `NOT_UTF8` for one that is not UTF-8.
-pub fn run<S: Source, F: Shelf, K: Sink, G: Gate>(
+pub fn run<R: Threads + Sync, S: Source, F: Shelf, K: Sink, G: Gate>(
+    rt: &R,
     alloc: Global,
     words: &[String],
     script: &mut S,
@@ -86,8 +88,8 @@ pub fn run<S: Source, F: Shelf, K: Sink, G: Gate>(
         → IsWhole result ⊎ (result ≡ NO_MEMORY) ⊎ (result ≡ BAD_WORDS) }
 {
     match command_of(words) {
-        Some(Command::Script(workers)) => run_script(alloc, workers, script, files, out, gate),
-        Some(Command::Generated(number, size)) => run_generated(alloc, number, size, out, gate),
+        Some(Command::Script(workers)) => run_script(rt, alloc, workers, script, files, out, gate),
+        Some(Command::Generated(number, size)) => run_generated(rt, alloc, number, size, out, gate),
         None => BAD_WORDS,
     }
 }

@@ -19,6 +19,7 @@ use mq_ir::{Bound, Change, Compared};
 use mq_render::{compared_text, count_text, done_text};
 use mq_values::{Fail, Memory, Refused, Words};
 use std::alloc::Global;
+use std::thread::Threads;
 
 /// CREATE SCENARIO of a name that no scenario has (docs/MEANING.md, "Scenarios").
 pub(crate) fn create_scenario(
@@ -65,7 +66,8 @@ pub(crate) fn take_in(
 
 /// COMPARE: what the view answers under each of these scenarios, over the tables as they stand. A name of which there is no
 /// view is refused (docs/MEANING.md, "Scenarios").
-pub(crate) fn compare<G: Gate>(
+pub(crate) fn compare<R: Threads + Sync, G: Gate>(
+    rt: &R,
     alloc: Global,
     engine: &Engine,
     view: &Words,
@@ -75,7 +77,7 @@ pub(crate) fn compare<G: Gate>(
 ) -> Result<bool, Fail<Refused>>
     ensures { (files : FileMap) (line : ℕ) → Takes (outside files engine.now line (Bound.Compare view.now names.now)) engine.now engine.now out.old.items out.new.items result }
 {
-    match engine.compare(alloc, view.as_str(), names, gate) {
+    match engine.compare(rt, alloc, view.as_str(), names, gate) {
         Ok(found) => Ok(comparison_text(names, &found, out)?),
         Err(Fail::Cause(none)) => Err(Fail::Cause(Refused::UnknownName(none.name))),
         Err(Fail::Memory) => Err(Fail::Memory),

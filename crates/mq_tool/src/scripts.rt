@@ -21,10 +21,12 @@ use mq_io::{Gate, IoFault, READ_SIZE, ReadFault, Shelf, Sink, Source, read_all, 
 use mq_lexer::{Statement, statements, tokens};
 use mq_values::MAX_SCRIPT_BYTES;
 use std::alloc::Global;
+use std::thread::Threads;
 
 /// Reads the whole script, runs it statement by statement, and writes each statement's lines before the next one starts.
 /// The answer is the status of the run (docs/LANGUAGE.md, "Statuses").
-pub(crate) fn run_script<S: Source, F: Shelf, K: Sink, G: Gate>(
+pub(crate) fn run_script<R: Threads + Sync, S: Source, F: Shelf, K: Sink, G: Gate>(
+    rt: &R,
     alloc: Global,
     workers: u32,
     script: &mut S,
@@ -58,7 +60,7 @@ pub(crate) fn run_script<S: Source, F: Shelf, K: Sink, G: Gate>(
         → IfSome (S.left script.old) (λ b. IsScript b → IsWhole result ⊎ (result ≡ NO_MEMORY)) }
 {
     match read_all(alloc, script, MAX_SCRIPT_BYTES) {
-        Ok(bytes) => run_bytes(alloc, workers, &bytes, files, out, gate),
+        Ok(bytes) => run_bytes(rt, alloc, workers, &bytes, files, out, gate),
         Err(ReadFault::TooLong) => TOO_LONG,
         Err(ReadFault::Failed) => READ_FAILED,
         Err(ReadFault::Memory) => NO_MEMORY,
@@ -66,7 +68,8 @@ pub(crate) fn run_script<S: Source, F: Shelf, K: Sink, G: Gate>(
 }
 
 // Runs the script of these bytes.
-fn run_bytes<F: Shelf, K: Sink, G: Gate>(
+fn run_bytes<R: Threads + Sync, F: Shelf, K: Sink, G: Gate>(
+    rt: &R,
     alloc: Global,
     workers: u32,
     bytes: &[u8],
@@ -89,7 +92,7 @@ fn run_bytes<F: Shelf, K: Sink, G: Gate>(
         → IsOutput told bytes.now lines → AppendsFront (K.taken out.old) (K.taken out.new) (text_of lines) }
 {
     match str::from_utf8(bytes) {
-        Ok(text) => match run_text(alloc, workers, text, files, out, gate) {
+        Ok(text) => match run_text(rt, alloc, workers, text, files, out, gate) {
             Ok(true) => FLAWED,
             Ok(false) => DONE,
             Err(Halt::ReadFailed) => READ_FAILED,
@@ -101,7 +104,8 @@ fn run_bytes<F: Shelf, K: Sink, G: Gate>(
 }
 
 // Runs the script of this text, and answers whether some line was an error or a fault.
-fn run_text<F: Shelf, K: Sink, G: Gate>(
+fn run_text<R: Threads + Sync, F: Shelf, K: Sink, G: Gate>(
+    rt: &R,
     alloc: Global,
     workers: u32,
     text: &str,
@@ -126,12 +130,13 @@ fn run_text<F: Shelf, K: Sink, G: Gate>(
     let Ok(statements) = statements(alloc, &tokens) else {
         return Err(Halt::Memory);
     };
-    run_statements(alloc, workers, &statements, files, out, gate)
+    run_statements(rt, alloc, workers, &statements, files, out, gate)
 }
 
 /// Runs statements, one after another, from no table and no view on, and answers whether some line was an error or a
 /// fault.
-pub(crate) fn run_statements<F: Shelf, K: Sink, G: Gate>(
+pub(crate) fn run_statements<R: Threads + Sync, F: Shelf, K: Sink, G: Gate>(
+    rt: &R,
     alloc: Global,
     workers: u32,
     statements: &[Statement<'_, '_>],
@@ -156,7 +161,16 @@ pub(crate) fn run_statements<F: Shelf, K: Sink, G: Gate>(
     let mut lines = Vec::new(alloc);
     let mut flaw = false;
     'statements: for statement in statements {
-        let found = run_statement(alloc, &mut engine, statement, &mut lines, files, out, gate)?;
+        let found = run_statement(
+            rt,
+            alloc,
+            &mut engine,
+            statement,
+            &mut lines,
+            files,
+            out,
+            gate,
+        )?;
         flaw = either(flaw, found);
     }
     Ok(flaw)
@@ -169,7 +183,8 @@ fn either(a: bool, b: bool) -> bool
 }
 
 // Runs a statement and writes its lines.
-fn run_statement<F: Shelf, K: Sink, G: Gate>(
+fn run_statement<R: Threads + Sync, F: Shelf, K: Sink, G: Gate>(
+    rt: &R,
     alloc: Global,
     engine: &mut Engine,
     statement: &Statement<'_, '_>,
@@ -188,7 +203,7 @@ fn run_statement<F: Shelf, K: Sink, G: Gate>(
     ensures write_failed { IsErrOf result Halt.WriteFailed → Rose (K.faults out.old) (K.faults out.new) }
 {
     lines.clear();
-    match do_statement(alloc, engine, statement, files, lines, gate) {
+    match do_statement(rt, alloc, engine, statement, files, lines, gate) {
         Ok(flaw) => match write_all(out, lines) {
             Ok(()) => Ok(flaw),
             Err(IoFault::Failed) => Err(Halt::WriteFailed),

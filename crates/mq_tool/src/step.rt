@@ -19,12 +19,14 @@ use mq_lexer::Statement;
 use mq_render::refusal_text;
 use mq_values::Refused;
 use std::alloc::Global;
+use std::thread::Threads;
 
 /// Does a statement, appends its lines to `out`, and answers whether one of them is an error or a fault
 /// (docs/MEANING.md, "Scripts"). A statement that is refused alters nothing, but that a block that is there notes its line, or is
 /// ended by a refused COMMIT. `Failed` comes where the shelf failed, at a LOAD that is read and bound, and then nothing is
 /// altered.
-pub fn do_statement<F: Shelf, G: Gate>(
+pub fn do_statement<R: Threads + Sync, F: Shelf, G: Gate>(
+    rt: &R,
     alloc: Global,
     engine: &mut Engine,
     statement: &Statement<'_, '_>,
@@ -38,7 +40,7 @@ pub fn do_statement<F: Shelf, G: Gate>(
     ensures load { IsErrOf result IoFault.Failed → IsLoadAt (lexer.statement statement.now) engine.old }
     ensures failed { IsErrOf result IoFault.Failed → Rose (F.faults files.old) (F.faults files.new) }
 {
-    match try_statement(alloc, engine, statement, files, out, gate) {
+    match try_statement(rt, alloc, engine, statement, files, out, gate) {
         Ok(flaw) => Ok(flaw),
         Err(Stop::Refused(refused)) => {
             settle(engine, statement.line, &refused);
@@ -63,7 +65,8 @@ fn settle(engine: &mut Engine, line: u32, refused: &Refused)
 }
 
 // Does a statement, or answers why it is not done, and then nothing is changed or appended.
-fn try_statement<F: Shelf, G: Gate>(
+fn try_statement<R: Threads + Sync, F: Shelf, G: Gate>(
+    rt: &R,
     alloc: Global,
     engine: &mut Engine,
     statement: &Statement<'_, '_>,
@@ -78,11 +81,12 @@ fn try_statement<F: Shelf, G: Gate>(
 {
     let tree = read(alloc, statement.tokens)?;
     let bound = bound_of(alloc, engine, tree.get())?;
-    do_bound(alloc, engine, statement.line, bound, files, out, gate)
+    do_bound(rt, alloc, engine, statement.line, bound, files, out, gate)
 }
 
 // Does a bound statement that starts on this line, or answers why it is not done, and then nothing is changed or appended.
-fn do_bound<F: Shelf, G: Gate>(
+fn do_bound<R: Threads + Sync, F: Shelf, G: Gate>(
+    rt: &R,
     alloc: Global,
     engine: &mut Engine,
     line: u32,
@@ -102,6 +106,6 @@ fn do_bound<F: Shelf, G: Gate>(
 {
     match bound {
         Bound::Load(table, file) => load(alloc, engine, table, &file, files, out, gate),
-        bound => Ok(take(alloc, engine, line, bound, out, gate)?),
+        bound => Ok(take(rt, alloc, engine, line, bound, out, gate)?),
     }
 }

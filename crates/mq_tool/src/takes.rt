@@ -23,11 +23,13 @@ use mq_ir::{Answer, Bound, BoundQuery, TableDef};
 use mq_render::{answer_text, done_text};
 use mq_values::{Fail, Refused, Words};
 use std::alloc::Global;
+use std::thread::Threads;
 
 /// Does a bound statement that is no LOAD and starts on this line, appends its lines to `out`, and answers whether one of
 /// them is an error or a fault; or why it is refused, and then nothing is changed or appended (docs/MEANING.md,
 /// "Statements").
-pub(crate) fn take<G: Gate>(
+pub(crate) fn take<R: Threads + Sync, G: Gate>(
+    rt: &R,
     alloc: Global,
     engine: &mut Engine,
     line: u32,
@@ -39,13 +41,14 @@ pub(crate) fn take<G: Gate>(
     ensures { (files : FileMap) → Takes (taken files engine.old line bound) engine.old engine.new out.old.items out.new.items result }
 {
     match engine.block_line() {
-        None => take_outside(alloc, engine, line, bound, out, gate),
+        None => take_outside(rt, alloc, engine, line, bound, out, gate),
         Some(begun) => take_in_block(alloc, engine, begun, &bound, out, gate),
     }
 }
 
 // The same where no block is there.
-fn take_outside<G: Gate>(
+fn take_outside<R: Threads + Sync, G: Gate>(
+    rt: &R,
     alloc: Global,
     engine: &mut Engine,
     line: u32,
@@ -61,12 +64,13 @@ fn take_outside<G: Gate>(
         Bound::CreateTable(def) => create_table(alloc, engine, def, out),
         Bound::CreateView(name, query) => create_view(alloc, engine, &name, query, out, gate),
         Bound::Under(name, change) => take_in(engine, &name, change, out),
-        lent => take_lent(alloc, engine, line, &lent, out, gate),
+        lent => take_lent(rt, alloc, engine, line, &lent, out, gate),
     }
 }
 
 // The same of a bound statement of which the engine keeps no part.
-fn take_lent<G: Gate>(
+fn take_lent<R: Threads + Sync, G: Gate>(
+    rt: &R,
     alloc: Global,
     engine: &mut Engine,
     line: u32,
@@ -82,13 +86,15 @@ fn take_lent<G: Gate>(
         Bound::DropTable(name) => drop_table(engine, name, out),
         Bound::DropView(name) => drop_view(engine, name, out),
         Bound::Change(change) => do_change(alloc, engine, change, out, gate),
-        Bound::Show(name) => show(alloc, engine, name, out, gate),
-        Bound::Query(query) => ask(alloc, engine, query, out, gate),
+        Bound::Show(name) => show(rt, alloc, engine, name, out, gate),
+        Bound::Query(query) => ask(rt, alloc, engine, query, out, gate),
         Bound::Begin => begin(alloc, engine, line, out),
         Bound::Commit | Bound::Rollback => Err(Fail::Cause(Refused::NoBlock)),
         Bound::CreateScenario(name) => create_scenario(alloc, engine, name, out),
         Bound::DropScenario(name) => drop_scenario(engine, name, out),
-        Bound::Compare(view, names) => compare(alloc, engine, view, names.as_slice(), out, gate),
+        Bound::Compare(view, names) => {
+            compare(rt, alloc, engine, view, names.as_slice(), out, gate)
+        }
         Bound::ExplainCell(asked) => explain(alloc, engine, asked, out, gate),
         // Those of which it keeps a part, and LOAD, do not come.
         _ => Err(Fail::Cause(Refused::Syntax)),
@@ -144,7 +150,8 @@ fn drop_view(engine: &mut Engine, name: &Words, out: &mut Vec<u8>) -> Result<boo
     Ok(false)
 }
 
-fn show<G: Gate>(
+fn show<R: Threads + Sync, G: Gate>(
+    rt: &R,
     alloc: Global,
     engine: &mut Engine,
     name: &Words,
@@ -153,7 +160,7 @@ fn show<G: Gate>(
 ) -> Result<bool, Fail<Refused>>
     ensures { (files : FileMap) (line : ℕ) → Takes (outside files engine.old line (Bound.Show name.now)) engine.old engine.new out.old.items out.new.items result }
 {
-    match engine.answer(alloc, name.as_str(), gate) {
+    match engine.answer(rt, alloc, name.as_str(), gate) {
         Ok(answer) => {
             answer_text(&answer, out)?;
             Ok(is_fault(&answer))
@@ -163,7 +170,8 @@ fn show<G: Gate>(
     }
 }
 
-fn ask<G: Gate>(
+fn ask<R: Threads + Sync, G: Gate>(
+    rt: &R,
     alloc: Global,
     engine: &Engine,
     query: &BoundQuery,
@@ -173,7 +181,7 @@ fn ask<G: Gate>(
     requires { QueryIsReady query.now }
     ensures { (files : FileMap) (line : ℕ) → Takes (outside files engine.now line (Bound.Query query.now)) engine.now engine.now out.old.items out.new.items result }
 {
-    let answer = engine.query(alloc, query, gate)?;
+    let answer = engine.query(rt, alloc, query, gate)?;
     answer_text(&answer, out)?;
     Ok(is_fault(&answer))
 }

@@ -1,9 +1,16 @@
-use Rattle.std.proofs.Common.{◌≡◌, []}
+use Rattle.std.proofs.Common.{◌≡◌, ◌<◌, [], vec_len}
+use Rattle.std.specs.List.{All}
 use Rattle.mq_ir.specs.Answer.{partition_step}
+use Rattle.mq_ir.specs.Ready.{IsReady}
+use Rattle.mq_ir.specs.Results.{each_in_turn}
 use Rattle.mq_ir.specs.Unfolding.{model_of}
-use Rattle.mq_engine.proofs.TurnLemmas.{Turned}
+use Rattle.mq_engine.proofs.StretchLemmas.{Left}
 use Rattle.mq_engine.proofs.models.gathered_of.Given as goal
 
--- the runner stays that of the model
-abbrev pub invariant-loop-p : goal.invariant-loop-p
-invariant-loop-p l = (l.runner ≡ model_of l.m) × Turned (partition_step (model_of l.m)) (0, []) l.inputs l.p-index l.gathered
+-- what is left comes, behind what is gathered, to the same as all
+abbrev pub invariant-waves : goal.invariant-waves
+invariant-waves g l =
+    (0 < l.length) × All (IsReady l.m.part.now) l.left.items × Left (partition_step (model_of l.m)) (0, []) l.fn.inputs l.left.items l.gathered
+
+abbrev pub decreases-waves : goal.decreases-waves
+decreases-waves g l = vec_len l.left

@@ -6,8 +6,8 @@ use Rattle.mq_engine.proofs.ReadyLemmas.{all_ready}
 use Rattle.mq_engine.proofs.RowLemmas.{rows_gathered}
 use Rattle.mq_engine.proofs.models.model_rows.Goals as goal
 
-pub all_partitions-requires : goal.all_partitions-requires
-all_partitions-requires g c = subst (All (IsReady c.args.part.now)) (sym c.in_ok-inputs.ensures) (all_ready c.args.part.now c.args.items c.requires)
+pub all_partitions-requires-clause-ready : goal.all_partitions-requires-clause-ready
+all_partitions-requires-clause-ready g c κs within = subst (All (IsReady c.args.part.now)) (sym c.in_ok-inputs.ensures) (all_ready c.args.part.now c.args.items c.requires.may_run)
 
 pub returns : goal.returns
 returns g c =

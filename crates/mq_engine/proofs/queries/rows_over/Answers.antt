@@ -11,12 +11,12 @@ returns-in_err-items g c =
     let p = err_from_is_err_and c.from_residual.result c.from_residual.ensures.1 in
     rw (p.1, p.2) (no_items (g.T.TableSet.tables c.args.tables.now) c.args.q.now c.in_err-items.field-0.0 c.in_err-items.ensures)
 
-pub shown_cells-requires : goal.shown_cells-requires
-shown_cells-requires g c =
+pub shown_cells-requires-clause-may_run : goal.shown_cells-requires-clause-may_run
+shown_cells-requires-clause-may_run g c κs within =
     let q = c.args.q.now in
     let items = c.in_ok-items.items in
     let long = items_have (g.T.TableSet.tables c.args.tables.now) q.from q.items items c.in_ok-items.ensures in
-    let model = subst (λ o. IfSome o (ModelIsReady (length q.items.items))) c.in-Some.is c.requires in
+    let model = subst (λ o. IfSome o (ModelIsReady (length q.items.items))) c.in-Some.is c.requires.ready in
     may_run q c.in-Some.part items model long
 
 pub returns-in-Some : goal.returns-in-Some

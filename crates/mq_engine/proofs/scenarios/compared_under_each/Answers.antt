@@ -5,6 +5,6 @@ use Rattle.mq_engine.proofs.ScenarioLemmas.{under_bounded}
 use Rattle.mq_engine.proofs.scenarios.compared_under_each.Goals as goal
 
 pub compared_under-requires-clause-bounded : goal.compared_under-requires-clause-bounded
-compared_under-requires-clause-bounded c =
+compared_under-requires-clause-bounded g c κs within =
     subst (λ (changes : List Change). length changes ≤ MAX_SCENARIO_CHANGES) (sym c.changes_of-changes.ensures)
     (under_bounded c.args.scenarios.now c.as_str.result.now c.requires.bounded)

@@ -7,7 +7,7 @@ use Rattle.mq_engine.proofs.StateLemmas.{compared_is}
 use Rattle.mq_engine.proofs.engine.Engine.compare.Goals as goal
 
 pub compared_under_each-requires-clause-ready : goal.compared_under_each-requires-clause-ready
-compared_under_each-requires-clause-ready g c =
+compared_under_each-requires-clause-ready g c κs within =
     let is_wanted : View → Bool = λ v. is_name v.name c.args.view.now in
     all_found is_wanted (λ (v : View). QueryIsReady v.query) c.self.inside.catalog.views c.in-Some.found.now c.self.invariant.1 (sym c.in-Some.ensures)
 
