@@ -57,21 +57,30 @@ fn years(alloc: Global, first: i128) -> Result<Vec<Given>, Memory> {
     Ok(years)
 }
 
+// The call that carries a change on.
+#[derive(Clone, Copy)]
+enum Way {
+    Propagate,
+    Refresh,
+}
+
 // How much of the store is read and written where one input changes to another, if then there is what is computed anew, and
 // this stands.
 fn cost_of(
     alloc: Global,
+    way: Way,
     plans: &[Plan],
     before: &[Given],
     after: &[Given],
     wanted: &[(i128, At)],
 ) -> Result<Option<(u64, u64)>, Memory> {
     let part = model(alloc, plans)?;
-    cost_over(alloc, part.get(), before, after, wanted)
+    cost_over(alloc, way, part.get(), before, after, wanted)
 }
 
 fn cost_over(
     alloc: Global,
+    way: Way,
     part: &ModelPart,
     before: &[Given],
     after: &[Given],
@@ -79,7 +88,11 @@ fn cost_over(
 ) -> Result<Option<(u64, u64)>, Memory> {
     let model = model_of(part);
     let mut kept = Kept::begin(alloc, &model, before)?;
-    if !kept.change(alloc, &model, after)? {
+    let same = match way {
+        Way::Propagate => kept.change(alloc, &model, after)?,
+        Way::Refresh => kept.refresh(alloc, &model, after)?,
+    };
+    if !same {
         return Ok(None);
     }
     if !kept.all_stand(alloc, wanted)? {
@@ -89,18 +102,35 @@ fn cost_over(
 }
 
 // Ten cells look at two each, and one year changes: how much is read and written.
-fn cost_of_a_year(alloc: Global) -> Result<Option<(u64, u64)>, Memory> {
+fn cost_of_a_year(alloc: Global, way: Way) -> Result<Option<(u64, u64)>, Memory> {
     let later = Right::Sum(BEFORE, (0, Spot::Behind(50)));
     let plans = [rule(Target::Steps(51, 60), later)];
     let before = years(alloc, 1)?;
     let after = years(alloc, 11)?;
     let wanted = [(51, At::Is(61)), (52, At::Is(63)), (60, At::Is(115))];
-    cost_of(alloc, &plans, before.as_slice(), after.as_slice(), &wanted)
+    cost_of(
+        alloc,
+        way,
+        &plans,
+        before.as_slice(),
+        after.as_slice(),
+        &wanted,
+    )
 }
 
 #[test]
 fn ten_cells_are_found_anew_by_twenty_reads(rt: HostRuntime) -> Result<(), Failed> {
-    let Some((reads, writes)) = cost_of_a_year(rt.alloc())? else {
+    let Some((reads, writes)) = cost_of_a_year(rt.alloc(), Way::Propagate)? else {
+        panic!(rt; "not as computed anew")
+    };
+    assert!(rt; reads <= 20);
+    assert_eq!(rt; writes, 10);
+    Ok(())
+}
+
+#[test]
+fn a_kept_partition_is_refreshed_by_as_few(rt: HostRuntime) -> Result<(), Failed> {
+    let Some((reads, writes)) = cost_of_a_year(rt.alloc(), Way::Refresh)? else {
         panic!(rt; "not as computed anew")
     };
     assert!(rt; reads <= 20);
@@ -124,7 +154,14 @@ fn cost_of_the_end(alloc: Global) -> Result<Option<(u64, u64)>, Memory> {
     let before = chain(alloc, 1)?;
     let after = chain(alloc, 5)?;
     let wanted = [(9_999, At::Is(9_999)), (10_000, At::Is(10_004))];
-    cost_of(alloc, &plans, before.as_slice(), after.as_slice(), &wanted)
+    cost_of(
+        alloc,
+        Way::Propagate,
+        &plans,
+        before.as_slice(),
+        after.as_slice(),
+        &wanted,
+    )
 }
 
 #[test]

@@ -14,6 +14,7 @@ pub mod NumberLemmas
 pub mod PlaceLemmas
 pub mod PrintLemmas
 pub mod ReadyLemmas
+pub mod RefreshLemmas
 pub mod RowLemmas
 pub mod ScenarioLemmas
 pub mod StageLemmas

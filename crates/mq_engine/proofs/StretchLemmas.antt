@@ -1,5 +1,5 @@
 -- Stretches of partitions: what is found in one, and how they come together.
-use Rattle.std.proofs.Common.{◌≡◌, ℕ, ◌+◌, ◌<◌, ◌≤◌, List, [], ◌∷◌, ◌++◌, Bool, true, false, take, drop, length, get_or, Result, Ok, Err, refl, sym, ap, ◌∙◌, subst, arith}
+use Rattle.std.proofs.Common.{◌≡◌, ℕ, ◌+◌, ◌<◌, ◌≤◌, List, [], ◌∷◌, ◌++◌, true, take, drop, length, get_or, Result, Ok, Err, refl, sym, ap, ◌∙◌, subst, arith}
 use Rattle.std.specs.Prelude.{IfOk}
 use Rattle.std.specs.List.{All, AllZip}
 use Rattle.std.proofs.lemmas.List.{drop_all, take-append-drop}
@@ -11,7 +11,7 @@ use Rattle.mq_ir.specs.declared.query.Model.{Model as Lent}
 use Rattle.mq_ir.specs.declared.query.PartInput.{PartInput}
 use Rattle.mq_ir.specs.declared.query.PartResult.{PartResult}
 use Rattle.mq_ir.specs.declared.query.PartResult.TheVariants as result
-use Rattle.mq_ir.specs.Answer.{Gathered, partition_step, result_in, with_cells}
+use Rattle.mq_ir.specs.Answer.{Gathered, partition_step, result_in}
 use Rattle.mq_ir.specs.Partitions.{Tuple}
 use Rattle.mq_ir.specs.Results.{◌>>=◌, each_in_turn}
 use Rattle.mq_ir.specs.Unfolding.{Model, model_of}

@@ -1,5 +1,5 @@
 -- A loop that takes the items out of a list, one after another.
-use Rattle.std.proofs.Common.{◌≡◌, ℕ, ◌+◌, ◌<◌, List, ◌∷◌, ◌++◌, map, take, drop, length, get_or, sym, ◌∙◌, map-id}
+use Rattle.std.proofs.Common.{◌≡◌, ◌+◌, ◌<◌, List, ◌∷◌, ◌++◌, map, take, drop, length, get_or, sym, ◌∙◌, map-id}
 use Rattle.std.proofs.lemmas.List.{take-append-drop}
 use Rattle.mq_engine.proofs.TurnLemmas.{next_item}
 

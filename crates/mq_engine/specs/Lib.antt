@@ -4,6 +4,7 @@ pub mod Explained
 pub mod Models
 pub mod Printing
 pub mod Queries
+pub mod Refreshed
 pub mod Scenarios
 pub mod Sessions
 pub mod Stretches

@@ -1,5 +1,5 @@
 -- Stretches of neighbouring partitions, as workers run them.
-use Rattle.std.specs.Prelude.{◌≡◌, List, [], ◌∷◌, ◌++◌, Bool, true, false, Result, Ok, Err, IfOk}
+use Rattle.std.specs.Prelude.{◌≡◌, List, [], ◌∷◌, ◌++◌, Bool, true, false, Result, Err, IfOk}
 use Rattle.std.specs.List.{All}
 use Rattle.mq_values.specs.declared.faults.QueryFault.{QueryFault}
 use Rattle.mq_ir.specs.declared.query.Model.{Model as Lent}

@@ -12,6 +12,7 @@ use crate::makers::{boxed, value};
 use mq_auto::{Verdict, compute};
 use mq_cells::{Cells, IndexedCells, MAX_ASSIGNMENTS, PlainCells, keys_ascend};
 use mq_delta_cells::propagate;
+use mq_engine::refresh;
 use mq_ir::{CellName, Left, Model, ModelPart, PartInput, PartShape, Slot};
 use mq_values::{Boxed, FaultKind, Key, Memory, QueryFault, Value, ValueFault, cmp_total};
 use std::alloc::Global;
@@ -109,20 +110,33 @@ impl Kept {
     ) -> Result<bool, Memory> {
         let p = input(alloc, given)?;
         let moved = moved(alloc, self.given.as_slice(), given)?;
-        let same = self.follow(alloc, model, &p, moved.as_slice())?;
+        let verdict = boxed(alloc, self.changed(alloc, model, &p, moved.as_slice()))?;
         self.given = given.to_vec(alloc)?;
-        Ok(same)
+        self.follow(alloc, model, &p, verdict)
     }
 
-    // The same with the measures that moved.
+    /// The same by `refresh`; where that leaves no shape, the partition is computed anew.
+    pub fn refresh(
+        &mut self,
+        alloc: Global,
+        model: &Model<'_>,
+        given: &[Given],
+    ) -> Result<bool, Memory> {
+        let p = input(alloc, given)?;
+        let moved = moved(alloc, self.given.as_slice(), given)?;
+        let verdict = boxed(alloc, self.refreshed(alloc, model, &p, moved.as_slice()))?;
+        self.given = given.to_vec(alloc)?;
+        self.follow(alloc, model, &p, verdict)
+    }
+
+    // What was found of this input stands from now on. Out comes whether all is as where the partition is computed.
     fn follow(
         &mut self,
         alloc: Global,
         model: &Model<'_>,
         p: &PartInput,
-        moved: &[CellName],
+        verdict: Boxed<Verdict>,
     ) -> Result<bool, Memory> {
-        let verdict = boxed(alloc, self.changed(alloc, model, p, moved))?;
         self.reads = self.cells.reads;
         self.writes = self.cells.writes;
         let were = self.verdict.get();
@@ -143,6 +157,22 @@ impl Kept {
         self.cells.writes = 0;
         match self.verdict.get() {
             Verdict::Done(old) => propagated(alloc, model, old, p, moved, &mut self.cells),
+            Verdict::Broken(_) => computed_anew(alloc, model, p, &mut self.cells),
+        }
+    }
+
+    // The same by `refresh`.
+    fn refreshed(
+        &mut self,
+        alloc: Global,
+        model: &Model<'_>,
+        p: &PartInput,
+        moved: &[CellName],
+    ) -> Result<Verdict, Memory> {
+        self.cells.reads = 0;
+        self.cells.writes = 0;
+        match self.verdict.get() {
+            Verdict::Done(old) => refreshed(alloc, model, old, p, moved, &mut self.cells),
             Verdict::Broken(_) => computed_anew(alloc, model, p, &mut self.cells),
         }
     }
@@ -275,6 +305,26 @@ fn propagated(
         return Err(Memory);
     }
     propagate(alloc, model, old, &keys, moved, cells)
+}
+
+// The same by `refresh`; where that leaves no shape, what was found is in no stated state, and all is computed anew.
+fn refreshed(
+    alloc: Global,
+    model: &Model<'_>,
+    old: &PartShape,
+    p: &PartInput,
+    moved: &[CellName],
+    cells: &mut CountedCells,
+) -> Result<Verdict, Memory> {
+    cells.cells.set_input(alloc, p)?;
+    let keys = keys_in(alloc, p.cells.as_slice())?;
+    if !are_ready(model.part, &keys) {
+        return Err(Memory);
+    }
+    match refresh(alloc, model, old, &keys, moved, cells)? {
+        Some(shape) => Ok(Verdict::Done(shape)),
+        None => computed_anew(alloc, model, p, cells),
+    }
 }
 
 // Whether what was found is what is found where the partition is computed, and so is what stands.

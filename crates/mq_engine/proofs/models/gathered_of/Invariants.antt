@@ -1,8 +1,7 @@
-use Rattle.std.proofs.Common.{◌≡◌, ◌<◌, [], vec_len}
+use Rattle.std.proofs.Common.{◌<◌, [], vec_len}
 use Rattle.std.specs.List.{All}
 use Rattle.mq_ir.specs.Answer.{partition_step}
 use Rattle.mq_ir.specs.Ready.{IsReady}
-use Rattle.mq_ir.specs.Results.{each_in_turn}
 use Rattle.mq_ir.specs.Unfolding.{model_of}
 use Rattle.mq_engine.proofs.StretchLemmas.{Left}
 use Rattle.mq_engine.proofs.models.gathered_of.Given as goal

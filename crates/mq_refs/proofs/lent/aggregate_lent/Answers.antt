@@ -1,4 +1,4 @@
-use Rattle.std.proofs.Common.{◌≡◌, [], List, ℕ, ◌+◌, drop, map, slice_index_or, ap, ◌∙◌, arith}
+use Rattle.std.proofs.Common.{[], List, ℕ, ◌+◌, drop, map, slice_index_or, ap, ◌∙◌, arith}
 use Rattle.mq_values.specs.Aggregate.{aggregate}
 use Rattle.mq_values.specs.declared.value.Value.{Value}
 use Rattle.mq_dim_index.specs.PlaceRuns.{numbers_of}

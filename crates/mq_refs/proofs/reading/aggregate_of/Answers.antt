@@ -1,7 +1,7 @@
-use Rattle.std.proofs.Common.{◌≡◌, [], List, ℕ, ◌+◌, ◌<◌, ◌++◌, drop, length, map, slice_index_or, refl, sym, ap, ◌∙◌, arith}
+use Rattle.std.proofs.Common.{[], List, ℕ, ◌+◌, drop, map, slice_index_or, refl, sym, ap, ◌∙◌, arith}
 use Rattle.mq_values.specs.Aggregate.{aggregate}
 use Rattle.mq_values.specs.declared.value.Value.{Value}
-use Rattle.mq_dim_index.specs.PlaceRuns.{numbers_in, numbers_of}
+use Rattle.mq_dim_index.specs.PlaceRuns.{numbers_of}
 use Rattle.mq_dim_index.specs.declared.place_runs.PlaceRun.{PlaceRun}
 use Rattle.mq_ir.specs.Keys.{Tuple}
 use Rattle.mq_ir.specs.Reads.{Measures}
