@@ -4,7 +4,8 @@
 #![tactic(auto)]
 
 use mq_io::{FolderShelf, OpenGate, ReaderSource, WriterSink};
-use mq_tool::{BAD_WORDS, NO_MEMORY, run};
+use mq_run::run;
+use mq_tool::{BAD_WORDS, NO_MEMORY};
 use std::io::ErrorKind;
 use std::process::ExitCode;
 use std::{env, io};

@@ -43,7 +43,7 @@ fn run_over<R: Threads + Sync>(
     gate: &Meeting,
 ) -> Done {
     let mut sink = sink;
-    let status = mq_tool::run(rt, alloc, words, source, shelf, &mut sink, gate);
+    let status = mq_run::run(rt, alloc, words, source, shelf, &mut sink, gate);
     let met = gate.met();
     Done { sink, status, met }
 }

@@ -1,7 +1,6 @@
 pub mod BlockLemmas
 pub mod BoundLemmas
 pub mod CatalogLemmas
-pub mod CommandLemmas
 pub mod CompareLemmas
 pub mod ExplainLemmas
 pub mod FindLemmas

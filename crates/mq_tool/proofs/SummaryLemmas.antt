@@ -1,13 +1,11 @@
 -- The summary of a generated script, written whole or a front of it.
-use Rattle.std.proofs.Common.{◌≡◌, ℕ, List, Bool, if◌then◌else◌, Option, Some, sym, ap, ◌∙◌, subst}
+use Rattle.std.proofs.Common.{◌≡◌, ℕ, List, Bool, if◌then◌else◌, Option, sym, ap, ◌∙◌, subst}
 use Rattle.std.specs.Io.KnownBytes.{Appends}
 use Rattle.mq_io.specs.Progress.{AppendsFront}
 use Rattle.mq_lexer.specs.Statements.{statements}
 use Rattle.mq_lexer.specs.Tokens.{tokens}
 use Rattle.mq_ir.specs.Lines.{Line}
 use Rattle.mq_generate.specs.Script.{script_of}
-use Rattle.mq_tool.specs.declared.commands.Command.{Command}
-use Rattle.mq_tool.specs.declared.commands.Command.TheVariants.{Generated}
 use Rattle.mq_tool.specs.declared.generated.Summary.{Summary}
 use Rattle.mq_tool.specs.declared.statuses.TheConstants.{DONE, FLAWED}
 use Rattle.mq_tool.specs.Script.{IsOutput, status_of}
@@ -28,11 +26,3 @@ module _ (number size : ℕ) (s : Summary) (before after : Option (List ℕ)) (i
   summary_front front lines out =
       let same : lines ≡ is.0 = one_printed no_files (statements (tokens (script_of number size))) lines is.0 out is.1 in
       subst (AppendsFront before after) (is.2 ∙ ap (summary_text number size) (sym same)) front
-
--- a command to generate a script has one number and one size
-abbrev pair_of : Option Command → ℕ × ℕ
-pair_of (Some (Generated number size)) = (number, size)
-pair_of _ = (0, 0)
-
-pub same_script : (P : ℕ → ℕ → Type 0) (a b number size : ℕ) → Some (Generated a b) ≡ Some (Generated number size) → P a b → P number size
-same_script P a b number size e p = subst (λ (q : ℕ × ℕ). P q.0 q.1) (ap pair_of e) p

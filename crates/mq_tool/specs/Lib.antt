@@ -1,4 +1,3 @@
-pub mod Commands
 pub mod Comparisons
 pub mod Loads
 pub mod Needs

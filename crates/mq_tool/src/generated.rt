@@ -1,16 +1,16 @@
 //! A run of a generated script: the summary of its output is written in place of the output.
 
-ghost use Rattle.std.specs.Prelude.{◌≡◌, ◌⊎◌, ◌<◌, List, Some, IfOk};
+ghost use Rattle.std.specs.Prelude.{◌≡◌, ◌⊎◌, ◌<◌, ◌≤◌, List, Some, IfOk};
 ghost use Rattle.std.specs.Io.KnownBytes.{Appends};
 ghost use Rattle.mq_io.specs.Causes.{Rose};
 ghost use Rattle.mq_io.specs.Progress.{AppendsFront};
 ghost use Rattle.mq_ir.specs.Lines.{Line};
 ghost use Rattle.mq_generate.specs.Script.{script_of};
+ghost use Rattle.mq_engine.specs.declared.engine.TheConstants.{MAX_WORKERS};
 ghost use Rattle.mq_tool.specs.Script.{IsOutput, IsWhole, status_of};
 ghost use Rattle.mq_tool.specs.Loads.{no_files};
 ghost use Rattle.mq_tool.specs.Summary.{IsSummaryOf, summary_text};
 
-use crate::commands::DEFAULT_WORKERS;
 use crate::scripts::run_statements;
 use crate::statuses::{DONE, FLAWED, NO_MEMORY, WRITE_FAILED};
 use crate::stops::Halt;
@@ -42,17 +42,19 @@ pub(crate) struct Summary {
     pub flaw: bool,
 }
 
-/// Runs the script that the number and the size generate, over no files, and writes the summary of its output. The answer
-/// is the status of the run (docs/LANGUAGE.md, "The generated script").
-pub(crate) fn run_generated<R: Threads + Sync, K: Sink, G: Gate>(
+/// Runs the script that the number and the size generate, with so many workers, over no files, and writes the summary of its
+/// output. The answer is the status of the run (docs/LANGUAGE.md, "The generated script").
+pub fn run_generated<R: Threads + Sync, K: Sink, G: Gate>(
     rt: &R,
     alloc: Global,
+    workers: u32,
     number: u32,
     size: u32,
     out: &mut K,
     gate: &G,
 ) -> u8
-    requires { 0 < size }
+    requires workers { (1 ≤ workers) × (workers ≤ MAX_WORKERS) }
+    requires size { 0 < size }
     ensures range { IsWhole result ⊎ (result ≡ WRITE_FAILED) ⊎ (result ≡ NO_MEMORY) }
     ensures write_failed { result ≡ WRITE_FAILED → Rose (K.faults out.old) (K.faults out.new) }
     ensures done { IsWhole result → (lines : List Line) × IsOutput no_files (script_of number size) lines
@@ -60,7 +62,7 @@ pub(crate) fn run_generated<R: Threads + Sync, K: Sink, G: Gate>(
     ensures cut_short { (result ≡ WRITE_FAILED) ⊎ (result ≡ NO_MEMORY) → (lines : List Line) → IsOutput no_files (script_of number size) lines
         → AppendsFront (K.taken out.old) (K.taken out.new) (summary_text number size lines) }
 {
-    let Ok(summary) = generated_summary(rt, alloc, number, size, gate) else {
+    let Ok(summary) = generated_summary(rt, alloc, workers, number, size, gate) else {
         return NO_MEMORY;
     };
     match write_all(out, &summary.text) {
@@ -75,17 +77,19 @@ pub(crate) fn run_generated<R: Threads + Sync, K: Sink, G: Gate>(
 fn generated_summary<R: Threads + Sync, G: Gate>(
     rt: &R,
     alloc: Global,
+    workers: u32,
     number: u32,
     size: u32,
     gate: &G,
 ) -> Result<Summary, Memory>
-    requires { 0 < size }
+    requires workers { (1 ≤ workers) × (workers ≤ MAX_WORKERS) }
+    requires size { 0 < size }
     ensures { IfOk result (IsSummaryOf (script_of number size)) }
 {
     scripts_are_text();
     let script = generated(alloc, number, size)?;
     match str::from_utf8(&script) {
-        Ok(text) => summary_of(rt, alloc, text, gate),
+        Ok(text) => summary_of(rt, alloc, workers, text, gate),
         Err(_) => unreachable!(),
     }
 }
@@ -94,9 +98,11 @@ fn generated_summary<R: Threads + Sync, G: Gate>(
 fn summary_of<R: Threads + Sync, G: Gate>(
     rt: &R,
     alloc: Global,
+    workers: u32,
     text: &str,
     gate: &G,
 ) -> Result<Summary, Memory>
+    requires { (1 ≤ workers) × (workers ≤ MAX_WORKERS) }
     ensures { IfOk result (IsSummaryOf text.now) }
 {
     let tokens = tokens(alloc, text)?;
@@ -105,7 +111,7 @@ fn summary_of<R: Threads + Sync, G: Gate>(
     match run_statements(
         rt,
         alloc,
-        DEFAULT_WORKERS,
+        workers,
         &statements,
         &mut NoFiles,
         &mut sink,

@@ -5,13 +5,11 @@
 
 mod blocks;
 mod changes;
-mod commands;
 mod explaining;
 mod generated;
 mod laws;
 mod loads;
 mod reading;
-mod runs;
 mod scenarios;
 mod scripts;
 mod statuses;
@@ -19,8 +17,9 @@ mod step;
 mod stops;
 mod takes;
 
+pub use generated::run_generated;
 pub use laws::one_output;
-pub use runs::run;
+pub use scripts::run_script;
 pub use statuses::{
     BAD_WORDS, DONE, FLAWED, NO_MEMORY, NOT_UTF8, READ_FAILED, TOO_LONG, WRITE_FAILED,
 };

@@ -25,7 +25,7 @@ use std::thread::Threads;
 
 /// Reads the whole script, runs it statement by statement, and writes each statement's lines before the next one starts.
 /// The answer is the status of the run (docs/LANGUAGE.md, "Statuses").
-pub(crate) fn run_script<R: Threads + Sync, S: Source, F: Shelf, K: Sink, G: Gate>(
+pub fn run_script<R: Threads + Sync, S: Source, F: Shelf, K: Sink, G: Gate>(
     rt: &R,
     alloc: Global,
     workers: u32,

@@ -3,8 +3,8 @@
 ghost use Rattle.std.specs.Prelude.{◌≡◌, ◌≤◌, map, string_bytes, IfSome};
 ghost use Rattle.std.specs.Char.{is_ascii_digit};
 ghost use Rattle.std.specs.List.{list_all};
-ghost use Rattle.mq_tool.specs.Commands as spec;
-ghost use Rattle.mq_tool.specs.Commands.{IsInRange};
+ghost use Rattle.mq_run.specs.Commands as spec;
+ghost use Rattle.mq_run.specs.Commands.{IsInRange};
 
 use mq_engine::MAX_WORKERS;
 

@@ -6,9 +6,9 @@ use Rattle.std.specs.Option.{option_map}
 use Rattle.std.specs.Str.{bytes_eq}
 use Rattle.std.specs.Str.Parse.{digits_value}
 use Rattle.mq_engine.specs.declared.engine.TheConstants.{MAX_WORKERS}
-use Rattle.mq_tool.specs.declared.commands.Command.{Command}
-use Rattle.mq_tool.specs.declared.commands.Command.TheVariants.{Script, Generated}
-use Rattle.mq_tool.specs.declared.commands.TheConstants.{DECIMAL_BASE, DEFAULT_WORKERS, MAX_DIGITS, MAX_NUMBER, MAX_SIZE}
+use Rattle.mq_run.specs.declared.commands.Command.{Command}
+use Rattle.mq_run.specs.declared.commands.Command.TheVariants.{Script, Generated}
+use Rattle.mq_run.specs.declared.commands.TheConstants.{DECIMAL_BASE, DEFAULT_WORKERS, MAX_DIGITS, MAX_NUMBER, MAX_SIZE}
 
 -- a number is one to ten digits
 abbrev pub is_numeral : List ℕ → Bool

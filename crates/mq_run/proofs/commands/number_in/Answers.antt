@@ -1,7 +1,7 @@
 use Rattle.std.proofs.Common.{sym, ap, ◌∙◌}
-use Rattle.mq_tool.specs.Commands.{is_numeral}
-use Rattle.mq_tool.proofs.CommandLemmas.{out_of_range}
-use Rattle.mq_tool.proofs.commands.number_in.Goals as goal
+use Rattle.mq_run.specs.Commands.{is_numeral}
+use Rattle.mq_run.proofs.CommandLemmas.{out_of_range}
+use Rattle.mq_run.proofs.commands.number_in.Goals as goal
 
 pub returns-in_default-3 : goal.returns-in_default-3
 returns-in_default-3 c =

@@ -6,17 +6,17 @@ ghost use Rattle.mq_io.specs.Causes.{Rose};
 ghost use Rattle.mq_io.specs.Progress.{AppendsFront, GaveAtMost, GaveMore};
 ghost use Rattle.mq_ir.specs.Lines.{Line, text_of};
 ghost use Rattle.mq_generate.specs.Script.{script_of};
-ghost use Rattle.mq_tool.specs.declared.commands.Command.TheVariants as command;
-ghost use Rattle.mq_tool.specs.Commands.{RunsScript, command_of as asked};
+ghost use Rattle.mq_run.specs.declared.commands.Command.TheVariants as command;
+ghost use Rattle.mq_run.specs.Commands.{RunsScript, command_of as asked};
 ghost use Rattle.mq_tool.specs.Script.{IsOutput, IsScript, IsStatus, IsWhole, StopsAtLoad, status_of};
 ghost use Rattle.mq_tool.specs.Loads.{no_files};
 ghost use Rattle.mq_tool.specs.Summary.{summary_text};
 
-use crate::commands::{Command, command_of};
-use crate::generated::run_generated;
-use crate::scripts::run_script;
-use crate::statuses::{BAD_WORDS, NO_MEMORY, NOT_UTF8, READ_FAILED, TOO_LONG, WRITE_FAILED};
+use crate::commands::{Command, DEFAULT_WORKERS, command_of};
 use mq_io::{Gate, READ_SIZE, Shelf, Sink, Source};
+use mq_tool::{
+    BAD_WORDS, NO_MEMORY, NOT_UTF8, READ_FAILED, TOO_LONG, WRITE_FAILED, run_generated, run_script,
+};
 use mq_values::MAX_SCRIPT_BYTES;
 use std::alloc::Global;
 use std::thread::Threads;
@@ -89,7 +89,9 @@ pub fn run<R: Threads + Sync, S: Source, F: Shelf, K: Sink, G: Gate>(
 {
     match command_of(words) {
         Some(Command::Script(workers)) => run_script(rt, alloc, workers, script, files, out, gate),
-        Some(Command::Generated(number, size)) => run_generated(rt, alloc, number, size, out, gate),
+        Some(Command::Generated(number, size)) => {
+            run_generated(rt, alloc, DEFAULT_WORKERS, number, size, out, gate)
+        }
         None => BAD_WORDS,
     }
 }

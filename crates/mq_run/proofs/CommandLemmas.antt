@@ -1,5 +1,5 @@
--- Numbers among the words of the command line.
-use Rattle.std.proofs.Common.{◌≡◌, ℕ, ◌<◌, ◌≤◌, ◌^◌, List, [], ◌∷◌, length, Bool, true, false, ◌&&◌, not, Some, None, Err, refl, sym, ap, ◌∙◌, arith}
+-- What the words of the command line ask for.
+use Rattle.std.proofs.Common.{◌≡◌, ℕ, ◌<◌, ◌≤◌, ◌^◌, List, [], ◌∷◌, length, Bool, true, false, ◌&&◌, not, Option, Some, None, Err, refl, sym, ap, ◌∙◌, subst, arith}
 use Rattle.std.specs.Prelude.{◌==◌, nat_le, if◌then◌else◌}
 use Rattle.std.specs.Char.{is_ascii_digit}
 use Rattle.std.specs.List.{list_all}
@@ -7,8 +7,18 @@ use Rattle.std.specs.Str.{all_ascii_digits}
 use Rattle.std.specs.Str.Parse.{ParsesUnsigned, digits_value}
 use Rattle.std.proofs.lemmas.Str.Parse.{numerals_by_value, parse_digits, tells_all_ascii_digits}
 use Rattle.std.proofs.lemmas.Bool.Decides.{nat_tests}
-use Rattle.mq_tool.specs.Commands.{is_numeral, number_in}
-use Rattle.mq_tool.specs.declared.commands.TheConstants.{MAX_DIGITS}
+use Rattle.mq_run.specs.Commands.{is_numeral, number_in}
+use Rattle.mq_run.specs.declared.commands.Command.{Command}
+use Rattle.mq_run.specs.declared.commands.Command.TheVariants.{Generated}
+use Rattle.mq_run.specs.declared.commands.TheConstants.{MAX_DIGITS}
+
+-- a command to generate a script has one number and one size
+abbrev pair_of : Option Command → ℕ × ℕ
+pair_of (Some (Generated number size)) = (number, size)
+pair_of _ = (0, 0)
+
+pub same_script : (P : ℕ → ℕ → Type 0) (a b number size : ℕ) → Some (Generated a b) ≡ Some (Generated number size) → P a b → P number size
+same_script P a b number size e p = subst (λ (q : ℕ × ℕ). P q.0 q.1) (ap pair_of e) p
 
 parts : (a b : Bool) → (a && b) ≡ true → (a ≡ true) × (b ≡ true)
 parts true b h = (refl, h)

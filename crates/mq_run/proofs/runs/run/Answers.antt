@@ -6,8 +6,8 @@ use Rattle.mq_generate.specs.Script.{script_of}
 use Rattle.mq_tool.specs.Script.{IsOutput, status_of}
 use Rattle.mq_tool.specs.Loads.{no_files}
 use Rattle.mq_tool.specs.Summary.{summary_text}
-use Rattle.mq_tool.proofs.SummaryLemmas.{same_script}
-use Rattle.mq_tool.proofs.runs.run.Goals as goal
+use Rattle.mq_run.proofs.CommandLemmas.{same_script}
+use Rattle.mq_run.proofs.runs.run.Goals as goal
 
 pub returns-in-Some-Generated-clause-summary : goal.returns-in-Some-Generated-clause-summary
 returns-in-Some-Generated-clause-summary g c =
