@@ -3,7 +3,7 @@ use Rattle.std.proofs.Common.{◌≡◌, ℕ, zero, suc, ◌+◌, ◌-◌, ◌<�
 use Rattle.std.specs.Prelude.{if◌then◌else◌}
 use Rattle.std.specs.List.{SwappedAt, enumerate_from}
 use Rattle.std.proofs.lemmas.Bool.{cases_lt}
-use Rattle.std.proofs.lemmas.List.{append-nil, drop-drop, drop-set-lt, get_or-drop, get_or_default, length-map, length-set, length-take-le, map_push, set-set, take-set-le, take_more, take_more_set}
+use Rattle.std.proofs.lemmas.List.{append-nil, drop-drop, drop-set-lt, get_or-drop, get_or_default, length-replicate, length-set, length-take-le, map_push, set-set, take_all, take-set-le, take_more, take_more_set}
 use Rattle.mq_values.specs.declared.faults.Refused.{Refused}
 use Rattle.mq_ir.specs.declared.statement.Schema.{Schema}
 use Rattle.mq_ir.specs.Changes.{Visited, row_key, visited_as}
@@ -22,11 +22,65 @@ left_push (r ∷ rows) [] row g h = absurd (cc)
 left_push (r ∷ rows) (true ∷ gone) row g h = left_push rows gone row g (omega (arith, h))
 left_push (r ∷ rows) (false ∷ gone) row g h = ap (λ l. r ∷ l) (left_push rows gone row g (omega (arith, h)))
 
-pub left_front : {A : Type 0} (items : List A) (gone : List Bool) → items_left items (take (length items) gone) ≡ items_left items gone
-left_front [] gone = refl
-left_front (x ∷ items) [] = refl
-left_front (x ∷ items) (true ∷ gone) = left_front items gone
-left_front (x ∷ items) (false ∷ gone) = ap (λ l. x ∷ l) (left_front items gone)
+-- where none is told to be gone, and where one may be
+left_none : {A : Type 0} (items : List A) (before behind : ℕ) → length items ≤ before + behind → items_left items (replicate before false ++ replicate behind false) ≡ items
+left_none [] before behind h = refl
+left_none (x ∷ items) zero zero h = absurd (omega (arith, h))
+left_none (x ∷ items) zero (suc behind) h = ap (λ l. x ∷ l) (left_none items zero behind (omega (arith, h)))
+left_none (x ∷ items) (suc before) behind h = ap (λ l. x ∷ l) (left_none items before behind (omega (arith, h)))
+
+left_other : {A : Type 0} (items : List A) (before behind : ℕ) → length items ≤ before + (1 + behind) → items_left items (replicate before false ++ false ∷ replicate behind false) ≡ items
+left_other [] before behind h = refl
+left_other (x ∷ items) zero behind h = ap (λ l. x ∷ l) (left_none items zero behind (omega (arith, h)))
+left_other (x ∷ items) (suc before) behind h = ap (λ l. x ∷ l) (left_other items before behind (omega (arith, h)))
+
+left_one : {A : Type 0} (items : List A) (before behind : ℕ) → length items ≤ before + (1 + behind) → items_left items (replicate before false ++ true ∷ replicate behind false) ≡ take before items ++ drop (suc before) items
+left_one [] zero behind h = refl
+left_one [] (suc before) behind h = refl
+left_one (x ∷ items) zero behind h = left_none items zero behind (omega (arith, h))
+left_one (x ∷ items) (suc before) behind h = ap (λ l. x ∷ l) (left_one items before behind (omega (arith, h)))
+
+-- what is told of some, with those before and behind that are left
+abbrev pub told_within : ℕ → List Bool → ℕ → List Bool
+told_within before told behind = replicate before false ++ (told ++ replicate behind false)
+
+told_long : (before : ℕ) (told : List Bool) (behind : ℕ) → length (told_within before told behind) ≡ before + (length told + behind)
+told_long before told behind =
+    length-append (replicate before false) (told ++ replicate behind false)
+    ∙ (let a = length-append told (replicate behind false) in let b = length-replicate before false in let c = length-replicate behind false in omega (arith, a, b, c))
+
+pub none_gone : {A : Type 0} (items : List A) (before : ℕ) (told : List Bool) (behind : ℕ) → length told ≡ 0 → length items ≤ length (told_within before told behind) → items ≡ items_left items (told_within before told behind)
+none_gone items before [] behind n h = let l = told_long before [] behind in sym (left_none items before behind (omega (arith, h, l)))
+none_gone items before (g ∷ told) behind n h = absurd (omega (arith, n))
+
+pub one_gone : {A : Type 0} (items after : List A) (before : ℕ) (told : List Bool) (behind : ℕ) → length told ≡ 1 → get_or told 0 false ≡ true → length items ≤ length (told_within before told behind)
+    → after ≡ take before items ++ drop (before + 1) items → after ≡ items_left items (told_within before told behind)
+one_gone items after before [] behind n g h e = absurd (omega (arith, n))
+one_gone items after before (true ∷ []) behind n g h e =
+    let l = told_long before (true ∷ []) behind in
+    e ∙ ap (λ k. take before items ++ drop k items) (let m : before + 1 ≡ suc before = omega arith in m) ∙ sym (left_one items before behind (omega (arith, h, l)))
+one_gone items after before (false ∷ []) behind n g h e = absurd (cc)
+one_gone items after before (f ∷ (d ∷ told)) behind n g h e = absurd (omega (arith, n))
+
+pub one_left : {A : Type 0} (items : List A) (before : ℕ) (told : List Bool) (behind : ℕ) → length told ≡ 1 → get_or told 0 false ≡ false → length items ≤ length (told_within before told behind)
+    → items ≡ items_left items (told_within before told behind)
+one_left items before [] behind n g h = absurd (omega (arith, n))
+one_left items before (true ∷ []) behind n g h = absurd (cc)
+one_left items before (false ∷ []) behind n g h = let l = told_long before (false ∷ []) behind in sym (left_other items before behind (omega (arith, h, l)))
+one_left items before (f ∷ (d ∷ told)) behind n g h = absurd (omega (arith, n))
+
+-- the flag of the only one
+pub first_flag : (told : List Bool) (d b : Bool) → length told ≡ 1 → d ≡ get_or told 0 d → d ≡ b → get_or told 0 false ≡ b
+first_flag [] d b n g e = absurd (omega (arith, n))
+first_flag (x ∷ told) d b n g e = sym g ∙ e
+
+-- more may be told than there are
+left_long : {A : Type 0} (items : List A) (n : ℕ) (gone : List Bool) → length items ≤ n → items_left items (take n gone) ≡ items_left items gone
+left_long [] n gone h = refl
+left_long (x ∷ items) zero gone h = absurd (omega (arith, h))
+left_long (x ∷ items) (suc n) [] h = refl
+left_long (x ∷ items) (suc n) (true ∷ gone) h = left_long items n gone (omega (arith, h))
+left_long (x ∷ items) (suc n) (false ∷ gone) h = ap (λ l. x ∷ l) (left_long items n gone (omega (arith, h)))
 
 -- the first `at` rows were looked at, and those of them that are left stand in the first `kept` places; the others are as they were
 pub record Leaving {A : Type 0} (rows : List A) (gone : List Bool) (now : List A) (kept at : ℕ) : Type 0 where
@@ -39,9 +93,9 @@ some_item : {A : Type 0} (xs : List A) (i : ℕ) → i < length xs → A
 some_item [] i h = absurd (omega (arith, h))
 some_item (x ∷ xs) i h = x
 
-module _ {A : Type 0} (rows : List A) (gone : List Bool) (told : length gone ≡ length rows) (now : List A) (kept at : ℕ) (l : Leaving rows gone now kept at) (here : at < length gone) where
-  within : at < length rows
-  within = omega (arith, told, here)
+module _ {A : Type 0} (rows : List A) (gone : List Bool) (told : length rows ≤ length gone) (now : List A) (kept at : ℕ) (l : Leaving rows gone now kept at) (within : at < length rows) where
+  here : at < length gone
+  here = omega (arith, told, within)
 
   item : A
   item = some_item rows at within
@@ -103,7 +157,18 @@ module _ {A : Type 0} (rows : List A) (gone : List Bool) (told : length gone ≡
       let row = get_or now at item in
       swapped after row (get_or now kept item) (same_here item ∙ get_or_default rows at item row within) (get_or_default now kept item row inside) (s.3 item)
 
+pub leaving_end : {A : Type 0} (rows : List A) (gone : List Bool) (now after : List A) (kept at : ℕ) → length rows ≤ at → after ≡ take kept now → Leaving rows gone now kept at → after ≡ items_left rows gone
+leaving_end rows gone now after kept at h e l = e ∙ l.front ∙ ap (λ x. items_left x (take at gone)) (take_all at rows h) ∙ left_long rows at gone h
+
 -- ---- rows that DELETE visits as true
+pub told_push : (before : ℕ) (told after : List Bool) (g b : Bool) → after ≡ told ++ g ∷ [] → g ≡ b → replicate before false ++ after ≡ (replicate before false ++ told) ++ b ∷ []
+told_push before told after g b a e =
+    ap (λ l. replicate before false ++ l) (a ∙ ap (λ x. told ++ x ∷ []) e) ∙ sym (append_assoc (replicate before false) told (b ∷ []))
+
+pub told_end : (before : ℕ) (told after : List Bool) (n m : ℕ) → after ≡ replicate before false ++ (told ++ replicate n false) → n ≡ m → after ≡ (replicate before false ++ told) ++ replicate m false
+told_end before told after n m a e =
+    a ∙ ap (λ k. replicate before false ++ (told ++ replicate k false)) e ∙ sym (append_assoc (replicate before false) told (replicate m false))
+
 module _ (schema : Schema) (f : ℕ × Tuple → Result Visited Refused) (xs : List Tuple) where
   -- the first i rows were visited, and it is told which of them as true, the keys of these, and these with their places
   pub record Taking (i : ℕ) (flags : List Bool) (keys : List Tuple) (rows : List (ℕ × Tuple)) : Type 0 where
@@ -116,10 +181,6 @@ module _ (schema : Schema) (f : ℕ × Tuple → Result Visited Refused) (xs : L
 
   pub taking_start : (flags : List Bool) (keys : List Tuple) (rows : List (ℕ × Tuple)) → flags ≡ [] → keys ≡ [] → rows ≡ [] → Taking 0 flags keys rows
   taking_start flags keys rows a k r = record { visited = []; walk = number_start f xs [] refl; count = refl; flags_are = a; keys_are = k; rows_are = r ∙ sym (none_taken xs) }
-
-  -- as many are told as were visited
-  pub taking_length : (i : ℕ) (flags : List Bool) (keys : List Tuple) (rows : List (ℕ × Tuple)) → Taking i flags keys rows → length flags ≡ i
-  taking_length i flags keys rows t = ap length t.flags_are ∙ length-map t.visited (λ (row : Visited). row.1) ∙ t.count
 
   module _ (i : ℕ) (flags after : List Bool) (keys : List Tuple) (rows : List (ℕ × Tuple)) (x : Tuple) (h : i < length xs) (e : x ≡ get_or xs i x) (t : Taking i flags keys rows) where
     next : (b : Bool) (more : List Tuple) (gone : List (ℕ × Tuple)) → f (i + 1, x) ≡ Ok (x, b) → after ≡ flags ++ b ∷ []
@@ -161,18 +222,17 @@ module _ (schema : Schema) (f : ℕ × Tuple → Result Visited Refused) (xs : L
       (taking_over k (i + 1) (flags ++ false ∷ []) keys rows (omega (arith, h)) (λ at y a b c d. g at y a b (omega (arith, c)) (omega (arith, d)))
       (taking_left i flags (flags ++ false ∷ []) keys rows x l e t (g i x l e (omega arith) (omega arith)) refl)))
 
-  pub taking_front : (n : ℕ) (flags after : List Bool) (keys : List Tuple) (rows : List (ℕ × Tuple)) → n ≤ length xs → ((at : ℕ) (x : Tuple) → at < length xs → x ≡ get_or xs at x → at < n → f (at + 1, x) ≡ Ok (x, false))
-      → flags ≡ [] → after ≡ flags ++ replicate (n - length flags) false → keys ≡ [] → rows ≡ [] → Taking n after keys rows
-  taking_front n flags after keys rows h g p a k r =
-      let all : after ≡ replicate n false = a ∙ ap (λ (l : List Bool). l ++ replicate (n - length l) false) p ∙ ap (λ (k : ℕ). replicate k false) (let z : n - 0 ≡ n = omega arith in z) in
-      subst (λ l. Taking n l keys rows) (sym all)
+  pub taking_front : (n : ℕ) (flags : List Bool) (keys : List Tuple) (rows : List (ℕ × Tuple)) → n ≤ length xs → ((at : ℕ) (x : Tuple) → at < length xs → x ≡ get_or xs at x → at < n → f (at + 1, x) ≡ Ok (x, false))
+      → flags ≡ [] → keys ≡ [] → rows ≡ [] → Taking n (replicate n false ++ flags) keys rows
+  taking_front n flags keys rows h g p k r =
+      subst (λ l. Taking n l keys rows) (sym (ap (λ (l : List Bool). replicate n false ++ l) p ∙ append-nil (replicate n false)))
       (subst (λ m. Taking m (replicate n false) keys rows) (let m : 0 + n ≡ n = omega arith in m)
       (taking_over n 0 [] keys rows (omega (arith, h)) (λ at x a b c d. g at x a b (omega (arith, d))) (taking_start [] keys rows refl k r)))
 
   pub taking_back : (i : ℕ) (flags after : List Bool) (keys : List Tuple) (rows : List (ℕ × Tuple)) → i ≤ length xs → ((at : ℕ) (x : Tuple) → at < length xs → x ≡ get_or xs at x → i ≤ at → f (at + 1, x) ≡ Ok (x, false))
-      → after ≡ flags ++ replicate (length xs - length flags) false → Taking i flags keys rows → Taking (length xs) after keys rows
+      → after ≡ flags ++ replicate (length xs - i) false → Taking i flags keys rows → Taking (length xs) after keys rows
   taking_back i flags after keys rows h g a t =
-      subst (λ l. Taking (length xs) l keys rows) (sym (a ∙ ap (λ n. flags ++ replicate (length xs - n) false) (taking_length i flags keys rows t)))
+      subst (λ l. Taking (length xs) l keys rows) (sym a)
       (subst (λ m. Taking m (flags ++ replicate (length xs - i) false) keys rows) (let m : i + (length xs - i) ≡ length xs = omega (arith, h) in m)
       (taking_over (length xs - i) i flags keys rows (omega (arith, h)) (λ at x a b c d. g at x a b c) t))
 

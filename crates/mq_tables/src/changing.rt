@@ -96,7 +96,7 @@ fn delete(
 {
     let places = places_to_visit(alloc, schema, filter, rows);
     let gone = gone_rows(alloc, schema, filter, rows.as_slice(), places)?;
-    rows.lose(alloc, schema, gone.flags.as_slice(), gone.keys.as_slice())?;
+    rows.lose(alloc, schema, &gone.flags, gone.keys.as_slice())?;
     Ok(Touched::Gone {
         flags: gone.flags,
         rows: gone.rows,

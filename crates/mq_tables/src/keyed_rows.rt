@@ -6,13 +6,14 @@ ghost use Rattle.mq_tables.specs.InPlace.{PutsBehind, put_at, rows_gone, rows_le
 ghost use Rattle.mq_tables.specs.KeyOrder.{judged};
 ghost use Rattle.mq_tables.specs.Seeking.{AreTold, FirstIsLike, HasKeyAt, IsPlaceWith};
 
+use crate::flags::Flags;
 use crate::groups::has_groups_of;
 use crate::key_order::KeyOrder;
 use crate::keys::{numbered_key, row_key};
 use crate::numbered_key::NumberedKey;
 use crate::places::Places;
 use crate::row_numbers::RowNumbers;
-use crate::rows::{put_rows, row_copies, take_away};
+use crate::rows::{put_rows, row_copies};
 use mq_ir::{Row, Schema};
 use mq_values::{Fail, Items, Memory, Refused, Shared};
 use std::alloc::Global;
@@ -199,12 +200,12 @@ impl KeyedRows {
         Ok(())
     }
 
-    /// Takes away the rows that are gone, whose keys are `keys`.
+    /// Takes away the rows that are gone, whose keys are `keys`, numbered by their places.
     pub fn lose(
         &mut self,
         alloc: Global,
         schema: &Schema,
-        gone: &[bool],
+        gone: &Flags,
         keys: &[NumberedKey],
     ) -> Result<(), Fail<Refused>>
         requires told { length gone.now ≡ length self.old }
@@ -214,19 +215,32 @@ impl KeyedRows {
     {
         if schema.key.is_empty() {
             self.columns = Shared::empty();
-            take_away(&mut self.rows, gone);
+            gone.take_away(&mut self.rows);
             return Ok(());
         }
-        if is_key_of(self.columns.as_slice(), schema) && self.order.lose(keys) {
-            take_away(&mut self.rows, gone);
-            self.numbers.lose(gone);
+        if is_kept_by(self.columns.as_slice(), schema, &self.numbers) && self.order.lose(keys) {
+            gone.take_away(&mut self.rows);
+            self.numbers.lose(keys);
             return Ok(());
         }
-        let mut rows = row_copies(alloc, self.rows.as_slice(), 0)?;
-        take_away(&mut rows, gone);
-        *self = KeyedRows::new(alloc, schema, Items::from_vec(rows))?;
+        *self = rows_without(alloc, schema, self.rows.as_slice(), gone)?;
         Ok(())
     }
+}
+
+// The rows that are left, with their keys made anew.
+fn rows_without(
+    alloc: Global,
+    schema: &Schema,
+    rows: &[Row],
+    gone: &Flags,
+) -> Result<KeyedRows, Fail<Refused>>
+    requires { length gone.now ≡ length rows.now }
+    ensures { Gives result (judged schema.now (rows_left rows.now gone.now)) }
+{
+    let mut left = row_copies(alloc, rows, 0)?;
+    gone.take_away(&mut left);
+    KeyedRows::new(alloc, schema, Items::from_vec(left))
 }
 
 // A place alone, where the row there has this key.
@@ -293,6 +307,13 @@ fn is_key_of(columns: &[u32], schema: &Schema) -> bool
     ensures { result ≡ true → (columns.now ≢ []) × (columns.now ≡ schema.now.key) }
 {
     !columns.is_empty() && columns == schema.key.as_slice()
+}
+
+// The same, where few numbers were given to rows that are gone. No answer rests on `false`.
+fn is_kept_by(columns: &[u32], schema: &Schema, numbers: &RowNumbers) -> bool
+    ensures { result ≡ true → (columns.now ≢ []) × (columns.now ≡ schema.now.key) }
+{
+    !numbers.are_sparse() && is_key_of(columns, schema)
 }
 
 // Rows of a table without a key.

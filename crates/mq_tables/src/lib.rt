@@ -6,6 +6,7 @@
 mod ascending;
 mod changing;
 mod columns;
+mod flags;
 mod groups;
 mod holding;
 mod key_order;
@@ -30,6 +31,7 @@ mod touched;
 mod visits;
 mod wanted;
 
+pub use flags::Flags;
 pub use laws::old_places_ascend;
 pub use pending::Pending;
 pub use row_view::RowView;

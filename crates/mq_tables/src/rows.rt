@@ -1,6 +1,6 @@
 //! Lists of rows that are copied, and changed where they stand.
-ghost use Rattle.std.specs.Prelude.{◌≡◌, ◌≤◌, [], ◌++◌, length, slice_set, IfOk, OnOk};
-ghost use Rattle.mq_tables.specs.InPlace.{items_left, put_at, rows_left};
+ghost use Rattle.std.specs.Prelude.{◌≡◌, ◌++◌, slice_set, IfOk, OnOk};
+ghost use Rattle.mq_tables.specs.InPlace.{put_at};
 
 use mq_ir::Row;
 use mq_values::{Items, Memory};
@@ -42,36 +42,4 @@ pub fn put<T: Drop>(items: &mut Vec<T>, place: u32, item: T)
     if (place as usize) < items.len() {
         items[place as usize] = item;
     }
-}
-
-/// Takes away the rows that are gone. The others stay in order.
-pub fn take_away(rows: &mut Vec<Row>, gone: &[bool])
-    requires { length gone.now ≡ length rows.old.items }
-    ensures { rows.new.items ≡ rows_left rows.old.items gone.now }
-{
-    take_items(rows, gone);
-}
-
-/// The same for items of any kind.
-pub fn take_items<T: Drop>(items: &mut Vec<T>, gone: &[bool])
-    requires { length gone.now ≡ length items.old.items }
-    ensures { items.new.items ≡ items_left items.old.items gone.now }
-{
-    let mut kept: usize = 0;
-    'items: for (at, is_gone) in gone.iter().enumerate() {
-        if !*is_gone {
-            items.swap(kept, at);
-            kept += 1;
-        }
-    }
-    items.truncate(kept);
-}
-
-/// The same for items of which the last ones may be missing.
-pub fn lose_front<T: Drop>(items: &mut Vec<T>, gone: &[bool])
-    requires { length items.old.items ≤ length gone.now }
-    ensures { items.new.items ≡ items_left items.old.items gone.now }
-{
-    let (front, _) = gone.split_at(items.len());
-    take_items(items, front);
 }

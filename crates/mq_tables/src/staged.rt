@@ -9,7 +9,7 @@ ghost use Rattle.mq_tables.specs.Touching.{IsOf, forgotten, made, noted};
 
 use crate::changing::change_rows;
 use crate::keyed_rows::KeyedRows;
-use crate::rows::{lose_front, put};
+use crate::rows::put;
 use crate::table::Table;
 use crate::touched::Touched;
 use mq_ir::{Change, Row, Schema};
@@ -160,7 +160,7 @@ fn note(places: &mut Vec<Option<u32>>, touched: &Touched)
     match touched {
         Touched::Added { .. } => {}
         Touched::Replaced(rows) => forget(places, rows.as_slice()),
-        Touched::Gone { flags, .. } => lose_front(places, flags.as_slice()),
+        Touched::Gone { flags, .. } => flags.take_away(places),
     }
 }
 

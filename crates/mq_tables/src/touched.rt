@@ -2,6 +2,7 @@
 ghost use Rattle.std.specs.Prelude.{◌≡◌};
 ghost use Rattle.mq_tables.specs.Touching.{count_of};
 
+use crate::flags::Flags;
 use mq_ir::Row;
 use mq_values::Items;
 
@@ -18,7 +19,7 @@ pub enum Touched {
     Replaced(Items<(u32, Row)>),
     /// DELETE: for each row whether it is gone, and those that are.
     Gone {
-        flags: Items<bool>,
+        flags: Flags,
         rows: Items<(u32, Row)>,
     },
 }

@@ -1,16 +1,17 @@
 //! The rows that UPDATE and DELETE visit as true, of which none stands outside of the places that they look at.
-ghost use Rattle.std.specs.Prelude.{◌≡◌, ◌≤◌, ◌-◌, ◌++◌, false, length, replicate, OnOk};
+ghost use Rattle.std.specs.Prelude.{◌≤◌, length};
 ghost use Rattle.mq_values.specs.Answers.{Gives};
 ghost use Rattle.mq_values.specs.declared.limits.TheConstants.{MAX_ROWS};
 ghost use Rattle.mq_tables.specs.Seeking.{AreWithin, PassesOutside};
 ghost use Rattle.mq_tables.specs.Visits.{rows_found, rows_taken};
 
 use crate::columns::{is_chosen, replaced_row};
+use crate::flags::Flags;
 use crate::keys::numbered_key;
 use crate::numbered_key::NumberedKey;
 use crate::places::Places;
 use mq_ir::{Expr, Row, Schema};
-use mq_values::{Fail, Items, Memory, Refused};
+use mq_values::{Fail, Items, Refused};
 use std::alloc::Global;
 
 /// The rows that UPDATE visits as true, each with its place: as they will be, and as they are.
@@ -52,7 +53,7 @@ pub fn replaced_rows(
 /// Which rows DELETE visits as true, place by place, the keys of these, and these with their places.
 #[derive(Drop)]
 pub struct Gone {
-    pub flags: Items<bool>,
+    pub flags: Flags,
     pub keys: Items<NumberedKey>,
     pub rows: Items<(u32, Row)>,
 }
@@ -70,10 +71,9 @@ pub fn gone_rows(
     requires outside { PassesOutside filter.now rows.now places }
     ensures { Gives result (rows_taken schema.now filter.now rows.now) }
 {
-    let mut flags = Vec::with_capacity(alloc, rows.len())?;
+    let mut told = Vec::with_capacity(alloc, places.to - places.from)?;
     let mut keys = Items::new(alloc);
     let mut gone = Items::new(alloc);
-    fill_up(&mut flags, places.from)?;
     'rows: for at in places.from..places.to {
         let row = &rows[at];
         let chosen = is_chosen(alloc, filter, at as u32 + 1, row)?;
@@ -81,21 +81,11 @@ pub fn gone_rows(
             keys.push(numbered_key(alloc, schema, row, at)?)?;
             gone.push((at as u32, row.copy()?))?;
         }
-        flags.push(chosen)?;
+        told.push(chosen)?;
     }
-    fill_up(&mut flags, rows.len())?;
     Ok(Gone {
-        flags: Items::from_vec(flags),
+        flags: Flags::of_some(places.from, told, rows.len() - places.to),
         keys,
         rows: gone,
     })
-}
-
-// Puts `false` behind the others, so that there are so many.
-fn fill_up(flags: &mut Vec<bool>, count: usize) -> Result<(), Memory>
-    requires { length flags.old.items ≤ count }
-    ensures { OnOk result (flags.new.items ≡ flags.old.items ++ replicate (count - length flags.old.items) false) }
-{
-    flags.resize(count, false)?;
-    Ok(())
 }

@@ -1,4 +1,0 @@
-use Rattle.mq_tables.proofs.rows.take_away.Goals as goal
-
-pub returns : goal.returns
-returns c = c.take_items.ensures
