@@ -1,7 +1,10 @@
-//! Tests of changes and nothing else: `cells` has a partition's cells, propagated after its input changed (mq_delta_cells).
+//! Tests of changes and nothing else: `cells` has a partition's cells, propagated after its input changed (mq_delta_cells),
+//! `rows` the kept base rows of a query after a change of a table (mq_delta_base).
 #![tactic(auto)]
 
 #[cfg(test)]
 mod cells;
 #[cfg(test)]
 mod makers;
+#[cfg(test)]
+mod rows;
