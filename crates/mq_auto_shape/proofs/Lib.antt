@@ -12,7 +12,6 @@ mod NumberLemmas
 mod OutcomeLemmas
 mod PartLemmas
 mod PlaceLemmas
-mod StandLemmas
 mod StepLemmas
 mod WalkLemmas
 mod WantedLemmas

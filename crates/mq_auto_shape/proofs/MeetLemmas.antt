@@ -9,8 +9,8 @@ use Rattle.mq_ir.specs.Looks.{looks_of}
 use Rattle.mq_ir.specs.Shape.{Assignment}
 use Rattle.mq_ir.specs.Unfolding.{Model}
 use Rattle.mq_refs.specs.Sites.{site_with}
-use Rattle.mq_auto_shape.specs.declared.look_parts.LookPart.{LookPart}
-use Rattle.mq_auto_shape.specs.LookParts.{is_wanted, looks_in}
+use Rattle.mq_refs.specs.declared.parts.LookPart.{LookPart}
+use Rattle.mq_refs.specs.LookParts.{is_wanted, looks_in}
 use Rattle.mq_auto_shape.specs.Numbers.{Numbered}
 use Rattle.mq_auto_shape.specs.Edges.{AreWanted, PlacesAre, number_looked, place_looked, reads_of}
 use Rattle.mq_auto_shape.proofs.EdgeLemmas.{looked}

@@ -19,9 +19,9 @@ use Rattle.mq_ir.specs.Keys.{Tuple}
 use Rattle.mq_ir.specs.Looks.{looks_at}
 use Rattle.mq_ir.specs.StepLaws.{next_item}
 use Rattle.mq_cells.specs.LaneItems.{Lanes, lane_item}
-use Rattle.mq_auto_shape.specs.declared.look_parts.LookPart.{LookPart}
-use Rattle.mq_auto_shape.specs.declared.look_parts.LookPart.TheVariants as part
-use Rattle.mq_auto_shape.specs.LookParts.{looks_in, looks_of_part}
+use Rattle.mq_refs.specs.declared.parts.LookPart.{LookPart}
+use Rattle.mq_refs.specs.declared.parts.LookPart.TheVariants as part
+use Rattle.mq_refs.specs.LookParts.{looks_in, looks_of_part}
 use Rattle.mq_auto_shape.specs.declared.lane_reads.LaneRun.{LaneRun}
 use Rattle.mq_auto_shape.specs.Edges.{number_looked}
 use Rattle.mq_auto_shape.specs.LaneRuns.{numbers_between, numbers_in, numbers_of}

@@ -9,7 +9,7 @@ use Rattle.mq_ir.specs.declared.query.Look.{Look}
 use Rattle.mq_ir.specs.declared.query.Look.TheVariants.{Measure, Presence}
 use Rattle.mq_ir.specs.Keys.{is_same}
 use Rattle.mq_ir.specs.Shape.{Assignment, assigns}
-use Rattle.mq_auto_shape.specs.LookParts.{is_wanted}
+use Rattle.mq_refs.specs.LookParts.{is_wanted}
 use Rattle.mq_auto_shape.specs.Edges.{AreWanted, place_looked}
 use Rattle.mq_auto_shape.proofs.EdgeLemmas.{all_at, hit}
 

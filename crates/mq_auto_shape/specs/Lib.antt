@@ -3,7 +3,6 @@ pub mod Edges
 pub mod Found
 pub mod Indexed
 pub mod LaneRuns
-pub mod LookParts
 pub mod Numbers
 pub mod Outcomes
 pub mod Walk

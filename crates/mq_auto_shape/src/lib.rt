@@ -9,7 +9,6 @@ mod indexed;
 mod lane_reads;
 mod least;
 mod lefts;
-mod look_parts;
 mod mapping;
 mod nodes;
 mod numbers;

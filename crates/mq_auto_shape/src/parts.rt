@@ -3,15 +3,15 @@ ghost use Rattle.std.specs.Prelude.{◌≡◌, ◌++◌, ◌∷◌, [], length, 
 ghost use Rattle.std.specs.List.{All, cons_option, filter_map};
 ghost use Rattle.std.specs.List.Sorted.{IsStrictlySortedBy};
 ghost use Rattle.mq_values.specs.Order.{cmp_key};
-ghost use Rattle.mq_auto_shape.specs.LookParts.{is_within, looks_in};
+ghost use Rattle.mq_refs.specs.LookParts.{is_within, looks_in};
 ghost use Rattle.mq_auto_shape.specs.Edges.{number_looked};
 ghost use Rattle.mq_auto_shape.specs.LaneRuns.{numbers_of};
 ghost use Rattle.mq_auto_shape.specs.Numbers.{number_at};
 
 use crate::lane_reads::LaneRun;
-use crate::look_parts::LookPart;
 use crate::numbers::Numbers;
 use mq_ir::CellName;
+use mq_refs::LookPart;
 use mq_values::{Items, Memory};
 use std::alloc::Global;
 

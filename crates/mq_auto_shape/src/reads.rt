@@ -8,14 +8,13 @@ ghost use Rattle.mq_auto_shape.specs.LaneRuns.{numbers_of, reads_in_lanes};
 ghost use Rattle.mq_cells.specs.declared.bounds.TheConstants.{MAX_ASSIGNMENTS};
 
 use crate::lane_reads::LaneRun;
-use crate::look_parts::look_parts;
 use crate::numbers::Numbers;
 use crate::parts::runs_of;
 use crate::wanted::wanted_of;
 use mq_cells::MAX_ASSIGNMENTS;
 use mq_dim_index::DimIndex;
 use mq_ir::{Model, PartShape, Rule};
-use mq_refs::ShapeKeys;
+use mq_refs::{ShapeKeys, look_parts};
 use mq_values::{Items, Key, Memory};
 use std::alloc::Global;
 

@@ -2,6 +2,7 @@ pub mod FoldLemmas
 pub mod KeyLemmas
 pub mod ListLemmas
 pub mod LookLaws
+pub mod PartLemmas
 pub mod PlainLemmas
 pub mod RangeLemmas
 pub mod SightLemmas

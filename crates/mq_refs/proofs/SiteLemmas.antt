@@ -41,7 +41,7 @@ module _ (at : Standpoint) (set : List Tuple) where
   same_inner : inner_leaves (site_of at) ≡ inner_leaves (site_over at set)
   same_inner = λ i l. same_layer (out-Leaf l) i
 
-  named_over : (kinds : List Kind) (indices : List Expr) → cell_named (site_of at) kinds indices ≡ cell_named (site_over at set) kinds indices
+  pub named_over : (kinds : List Kind) (indices : List Expr) → cell_named (site_of at) kinds indices ≡ cell_named (site_over at set) kinds indices
   named_over kinds indices = ap (λ (leaves : Leaf → Outcome). each (λ (kind, e). converted leaves kind e) (zip kinds indices)) same_inner
 
   tests_over : (kinds : List Kind) (places : List Test) → tests_named (site_of at) kinds places ≡ tests_named (site_over at set) kinds places

@@ -1,4 +1,5 @@
 pub mod LookLists
+pub mod LookParts
 pub mod Orders
 pub mod Sightings
 pub mod Sites

@@ -13,7 +13,7 @@ ghost use Rattle.mq_refs.specs.Sites.{site_of, site_over, site_with};
 use crate::cell_keys::CellKeys;
 use crate::names::{key_named, tests_named};
 use crate::standpoint::Standpoint;
-use crate::walk::push_looks;
+use crate::walk::{LeafVisitor, push_looks};
 use mq_ir::{CellName, Expr, Leaf, Look, Model, PartShape, Rule, Test};
 use mq_values::{DimTest, Fail, Items, Key, Memory};
 use std::alloc::Global;
@@ -63,12 +63,33 @@ pub fn looks_from<K: CellKeys>(
     ensures { IfOk result (λ looks. looks ≡ spec.looks_of (site_over at.now (K.set keys.now)) e.now) }
 {
     let mut looks = Items::new(alloc);
-    push_looks(alloc, at, keys, e, &mut looks)?;
+    push_looks(alloc, &AllLooks { at, keys }, e, &mut looks)?;
     Ok(looks)
 }
 
-/// Puts the looks of a leaf behind `looks`.
-pub fn push_leaf<K: CellKeys>(
+// All looks of leaves, as a list.
+#[derive(Drop)]
+struct AllLooks<'a, K: CellKeys> {
+    at: &'a Standpoint<'a>,
+    keys: &'a K,
+}
+
+impl<K: CellKeys> LeafVisitor for AllLooks<'_, K> {
+    type Found = Items<Look>;
+
+    ghost looks = { λ all. leaf_looks (site_over all.at.now (K.set all.keys.now)) };
+
+    ghost shown = { λ all looks. looks };
+
+    ghost is_sound = { λ all looks. Unit {0} };
+
+    fn visit(&self, alloc: Global, leaf: &Leaf, found: &mut Items<Look>) -> Result<(), Memory> {
+        push_leaf(alloc, self.at, self.keys, leaf, found)
+    }
+}
+
+// Puts the looks of a leaf behind `looks`.
+fn push_leaf<K: CellKeys>(
     alloc: Global,
     at: &Standpoint<'_>,
     keys: &K,

@@ -5,6 +5,7 @@ mod MarkLemmas
 mod MeaningLemmas
 mod NoteLemmas
 mod PlaceLemmas
+mod SelfOrderLemmas
 mod ShownLemmas
 mod StepLemmas
 mod TurnLemmas

@@ -1,5 +1,5 @@
 -- The steps of the rules over the cells of a partition, where a cell that was a target is noted once.
-use Rattle.std.specs.Prelude.{ℕ, zero, suc, ◌+◌, List, [], Bool, true, false, Option, Some, None, Result, Ok, Err}
+use Rattle.std.specs.Prelude.{ℕ, zero, suc, ◌+◌, List, [], Bool, true, false, ◌&&◌, not, Option, Some, None, Result, Ok, Err}
 use Rattle.std.specs.List.{enumerate_from, find, list_any}
 use Rattle.std.specs.Map.{keys_of}
 use Rattle.std.specs.Option.{option_and_then, option_map_or}
@@ -8,7 +8,7 @@ use Rattle.mq_ir.specs.declared.expression.Expr.{Expr}
 use Rattle.mq_ir.specs.declared.query.Rule.{Rule}
 use Rattle.mq_ir.specs.declared.query.SingleLeft.{SingleLeft}
 use Rattle.mq_ir.specs.Expression.{holds}
-use Rattle.mq_ir.specs.Keys.{Tuple}
+use Rattle.mq_ir.specs.Keys.{Tuple, is_among, is_same}
 use Rattle.mq_ir.specs.Looks.{looks_of}
 use Rattle.mq_ir.specs.Placed.{Placed, value_fault}
 use Rattle.mq_ir.specs.Reads.{Site, measure_at, read_until, right_value}
@@ -48,6 +48,10 @@ abbrev pub target_done : (List Tuple → Act) → Tuple → State → Result Sta
 target_done act target s =
     target_value (act s.input) target s >>= (λ v.
     Ok (record s { track = assign s.track target (act s.input).rule.measure v; updated = with_key s.updated target }))
+
+-- a key of these other than that of a target
+abbrev pub is_other : List Tuple → Tuple → Tuple → Bool
+is_other found target key = is_among found key && not (is_same key target)
 
 -- whether a target looks at the assigned measure of another one of these
 abbrev pub looks_past : Act → List Tuple → List Tuple → Tuple → Bool

@@ -1,7 +1,7 @@
 use Rattle.std.proofs.Common.{◌++◌, List, ℕ, ap, ◌∙◌}
 use Rattle.std.proofs.lemmas.Result.{on_ok_weaker}
 use Rattle.mq_auto_shape.specs.declared.lane_reads.LaneRun.{LaneRun}
-use Rattle.mq_auto_shape.specs.LookParts.{is_within}
+use Rattle.mq_refs.specs.LookParts.{is_within}
 use Rattle.std.proofs.Common.{length, subst}
 use Rattle.mq_auto_shape.specs.LaneRuns.{numbers_of}
 use Rattle.mq_auto_shape.proofs.PartLemmas.{cell_part, run_part, run_pushed}

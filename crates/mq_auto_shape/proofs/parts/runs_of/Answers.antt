@@ -1,7 +1,7 @@
 use Rattle.std.proofs.Common.{length, sym, subst}
 use Rattle.std.specs.List.{filter_map}
 use Rattle.std.proofs.lemmas.List.Elements.{All-get_or}
-use Rattle.mq_auto_shape.specs.LookParts.{is_within, looks_in}
+use Rattle.mq_refs.specs.LookParts.{is_within, looks_in}
 use Rattle.mq_auto_shape.specs.Edges.{number_looked}
 use Rattle.mq_auto_shape.specs.LaneRuns.{numbers_of}
 use Rattle.mq_auto_shape.proofs.PartLemmas.{part_more}

@@ -1,6 +1,6 @@
 use Rattle.std.proofs.Common.{◌≡◌, ◌++◌, drop}
 use Rattle.std.specs.List.{filter_map}
-use Rattle.mq_auto_shape.specs.LookParts.{looks_in}
+use Rattle.mq_refs.specs.LookParts.{looks_in}
 use Rattle.mq_auto_shape.specs.Edges.{number_looked}
 use Rattle.mq_auto_shape.specs.LaneRuns.{numbers_of}
 use Rattle.mq_auto_shape.proofs.parts.runs_of.Given as goal

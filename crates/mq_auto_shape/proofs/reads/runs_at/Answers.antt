@@ -5,8 +5,8 @@ use Rattle.std.proofs.lemmas.Result.{IfOk-weaker}
 use Rattle.mq_values.specs.Order.{cmp_key}
 use Rattle.mq_ir.specs.Keys.{Tuple}
 use Rattle.mq_ir.specs.Unfolding.{model_of}
-use Rattle.mq_auto_shape.specs.declared.look_parts.LookPart.{LookPart}
-use Rattle.mq_auto_shape.specs.LookParts.{is_within}
+use Rattle.mq_refs.specs.declared.parts.LookPart.{LookPart}
+use Rattle.mq_refs.specs.LookParts.{is_within}
 use Rattle.mq_auto_shape.proofs.MeetLemmas.{reads_are}
 use Rattle.mq_auto_shape.proofs.reads.runs_at.Goals as goal
 

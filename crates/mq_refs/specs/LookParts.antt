@@ -1,12 +1,14 @@
 -- The looks of a right side as parts: single measures, and runs of cells at one measure.
 use Rattle.std.specs.Prelude.{ℕ, ◌-◌, ◌≤◌, Bool, false, List, [], ◌∷◌, drop, slice_index_or, take}
-use Rattle.std.specs.List.{flat_map}
+use Rattle.std.specs.List.{filter, flat_map}
+use Rattle.mq_ir.specs.declared.expression.Leaf.{Leaf}
 use Rattle.mq_ir.specs.declared.query.Look.{Look}
 use Rattle.mq_ir.specs.declared.query.Look.TheVariants as look
 use Rattle.mq_ir.specs.Keys.{Tuple}
-use Rattle.mq_ir.specs.Looks.{looks_at}
-use Rattle.mq_auto_shape.specs.declared.look_parts.LookPart.{LookPart}
-use Rattle.mq_auto_shape.specs.declared.look_parts.LookPart.TheVariants as part
+use Rattle.mq_ir.specs.Looks.{leaf_looks, looks_at}
+use Rattle.mq_ir.specs.Reads.{Site}
+use Rattle.mq_refs.specs.declared.parts.LookPart.{LookPart}
+use Rattle.mq_refs.specs.declared.parts.LookPart.TheVariants as part
 
 -- the looks that a part stands for, among these cells
 abbrev pub looks_of_part : List Tuple → LookPart → List Look
@@ -21,6 +23,10 @@ looks_in set parts = flat_map (looks_of_part set) parts
 abbrev pub is_wanted : List Bool → Look → Bool
 is_wanted wanted (look.Measure c) = slice_index_or wanted c.measure false
 is_wanted wanted (look.Presence key) = false
+
+-- the looks of a leaf that are asked for
+abbrev pub wanted_looks : List Bool → Site → Leaf → List Look
+wanted_looks wanted site l = filter (is_wanted wanted) (leaf_looks site l)
 
 -- a run that ends among so many cells
 abbrev pub is_within : ℕ → LookPart → Type 0
