@@ -18,10 +18,12 @@ use Rattle.mq_tables.specs.declared.touched.Touched.TheVariants as touched
 use Rattle.mq_tables.specs.declared.visits.Found.{Found}
 use Rattle.mq_tables.specs.declared.visits.Gone.{Gone}
 use Rattle.mq_tables.specs.Columns.{spares_key}
+use Rattle.mq_tables.specs.Exchanging.{ComesFor}
 use Rattle.mq_tables.specs.InPlace.{put_at, rows_gone, rows_left}
 use Rattle.mq_tables.specs.KeyOrder.{judged}
 use Rattle.mq_tables.specs.Touching.{made_by_delete, made_by_update}
 use Rattle.mq_tables.specs.Visits.{flags_of, found, gone, rows_found, rows_taken, taken}
+use Rattle.mq_tables.proofs.ExchangeLemmas.{others_stay}
 use Rattle.mq_tables.proofs.FitLemmas.{deleted_is, each_cons, each_length, each_nil}
 use Rattle.mq_tables.proofs.SparedLemmas.{row_spared, rows_spared}
 use Rattle.mq_tables.proofs.Walks.{exit}
@@ -103,6 +105,16 @@ module _ (schema : Schema) (rows : List Tuple) (sets : List (ℕ × Expr)) (filt
 
   pub keeps_keys : spares_key sets schema.key ≡ true → map (row_key schema) (put_at it.puts rows) ≡ map (row_key schema) rows
   keeps_keys k = ap (map (row_key schema)) put_rows ∙ rows_spared (row_key schema) (updated_row schema sets filter) (row_spared schema sets filter k) 1 rows seen.0 seen.1
+
+  pub comes_for : ComesFor rows it.puts it.were
+  comes_for = record {
+    visited = seen.0;
+    many = each_length (updated_row schema sets filter) (enumerate_from 1 rows) seen.0 seen.1 ∙ length-enumerate_from 1 rows;
+    puts_are = ap (λ (f : Found). f.puts) (sym seen.2);
+    were_are = ap (λ (f : Found). f.were) (sym seen.2);
+    put = put_rows;
+    stay = others_stay (updated_row schema sets filter) (stays schema sets filter) 1 rows seen.0 seen.1;
+  }
 
   pub update_is : made_by_update schema sets filter rows ≡ (judged schema (put_at it.puts rows) >>= (λ after. Ok (after, touched.Replaced it.were)))
   update_is =

@@ -7,6 +7,7 @@ use Rattle.mq_values.specs.declared.value.Value.TheVariants.{Null}
 use Rattle.mq_ir.specs.declared.statement.Schema.{Schema}
 use Rattle.mq_ir.specs.Changes.{row_key}
 use Rattle.mq_ir.specs.Keys.{Tuple, is_among, is_same}
+use Rattle.mq_tables.specs.Exchanging.{keys_put}
 use Rattle.mq_tables.specs.Groups.{AreLike, group_of, groups_of}
 use Rattle.mq_tables.specs.KeyOrder.{HoldsBoth, HoldsSame, Loses}
 use Rattle.mq_tables.proofs.KeyOrderLemmas.{among_both, or_false, own_put}
@@ -47,6 +48,13 @@ like_both sample some others all b l m q h = by (either_true (is_among some q) (
     by (inl s) = l q s
     by (inr o) = m q o
 
+like_more : (sample : Tuple) (keys : List Tuple) (key : Tuple) → groups_of key ≡ groups_of sample → AreLike sample keys → AreLike sample (keys ++ key ∷ [])
+like_more sample keys key g l q m = by (either_true (is_among keys q) (is_among (key ∷ []) q) (sym (among_both keys (key ∷ []) q) ∙ m))
+  where
+    by : (is_among keys q ≡ true) ⊎ (is_among (key ∷ []) q ≡ true) → groups_of q ≡ groups_of sample
+    by (inl s) = l q s
+    by (inr o) = ap groups_of (is_equal q key (sym (or_false (is_same q key)) ∙ o)) ∙ g
+
 pub like_next : (schema : Schema) (rows : List Tuple) (sample : Tuple) (i : ℕ) (row : Tuple) → i < length rows → row ≡ get_or rows i row → groups_of (row_key schema row) ≡ groups_of sample
     → AreLike sample (map (row_key schema) (take i rows)) → AreLike sample (map (row_key schema) (take (i + 1) rows))
 like_next schema rows sample i row h e g l q m =
@@ -61,6 +69,13 @@ like_next schema rows sample i row h e g l q m =
     by : (is_among front q ≡ true) ⊎ (is_among (row_key schema row ∷ []) q ≡ true) → groups_of q ≡ groups_of sample
     by (inl s) = l q s
     by (inr o) = ap groups_of (is_equal q (row_key schema row) (sym (or_false (is_same q (row_key schema row))) ∙ o)) ∙ g
+
+pub put_like_next : (schema : Schema) (puts : List (ℕ × Tuple)) (sample : Tuple) (i : ℕ) (put : ℕ × Tuple) → i < length puts → put ≡ get_or puts i put → groups_of (row_key schema put.1) ≡ groups_of sample
+    → AreLike sample (keys_put schema (take i puts)) → AreLike sample (keys_put schema (take (i + 1) puts))
+put_like_next schema puts sample i put h e g l = subst (AreLike sample) (sym parts) (like_more sample (keys_put schema (take i puts)) (row_key schema put.1) g l)
+  where
+    parts : keys_put schema (take (i + 1) puts) ≡ keys_put schema (take i puts) ++ row_key schema put.1 ∷ []
+    parts = ap (keys_put schema) (take_more puts i put h ∙ ap (λ p. take i puts ++ p ∷ []) (sym e)) ∙ map_push (λ (p : ℕ × Tuple). row_key schema p.1) (take i puts) put
 
 -- ---- the sample that is kept beside keys
 pub copied_like : (sample copy : Option Tuple) (keys after : List Tuple) → copy ≡ sample → HoldsSame keys after → IfSome sample (λ s. AreLike s keys) → IfSome copy (λ s. AreLike s after)

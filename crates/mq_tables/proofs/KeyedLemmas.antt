@@ -13,8 +13,10 @@ use Rattle.mq_ir.specs.declared.statement.Schema.{Schema}
 use Rattle.mq_ir.specs.Changes.{first_repeated, key_fault, row_key}
 use Rattle.mq_ir.specs.Keys.{Tuple, is_among, is_same}
 use Rattle.mq_ir.specs.Statement.{unless_refused}
-use Rattle.mq_tables.specs.InPlace.{rows_gone, rows_left}
+use Rattle.mq_tables.specs.Exchanging.{ComesFor, Exchanged, keys_put}
+use Rattle.mq_tables.specs.InPlace.{put_at, rows_gone, rows_left}
 use Rattle.mq_tables.specs.KeyOrder.{AreKept, AreKeys, Grows, HoldsBoth, Loses, judged, keys_by}
+use Rattle.mq_tables.proofs.ExchangeLemmas.{exchanged}
 use Rattle.mq_tables.proofs.KeyLemmas.{keyed_fault, repeated_alike}
 use Rattle.mq_tables.proofs.KeyOrderLemmas.{among_both, moved, or_false}
 use Rattle.mq_tables.proofs.LoseLemmas.{left_kept}
@@ -104,6 +106,17 @@ module _ (schema : Schema) (before order : List Tuple) (columns : List ℕ) (som
 
   none_repeats : (rows all : List Tuple) → AreKeys (map (row_key schema) rows) all → judged schema rows ≡ Ok rows
   none_repeats rows all h = ap (λ o. unless_refused o (Ok rows)) (kept_apart schema rows all keyed h)
+
+  -- some come for others
+  module _ (puts were : List (ℕ × Tuple)) (come : ComesFor before puts were) (all : List Tuple) (done : Exchanged order (keys_put schema were) (keys_put schema puts) all) where
+    come_known : AreKeys (map (row_key schema) (put_at puts before)) all
+    come_known = exchanged schema before order (subst (λ (cs : List ℕ). AreKeys (keys_by cs before) order) key (kept some)) puts were come all done
+
+    pub come_kept : (after : List Tuple) → after ≡ put_at puts before → AreKept columns after all
+    come_kept after e = subst (λ (rows : List Tuple). AreKept columns rows all) (sym e) (of_key (put_at puts before) all come_known)
+
+    pub come_judged : (after : List Tuple) → after ≡ put_at puts before → judged schema (put_at puts before) ≡ Ok after
+    come_judged after e = none_repeats (put_at puts before) all come_known ∙ ap Ok (sym e)
 
   -- new rows are put behind them
   module _ (new : List Tuple) where

@@ -1,6 +1,7 @@
 pub mod AppliedLemmas
 pub mod AscendingLemmas
 pub mod ChangingLemmas
+pub mod ExchangeLemmas
 pub mod FitLemmas
 pub mod HeldLemmas
 pub mod HeldStandLemmas

@@ -20,14 +20,14 @@ use Rattle.mq_tables.specs.Seeking.{AreTold, AreWithin, FirstIsLike, HasKeyAt, I
 use Rattle.mq_tables.proofs.LoseLemmas.{is_equal, same_turned}
 
 -- ---- keys of which no two are the same
-next_apart : (earlier keys : List Tuple) (k : Tuple) → first_repeated earlier (k ∷ keys) ≡ None → (is_among earlier k ≡ false) × (first_repeated (k ∷ earlier) keys ≡ None)
+pub next_apart : (earlier keys : List Tuple) (k : Tuple) → first_repeated earlier (k ∷ keys) ≡ None → (is_among earlier k ≡ false) × (first_repeated (k ∷ earlier) keys ≡ None)
 next_apart earlier keys k n = by (is_among earlier k) n
   where
     by : (b : Bool) → (if b then Some k else first_repeated (k ∷ earlier) keys) ≡ None → (b ≡ false) × (first_repeated (k ∷ earlier) keys ≡ None)
     by true e = absurd (cc)
     by false e = (refl, e)
 
-either_false : (a b : Bool) → (a || b) ≡ false → (a ≡ false) × (b ≡ false)
+pub either_false : (a b : Bool) → (a || b) ≡ false → (a ≡ false) × (b ≡ false)
 either_false true b h = absurd (cc)
 either_false false b h = (refl, h)
 

@@ -1,4 +1,5 @@
 pub mod Columns
+pub mod Exchanging
 pub mod Groups
 pub mod Held
 pub mod InPlace

@@ -1,5 +1,5 @@
 //! Keys in strictly ascending order, of which new ones go to the end.
-ghost use Rattle.std.specs.Prelude.{◌≡◌, [], ◌∷◌, ◌++◌, true, false, length, IfOk, OnOk};
+ghost use Rattle.std.specs.Prelude.{◌≡◌, [], ◌∷◌, ◌++◌, true, false, IfOk, OnOk};
 ghost use Rattle.std.specs.List.Sorted.{IsStrictlySortedBy};
 ghost use Rattle.std.specs.Ordering.{is_gt};
 ghost use Rattle.mq_values.specs.Order.{cmp_key};
@@ -179,8 +179,8 @@ fn ordered(alloc: Global, keys: &[NumberedKey]) -> Result<BTreeSet<NumberedKey>,
     Ok(set)
 }
 
-// Keys as an ordered set.
-fn set_of(alloc: Global, keys: &[NumberedKey]) -> Result<BTreeSet<NumberedKey>, Memory>
+/// Keys as an ordered set.
+pub fn set_of(alloc: Global, keys: &[NumberedKey]) -> Result<BTreeSet<NumberedKey>, Memory>
     ensures { IfOk result (λ set. HoldsSame keys.now set.keys) }
 {
     let mut set: BTreeSet<NumberedKey> = BTreeSet::new(alloc);

@@ -79,7 +79,7 @@ fn update(
         rows.put_same_keys(alloc, schema, found.puts)?;
         return Ok(Touched::Replaced(found.were));
     }
-    rows.put(alloc, schema, found.puts)?;
+    rows.put(alloc, schema, found.puts, found.were.as_slice())?;
     Ok(Touched::Replaced(found.were))
 }
 

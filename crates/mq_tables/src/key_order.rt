@@ -1,16 +1,20 @@
 //! The keys of rows, kept in runs of which each is in order, so that one is found again.
-ghost use Rattle.std.specs.Prelude.{◌≡◌, ◌≤◌, [], ◌++◌, ◌||◌, true, false, not, map, length, flat_map, Some, IfSome, IfOk, OnOk};
+ghost use Rattle.std.specs.Prelude.{◌≡◌, ◌≤◌, [], ◌++◌, ◌||◌, true, false, not, map, length, Some, IfSome, IfOk, OnOk};
 ghost use Rattle.mq_ir.specs.Changes as spec;
 ghost use Rattle.mq_ir.specs.Keys.{is_among};
+ghost use Rattle.mq_tables.specs.Exchanging.{AddsBeside, Exchanged, keys_put};
+ghost use Rattle.mq_tables.specs.Exchanging as exchanging;
 ghost use Rattle.mq_tables.specs.Groups.{AreAlike, AreLike};
 ghost use Rattle.mq_tables.specs.KeyOrder.{Adds, GrowsTo, HoldsBoth, HoldsSame, Loses, PutsTo, all_keys};
 
-use crate::groups::have_groups_of;
+use crate::ascending::set_of;
+use crate::groups::{has_groups_of, have_groups_of};
 use crate::keys::numbered_key;
 use crate::numbered_key::NumberedKey;
 use crate::own_keys::OwnKeys;
+use crate::row_numbers::RowNumbers;
 use mq_ir::{Row, Schema};
-use mq_values::{Fail, Items, Key, Memory, Refused, Shared};
+use mq_values::{Fail, Items, Key, Memory, Refused, Shared, Value};
 use std::alloc::Global;
 use std::collections::BTreeSet;
 use std::marker::Model;
@@ -167,6 +171,47 @@ impl KeyOrder {
         self.own.lose(keys)
     }
 
+    /// Takes the keys `old` away and puts those of rows that come to places to the others, where these repeat none that stays
+    /// and no earlier one of them, and nobody else may hold any of these keys. Whether it did; else nothing is changed. After
+    /// `Memory` any of the keys may be here.
+    pub fn exchange(
+        &mut self,
+        alloc: Global,
+        schema: &Schema,
+        numbers: &RowNumbers,
+        old: &[NumberedKey],
+        puts: &[(u32, Row)],
+    ) -> Result<bool, Memory>
+        ensures exchanged { IfOk result (λ done. done ≡ true → Exchanged self.old old.now (keys_put schema.now puts.now) self.new) }
+        ensures kept { IfOk result (λ done. done ≡ false → self.new ≡ self.old) }
+    {
+        let Some(keys) = keys_beside(alloc, schema, self, numbers, old, puts)? else {
+            return Ok(false);
+        };
+        if !self.lose(old) {
+            return Ok(false);
+        }
+        self.join(alloc, schema, keys, puts)?;
+        Ok(true)
+    }
+
+    // Puts keys to these, which are those of rows that come to places. After `Memory` some of them may be here.
+    fn join(
+        &mut self,
+        alloc: Global,
+        schema: &Schema,
+        keys: OwnKeys,
+        puts: &[(u32, Row)],
+    ) -> Result<(), Memory>
+        requires { HoldsSame (keys_put schema.now puts.now) keys }
+        ensures { OnOk result (HoldsBoth (keys_put schema.now puts.now) self.old self.new) }
+    {
+        let sample = sample_of_puts(schema, self.sample.take(), puts);
+        self.own.join(alloc, keys)?;
+        self.sample = sample;
+        Ok(())
+    }
+
     // All of these keys in runs.
     fn shared_runs(&self, alloc: Global) -> Result<Items<Run>, Memory>
         ensures { IfOk result (λ runs. all_keys runs ≡ self.now) }
@@ -199,6 +244,29 @@ fn sample_of_all(schema: &Schema, sample: Option<Key>, rows: &[Row]) -> Option<K
     } else {
         None
     }
+}
+
+// The same for rows that come to places.
+fn sample_of_puts(schema: &Schema, sample: Option<Key>, puts: &[(u32, Row)]) -> Option<Key>
+    ensures { IfSome result (λ key. (sample ≡ Some key) × AreLike key (keys_put schema.now puts.now)) }
+{
+    let key = sample?;
+    if are_put_like(schema, puts, key.as_slice()) {
+        Some(key)
+    } else {
+        None
+    }
+}
+
+fn are_put_like(schema: &Schema, puts: &[(u32, Row)], values: &[Value]) -> bool
+    ensures { result ≡ true → AreLike values.now (keys_put schema.now puts.now) }
+{
+    'puts: for put in puts {
+        if !has_groups_of(schema, &put.1, values) {
+            return false;
+        }
+    }
+    true
 }
 
 fn is_in_runs(runs: &[Run], key: &NumberedKey) -> bool
@@ -298,6 +366,52 @@ fn new_keys(
         number = number.saturating_add(1);
     }
     Ok(keys)
+}
+
+// The keys of rows that come to places, where none of them is one of `order` that is not among the old ones, or is that of an
+// earlier row that comes.
+fn keys_beside(
+    alloc: Global,
+    schema: &Schema,
+    order: &KeyOrder,
+    numbers: &RowNumbers,
+    old: &[NumberedKey],
+    puts: &[(u32, Row)],
+) -> Result<Option<OwnKeys>, Memory>
+    ensures { IfOk result (λ keys. IfSome keys (AddsBeside order.now old.now (keys_put schema.now puts.now))) }
+{
+    let gone = set_of(alloc, old)?;
+    let mut keys = OwnKeys::empty(alloc);
+    'puts: for put in puts {
+        let key = numbered_key(alloc, schema, &put.1, numbers.number_at(put.0 as usize))?;
+        if !put_beside(&mut keys, order, &gone, &key)? {
+            return Ok(None);
+        }
+    }
+    Ok(Some(keys))
+}
+
+// Puts a key to the new ones, unless it is among them, or is one of `order` that is not gone. Whether it was put.
+fn put_beside(
+    keys: &mut OwnKeys,
+    order: &KeyOrder,
+    gone: &BTreeSet<NumberedKey>,
+    key: &NumberedKey,
+) -> Result<bool, Memory>
+    ensures new { IfOk result (λ new. new ≡ not (exchanging.is_left order.now gone.now.keys key.now || is_among keys.old key.now)) }
+    ensures put { IfOk result (λ new. new ≡ true → PutsTo key.now keys.old keys.new) }
+{
+    if is_left(order, gone, key) {
+        return Ok(false);
+    }
+    keys.put(key)
+}
+
+// Whether a key is one of `order` that is not gone.
+fn is_left(order: &KeyOrder, gone: &BTreeSet<NumberedKey>, key: &NumberedKey) -> bool
+    ensures { result ≡ exchanging.is_left order.now gone.now.keys key.now }
+{
+    order.contains(key) && !gone.contains(key)
 }
 
 // Puts a key to the new ones, unless it is among them or among those of `order`. Whether it was put.

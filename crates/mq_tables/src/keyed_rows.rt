@@ -1,7 +1,8 @@
 //! Rows with their keys.
-ghost use Rattle.std.specs.Prelude.{◌≡◌, ◌≢◌, ◌++◌, [], true, map, length, IfSome, IfOk, OnErr};
+ghost use Rattle.std.specs.Prelude.{◌≡◌, ◌≢◌, ◌++◌, [], true, false, map, length, IfSome, IfOk, OnErr};
 ghost use Rattle.mq_values.specs.Answers.{Gives, result_map};
 ghost use Rattle.mq_ir.specs.Changes as spec;
+ghost use Rattle.mq_tables.specs.Exchanging.{ComeForOthers, ComesFor, keys_put};
 ghost use Rattle.mq_tables.specs.InPlace.{PutsBehind, put_at, rows_gone, rows_left};
 ghost use Rattle.mq_tables.specs.KeyOrder.{judged};
 ghost use Rattle.mq_tables.specs.Seeking.{AreTold, FirstIsLike, HasKeyAt, IsPlaceWith};
@@ -18,6 +19,9 @@ use mq_ir::{Row, Schema};
 use mq_values::{Fail, Items, Memory, Refused, Shared};
 use std::alloc::Global;
 use std::marker::Model;
+
+// Which part of the keys is exchanged at most; where more of them change, all are made anew.
+const PART: usize = 8;
 
 /// The rows of a table, with their keys by the columns that were its key when they were judged. Contracts see the rows.
 #[derive(Drop)]
@@ -160,8 +164,41 @@ impl KeyedRows {
         }
     }
 
-    /// Puts rows in the place of some that stand here, and judges the keys.
+    /// Puts rows in the place of those that were at their places, and judges the keys.
     pub fn put(
+        &mut self,
+        alloc: Global,
+        schema: &Schema,
+        puts: Items<(u32, Row)>,
+        were: &[(u32, Row)],
+    ) -> Result<(), Fail<Refused>>
+        requires { ComesFor self.old puts were.now }
+        ensures exact { Gives (result_map (λ _. self.new) result) (judged schema.now (put_at puts self.old)) }
+        ensures err { OnErr result (self.new ≡ self.old) }
+    {
+        let Ok(done) = exchange_keys(
+            alloc,
+            schema,
+            self.columns.as_slice(),
+            &mut self.order,
+            &self.numbers,
+            puts.as_slice(),
+            were,
+        ) else {
+            // The keys may be others than those of the rows: they are made anew when they are next asked for.
+            self.columns = Shared::empty();
+            self.order = KeyOrder::empty(alloc);
+            return Err(Fail::Memory);
+        };
+        if done {
+            put_rows(&mut self.rows, puts);
+            return Ok(());
+        }
+        self.put_judged(alloc, schema, puts)
+    }
+
+    // The same, where all keys are judged anew.
+    fn put_judged(
         &mut self,
         alloc: Global,
         schema: &Schema,
@@ -194,7 +231,7 @@ impl KeyedRows {
         ensures err { OnErr result (self.new ≡ self.old) }
     {
         if !is_key_of(self.columns.as_slice(), schema) {
-            return self.put(alloc, schema, puts);
+            return self.put_judged(alloc, schema, puts);
         }
         put_rows(&mut self.rows, puts);
         Ok(())
@@ -283,6 +320,46 @@ fn first_has_groups_of(schema: &Schema, rows: &[Row], key: &NumberedKey) -> bool
         Some(row) => has_groups_of(schema, row, key.key().as_slice()),
         None => true,
     }
+}
+
+// Exchanges the keys of rows for those of rows that come to their places, where keys are kept and few of them change. Whether
+// it did; else nothing is changed. After `Memory` any of the keys may be there.
+fn exchange_keys(
+    alloc: Global,
+    schema: &Schema,
+    columns: &[u32],
+    order: &mut KeyOrder,
+    numbers: &RowNumbers,
+    puts: &[(u32, Row)],
+    were: &[(u32, Row)],
+) -> Result<bool, Memory>
+    ensures known { IfOk result (λ done. done ≡ true → (columns.now ≢ []) × (columns.now ≡ schema.now.key)) }
+    ensures exchanged { IfOk result (λ done. done ≡ true → ComeForOthers schema.now were.now puts.now order.old order.new) }
+    ensures kept { IfOk result (λ done. done ≡ false → order.new ≡ order.old) }
+{
+    if !is_key_of(columns, schema) {
+        return Ok(false);
+    }
+    if puts.len() > numbers.count() / PART {
+        return Ok(false);
+    }
+    let old = keys_that_were(alloc, schema, were)?;
+    order.exchange(alloc, schema, numbers, old.as_slice(), puts)
+}
+
+// The keys of rows that were at places.
+fn keys_that_were(
+    alloc: Global,
+    schema: &Schema,
+    were: &[(u32, Row)],
+) -> Result<Items<NumberedKey>, Memory>
+    ensures { IfOk result (λ keys. keys ≡ keys_put schema.now were.now) }
+{
+    let mut keys = Items::with_room(alloc, were.len());
+    'were: for row in were {
+        keys.push(numbered_key(alloc, schema, &row.1, 0)?)?;
+    }
+    Ok(keys)
 }
 
 // Puts new rows behind others, and their keys to those of the others.

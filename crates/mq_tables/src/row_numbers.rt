@@ -47,6 +47,11 @@ impl RowNumbers {
         self.gone.len() > self.next / 2
     }
 
+    /// How many rows there are.
+    pub fn count(&self) -> usize {
+        self.next.saturating_sub(self.gone.len())
+    }
+
     /// The place at which the row of this number stands, where it is there.
     pub fn place_of(&self, number: usize) -> usize {
         match self.gone.binary_search(&number) {
