@@ -16,6 +16,7 @@ use mq_values::{FaultKind, Key, MAX_CELLS_OF_PARTITION, Memory, QueryFault};
 use std::alloc::Global;
 
 /// The shape of a partition with the rounds of its assignments and its indexes, or the first fault of the input or the shape, or CYCLE.
+/// `Memory` is the only error.
 pub fn judge(
     alloc: Global,
     m: &Model<'_>,
@@ -57,8 +58,8 @@ pub fn judge_after(
     judge(alloc, m, p)
 }
 
-// Whether a shape serves for an input.
-fn serves(p: &PartInput, shape: &PartShape) -> bool
+/// Whether a shape serves for an input: that has no fault of its own, and its cells are at the keys of the shape.
+pub fn serves(p: &PartInput, shape: &PartShape) -> bool
     ensures sound { result ≡ true → spec.input_fault p.now ≡ None }
     ensures same { result ≡ true → map.keys_of p.now.cells ≡ shape.now.base }
 {

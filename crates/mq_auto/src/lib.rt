@@ -12,13 +12,17 @@ mod results;
 mod rows;
 mod runner;
 mod stored;
+mod values;
 mod verdict;
 mod walking;
 mod work;
 
 pub use computing::compute;
+pub use judging::{judge, serves};
 pub use mq_auto_shape::shape_of;
 pub use outcomes::run_auto;
 pub use results::result_of;
 pub use runner::AutoRunner;
+pub use stored::stored_result;
+pub use values::values_over;
 pub use verdict::Verdict;

@@ -3,21 +3,17 @@ ghost use Rattle.std.specs.Prelude.{◌≡◌, IfOk};
 ghost use Rattle.mq_ir.specs.Automatic.{automatic, slots_in};
 ghost use Rattle.mq_ir.specs.Ready.{IsReady};
 ghost use Rattle.mq_ir.specs.Unfolding.{model_of};
-ghost use Rattle.mq_cells.specs.IndexedStores.{input_in, results_of};
 ghost use Rattle.mq_refs.specs.Orders.{IsOrderOf};
 ghost use Rattle.mq_auto.specs.Findings.{IsLevelled};
 ghost use Rattle.mq_auto.specs.Meaning.{result_with};
 
-use crate::finding::ByLending;
 use crate::judging::judge_after;
 use crate::stored::stored_result;
-use crate::walking::walk_rounds;
+use crate::values::values_over;
 use mq_auto_shape::IndexedShape;
-use mq_cells::IndexedCells;
-use mq_dim_index::DimIndex;
 use mq_ir::{Model as Lent, PartInput, PartResult};
 use mq_refs::{RefsOrder, refs_order};
-use mq_values::{Key, Memory};
+use mq_values::Memory;
 use std::alloc::Global;
 use std::marker::Model;
 
@@ -94,42 +90,6 @@ fn result_over(
     requires refs { IsOrderOf refs m.now }
     ensures { IfOk result (λ r. r ≡ result_with (model_of m.now) p.now.key found.now.shape (slots_in (model_of m.now) found.now.shape p.now.cells)) }
 {
-    let mut cells = IndexedCells::new(alloc, p)?;
-    add_created(found, &mut cells)?;
-    walk_rounds(alloc, m, found, refs, &ByLending, &mut cells)?;
+    let mut cells = values_over(alloc, m, p, found, refs)?;
     stored_result(alloc, m, p, &found.shape, &mut cells)
-}
-
-// Adds the cells of a shape that its input does not have, so that the places of the store's cells are those of the shape's.
-fn add_created(found: &IndexedShape, cells: &mut IndexedCells) -> Result<(), Memory>
-    ensures same_input { input_in cells.new ≡ input_in cells.old }
-    ensures same_results { results_of cells.new ≡ results_of cells.old }
-{
-    if found.base.len() == found.cells.len() {
-        return Ok(());
-    }
-    let mut near = 0;
-    'adding: for key in found.cells.keys() {
-        add_if_absent(&found.base, key, &mut near, cells)?;
-    }
-    Ok(())
-}
-
-// Adds a cell where it is not among those of the input.
-fn add_if_absent(
-    base: &DimIndex,
-    key: &Key,
-    near: &mut u32,
-    cells: &mut IndexedCells,
-) -> Result<(), Memory>
-    ensures same_input { input_in cells.new ≡ input_in cells.old }
-    ensures same_results { results_of cells.new ≡ results_of cells.old }
-{
-    match base.place_near(key.as_slice(), *near) {
-        Some(place) => {
-            *near = place;
-            Ok(())
-        }
-        None => cells.add(key.copy()?),
-    }
 }

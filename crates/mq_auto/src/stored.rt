@@ -29,7 +29,9 @@ pub fn stored_result(
 ) -> Result<PartResult, Memory>
     requires few { length s.now.assigned ≤ MAX_ASSIGNMENTS }
     requires held { HoldsValues (model_of m.now) s.now p.now.cells (input_in cells.old) (results_of cells.old) }
-    ensures { IfOk result (λ r. r ≡ result_with (model_of m.now) p.now.key s.now (spec.slots_in (model_of m.now) s.now p.now.cells)) }
+    ensures exact { IfOk result (λ r. r ≡ result_with (model_of m.now) p.now.key s.now (spec.slots_in (model_of m.now) s.now p.now.cells)) }
+    ensures same_input { input_in cells.new ≡ input_in cells.old }
+    ensures same_results { results_of cells.new ≡ results_of cells.old }
 {
     match cells.first_fault(s) {
         Some(at) => fault_at(alloc, &p.key, s, at, cells),

@@ -12,8 +12,8 @@ use Rattle.mq_auto.proofs.stored.stored_result.Goals as goal
 pub stored_rows-requires : goal.stored_rows-requires
 stored_rows-requires c = stand_assigned (model_of c.args.m.now) c.args.s.now c.args.p.now.cells (input_in c.args.cells.now) (results_of c.args.cells.now) c.requires.held
 
-pub returns-in-Some : goal.returns-in-Some
-returns-in-Some c =
+pub returns-in-Some-clause-exact : goal.returns-in-Some-clause-exact
+returns-in-Some-clause-exact c =
     let model = model_of c.args.m.now in
     let s = c.args.s.now in
     let p = c.args.p.now in
@@ -22,8 +22,8 @@ returns-in-Some c =
     IfOk-weaker c.fault_at.result _ _
     (λ r is. fault_is input results model p.key s c.in-Some.at r c.in-Some.ensures is ∙ ap (result_with model p.key s) (held_slots model s p.cells input results c.requires.held)) c.fault_at.ensures.exact
 
-pub returns-in_ok-stored_rows-in-None : goal.returns-in_ok-stored_rows-in-None
-returns-in_ok-stored_rows-in-None c =
+pub returns-in_ok-stored_rows-in-None-clause-exact : goal.returns-in_ok-stored_rows-in-None-clause-exact
+returns-in_ok-stored_rows-in-None-clause-exact c =
     let model = model_of c.args.m.now in
     let s = c.args.s.now in
     let p = c.args.p.now in

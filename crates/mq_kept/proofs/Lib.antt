@@ -1,0 +1,5 @@
+pub mod ComparingLemmas
+pub mod FollowLemmas
+pub mod FoundLemmas
+pub mod MovedLemmas
+pub mod SourceLemmas

@@ -1,0 +1,16 @@
+use Rattle.std.proofs.Common.{◌≡◌, true, sym, ◌∙◌, arith}
+use Rattle.std.proofs.lemmas.List.{take_all}
+use Rattle.mq_kept.proofs.ComparingLemmas.{one_further}
+use Rattle.mq_kept.proofs.comparing.are_same_arrays.Goals as goal
+
+pub loop-at-preserved : goal.loop-at-preserved
+loop-at-preserved c =
+    let told : c.are_same_cells.result ≡ true = cc in
+    one_further c.args.a.now c.args.b.now c.loop-at.at c.index-a-at.result c.index-b-at.result (omega arith) (omega arith) c.index-a-at.is c.index-b-at.is
+    (c.index-a-at.is ∙ (λ i. record { cells = (sym c.as_slice.ensures ∙ c.are_same_cells.ensures told ∙ c.as_slice-in-loop-at.ensures) i }) ∙ sym c.index-b-at.is) c.loop-at.invariant
+
+pub returns : goal.returns
+returns c =
+    let a = c.args.a.now in
+    let b = c.args.b.now in
+    λ told. sym (take_all c.loop-at.at a (omega arith)) ∙ c.loop-at.invariant ∙ take_all c.loop-at.at b (omega arith)

@@ -1,0 +1,22 @@
+//! What is kept of a view with MODEL: its query and the tables go in; out comes what it reads of them, with what was found of each
+//! partition. After a change of the tables it follows them: what the change leaves as it was is not run again.
+//! What is kept is what `specs/Kept` says of it: what mq_ir's `specs/Answer` makes of the tables as they stand.
+#![tactic(auto)]
+
+mod beginning;
+mod comparing;
+mod copying;
+mod following;
+mod kept_view;
+mod moving;
+mod refreshing;
+mod settling;
+mod shapes;
+mod sources;
+
+pub use beginning::begun;
+pub use following::followed;
+pub use kept_view::{KeptPart, KeptView, PartState, ShapedCells, SharedShape};
+pub use refreshing::refreshed;
+pub use settling::{made_of, settle, settle_all};
+pub use shapes::LONGEST_WITH_COURSE;

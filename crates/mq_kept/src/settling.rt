@@ -1,0 +1,206 @@
+//! The partitions of a view, run where that was not done yet.
+ghost use Rattle.std.specs.Prelude.{◌≡◌, true, IfOk, OnOk};
+ghost use Rattle.std.specs.List.{All};
+ghost use Rattle.mq_ir.specs.declared.query.PartInput.{PartInput};
+ghost use Rattle.mq_ir.specs.Answer.{result_in};
+ghost use Rattle.mq_ir.specs.Ready.{IsReady};
+ghost use Rattle.mq_ir.specs.Unfolding.{Model, model_of};
+ghost use Rattle.mq_refs.specs.Orders.{IsOrderOf};
+ghost use Rattle.mq_kept.specs.Kept.{HasValues, IsFound, IsRight, IsServing, inputs_of};
+ghost use Rattle.mq_kept.specs.Kept as spec;
+
+use crate::copying::copy_of_result;
+use crate::kept_view::{KeptPart, PartState, ShapedCells, SharedShape};
+use crate::shapes::shape_after;
+use mq_auto::{stored_result, values_over};
+use mq_cells::{Cells, MAX_ASSIGNMENTS};
+use mq_ir::{Model as Lent, PartInput, PartResult};
+use mq_refs::{RefsOrder, refs_order};
+use mq_seq::run_seq;
+use mq_values::Memory;
+use std::alloc::Global;
+use std::sync::Arc;
+
+/// Runs a partition of which nothing was found yet. What was found of it is right before and after, also after `Memory`.
+pub fn settle(alloc: Global, m: &Lent<'_>, part: &mut KeptPart) -> Result<(), Memory>
+    requires right { IsRight (model_of m.now) part.old }
+    ensures settled { OnOk result (spec.is_settled part.new.state ≡ true) }
+    ensures right { IsRight (model_of m.now) part.new }
+    ensures same_input { part.new.input ≡ part.old.input }
+{
+    if is_settled(&part.state) {
+        return Ok(());
+    }
+    let refs = refs_order(m);
+    let_go(settle_after(alloc, m, refs, part, None)?);
+    Ok(())
+}
+
+// Lets an item go. Whatever its form is, the caller goes on in one way.
+fn let_go<T: Drop>(_item: T) {}
+
+/// Runs the partitions of which nothing was found yet, one after another; those with cells at the same keys share one shape. It may
+/// stop behind the first that comes to a fault, since that is what the view answers. What was found of them is right before and after,
+/// also after `Memory`.
+pub fn settle_all(alloc: Global, m: &Lent<'_>, parts: &mut [KeptPart]) -> Result<(), Memory>
+    requires right { All (IsRight (model_of m.now)) parts.old }
+    ensures right { All (IsRight (model_of m.now)) parts.new }
+    ensures same_inputs { inputs_of parts.new ≡ inputs_of parts.old }
+{
+    let refs = refs_order(m);
+    let mut last = None;
+    for part in parts.iter_mut() {
+        last = settle_after(alloc, m, refs, part, last)?;
+        if comes_to_fault(&part.state) {
+            return Ok(());
+        }
+    }
+    Ok(())
+}
+
+// Runs a partition of which nothing was found yet. `last` is a shape that may serve it; out comes one that may serve the next.
+fn settle_after(
+    alloc: Global,
+    m: &Lent<'_>,
+    refs: RefsOrder,
+    part: &mut KeptPart,
+    last: Option<Arc<SharedShape>>,
+) -> Result<Option<Arc<SharedShape>>, Memory>
+    requires right { IsRight (model_of m.now) part.old }
+    requires refs { IsOrderOf refs m.now }
+    requires last { IsServing (model_of m.now) last }
+    ensures settled { OnOk result (spec.is_settled part.new.state ≡ true) }
+    ensures right { IsRight (model_of m.now) part.new }
+    ensures same_input { part.new.input ≡ part.old.input }
+    ensures last { IfOk result (IsServing (model_of m.now)) }
+{
+    if is_settled(&part.state) {
+        return shape_in(&part.state);
+    }
+    part.state = found_of(alloc, m, refs, &part.input, last)?;
+    shape_in(&part.state)
+}
+
+fn is_settled(state: &PartState) -> bool
+    ensures { result ≡ spec.is_settled state.now }
+{
+    match state {
+        PartState::NotKept => false,
+        PartState::Automatic(_) => true,
+        PartState::Made(_) => true,
+    }
+}
+
+// The shape that was found, where there is one.
+fn shape_in(state: &PartState) -> Result<Option<Arc<SharedShape>>, Memory>
+    ensures { (model : Model) (p : PartInput) → IsFound model p state.now → IfOk result (IsServing model) }
+{
+    match state {
+        PartState::Automatic(kept) => Ok(Some(Arc::try_clone(&kept.shape)?)),
+        _ => Ok(None),
+    }
+}
+
+// Whether what was found is a fault.
+fn comes_to_fault(state: &PartState) -> bool {
+    match state {
+        PartState::Automatic(kept) => has_fault(kept),
+        PartState::Made(PartResult::Fault(_)) => true,
+        _ => false,
+    }
+}
+
+fn has_fault(kept: &ShapedCells) -> bool {
+    let shape = &kept.shape.found.shape;
+    if shape.assigned.len() > MAX_ASSIGNMENTS {
+        return false;
+    }
+    kept.cells.first_fault(shape).is_some()
+}
+
+// What is found of an input.
+fn found_of(
+    alloc: Global,
+    m: &Lent<'_>,
+    refs: RefsOrder,
+    p: &PartInput,
+    last: Option<Arc<SharedShape>>,
+) -> Result<PartState, Memory>
+    requires ready { IsReady m.now.part.now p.now }
+    requires refs { IsOrderOf refs m.now }
+    requires last { IsServing (model_of m.now) last }
+    ensures settled { IfOk result (λ state. spec.is_settled state ≡ true) }
+    ensures found { IfOk result (IsFound (model_of m.now) p.now) }
+{
+    if m.part.auto {
+        found_automatic(alloc, m, refs, p, last)
+    } else {
+        Ok(PartState::Made(run_seq(alloc, m, p)?))
+    }
+}
+
+// The same in automatic order.
+fn found_automatic(
+    alloc: Global,
+    m: &Lent<'_>,
+    refs: RefsOrder,
+    p: &PartInput,
+    last: Option<Arc<SharedShape>>,
+) -> Result<PartState, Memory>
+    requires automatic { m.now.part.now.auto ≡ true }
+    requires ready { IsReady m.now.part.now p.now }
+    requires refs { IsOrderOf refs m.now }
+    requires last { IsServing (model_of m.now) last }
+    ensures settled { IfOk result (λ state. spec.is_settled state ≡ true) }
+    ensures found { IfOk result (IsFound (model_of m.now) p.now) }
+{
+    let found = shape_after(alloc, m, p, last)?;
+    match found {
+        Ok(shape) => {
+            let cells = values_over(alloc, m, p, &shape.found, refs)?;
+            Ok(PartState::Automatic(ShapedCells { shape, cells }))
+        }
+        Err(fault) => Ok(PartState::Made(PartResult::Fault(fault))),
+    }
+}
+
+/// What the rules make of a partition, which is run first where that was not done yet. Its store counts what is read of it; what was
+/// found stays right, also after `Memory`.
+pub fn made_of(alloc: Global, m: &Lent<'_>, part: &mut KeptPart) -> Result<PartResult, Memory>
+    requires right { IsRight (model_of m.now) part.old }
+    ensures exact { IfOk result (λ r. r ≡ result_in (model_of m.now) part.old.input) }
+    ensures right { IsRight (model_of m.now) part.new }
+    ensures same_input { part.new.input ≡ part.old.input }
+{
+    settle(alloc, m, part)?;
+    made_of_settled(alloc, m, part)
+}
+
+// The same where it was run.
+fn made_of_settled(alloc: Global, m: &Lent<'_>, part: &mut KeptPart) -> Result<PartResult, Memory>
+    requires settled { spec.is_settled part.old.state ≡ true }
+    requires right { IsRight (model_of m.now) part.old }
+    ensures exact { IfOk result (λ r. r ≡ result_in (model_of m.now) part.old.input) }
+    ensures right { IsRight (model_of m.now) part.new }
+    ensures same_input { part.new.input ≡ part.old.input }
+{
+    match &mut part.state {
+        PartState::NotKept => unreachable!(),
+        PartState::Automatic(kept) => made_of_values(alloc, m, &part.input, kept),
+        PartState::Made(made) => copy_of_result(alloc, made),
+    }
+}
+
+// What the values that stand in a store come to.
+fn made_of_values(
+    alloc: Global,
+    m: &Lent<'_>,
+    p: &PartInput,
+    kept: &mut ShapedCells,
+) -> Result<PartResult, Memory>
+    requires { HasValues (model_of m.now) p.now kept.old }
+    ensures exact { IfOk result (λ r. r ≡ result_in (model_of m.now) p.now) }
+    ensures same { HasValues (model_of m.now) p.now kept.new }
+{
+    stored_result(alloc, m, p, &kept.shape.found.shape, &mut kept.cells)
+}
