@@ -1,7 +1,6 @@
 -- Lists that are searched, filtered and mapped.
-use Rattle.std.proofs.Common.{◌≡◌, List, [], ◌∷◌, ◌++◌, Bool, true, false, not, cond, map, Some, None, refl, ap, subst}
-use Rattle.std.specs.List.{All, filter, find}
-use Rattle.std.proofs.lemmas.List.Elements.{All-head, All-tail}
+use Rattle.std.proofs.Common.{◌≡◌, List, [], ◌∷◌, ◌++◌, Bool, true, false, not, cond, map, Some, None, refl, ap}
+use Rattle.std.specs.List.{filter, find}
 
 module _ {A B : Type 0} (f : A → B) where
   pub mapped_kept : (p : B → Bool) (xs : List A) → map f (filter (λ x. p (f x)) xs) ≡ filter p (map f xs)
@@ -14,14 +13,6 @@ module _ {A B : Type 0} (f : A → B) where
       by false h = h
 
 module _ {A : Type 0} (p : A → Bool) where
-  pub all_found : (P : A → Type 0) (xs : List A) (x : A) → All P xs → find p xs ≡ Some x → P x
-  all_found P [] x a h = absurd (cc)
-  all_found P (y ∷ ys) x a h = by (p y) (all_found P ys x (All-tail P y ys a)) h
-    where
-      by : (b : Bool) → (find p ys ≡ Some x → P x) → cond b (Some y) (find p ys) ≡ Some x → P x
-      by true k g = let q : y ≡ x = cc in subst P q (All-head P y ys a)
-      by false k g = k g
-
   -- what was put behind the others is taken away
   pub taken_back : (xs : List A) (x : A) → find p xs ≡ None → p x ≡ true → filter (λ y. not (p y)) (xs ++ x ∷ []) ≡ xs
   taken_back [] x h e = ap (λ b. cond (not b) (x ∷ []) []) e

@@ -12,7 +12,7 @@ use Rattle.mq_ir.specs.declared.statement.Change.{Change}
 use Rattle.mq_ir.specs.NamedItems.{has_name}
 use Rattle.mq_ir.specs.Tables.{is_name}
 use Rattle.mq_engine.specs.Scenarios.{HaveOwnNames, IsBounded, MayStand, changes_under, longer, with_change}
-use Rattle.mq_engine.proofs.ListLemmas.{all_found}
+use Rattle.mq_answers.specs.FoundLaws.{all_found}
 use Rattle.mq_engine.proofs.NameLemmas.{name_is}
 
 either : (a b : Bool) → (a || b) ≡ false → (a ≡ false) × (b ≡ false)

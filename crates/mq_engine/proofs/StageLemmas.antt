@@ -19,7 +19,7 @@ use Rattle.mq_ir.specs.Statement.{staged, unless_refused}
 use Rattle.mq_ir.specs.Tables.{Table, Tables, is_name, table_at}
 use Rattle.mq_tables.specs.Pending.{held, holding, with_pending}
 use Rattle.mq_tables.specs.Staging.{Staged, origins_of, staging}
-use Rattle.mq_engine.proofs.AnswerLemmas.{each_length}
+use Rattle.mq_kept.specs.ReadyLaws.{each_length}
 use Rattle.mq_engine.proofs.NameLemmas.{name_is}
 
 -- the table that is found has the name

@@ -1,8 +1,10 @@
 -- The names of a session after each change of its tables, and what is asked of its views.
 use Rattle.std.proofs.Common.{◌≡◌, ℕ, List, [], ◌∷◌, ◌++◌, Bool, false, not, map, Option, Some, None, Result, Ok, Err, sym, ap, subst, ◌∙◌}
+use Rattle.std.specs.Prelude.{OnErr, OnOk}
 use Rattle.std.specs.List.{All, filter}
 use Rattle.std.specs.Option.{option_map_or}
 use Rattle.std.proofs.lemmas.List.Elements.{All-filter, All-push}
+use Rattle.mq_values.specs.declared.memory.Memory.{Memory}
 use Rattle.mq_ir.specs.declared.catalog.Catalog.{Catalog}
 use Rattle.mq_ir.specs.declared.catalog.TableEntry.{TableEntry}
 use Rattle.mq_ir.specs.declared.catalog.View.{View}
@@ -48,8 +50,13 @@ module _ (entries : List TableEntry) (tables : Tables) (same : entries ≡ map e
 abbrev pub AreReady : List View → Type 0
 AreReady views = All (λ (v : View). QueryIsReady v.query) views
 
-pub ready_put : (views after : List View) (v : View) → after ≡ views ++ v ∷ [] → AreReady views → QueryIsReady v.query → AreReady after
+ready_put : (views after : List View) (v : View) → after ≡ views ++ v ∷ [] → AreReady views → QueryIsReady v.query → AreReady after
 ready_put views after v a h r = subst AreReady (sym a) (All-push (λ (v : View). QueryIsReady v.query) views v h r)
+
+pub ready_put_or_not : (r : Result (Unit {0}) Memory) (views after : List View) (v : View) → OnOk r (after ≡ views ++ v ∷ []) → OnErr r (after ≡ views) → AreReady views
+    → QueryIsReady v.query → AreReady after
+ready_put_or_not (Ok u) views after v a b h r = ready_put views after v a h r
+ready_put_or_not (Err wanted) views after v a b h r = subst AreReady (sym b) h
 
 pub ready_kept : (p : View → Bool) (views after : List View) → after ≡ filter p views → AreReady views → AreReady after
 ready_kept p views after a h = subst AreReady (sym a) (All-filter p (λ (v : View). QueryIsReady v.query) views h)

@@ -1,10 +1,6 @@
 pub mod Blocks
 pub mod Catalogs
-pub mod Explained
-pub mod Models
-pub mod Printing
-pub mod Queries
+pub mod KeptViews
 pub mod Refreshed
 pub mod Scenarios
 pub mod Sessions
-pub mod Stretches

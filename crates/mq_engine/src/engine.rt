@@ -9,15 +9,15 @@ ghost use Rattle.mq_ir.specs.Statement.{Block};
 ghost use Rattle.mq_ir.specs.Tables.{table_at};
 ghost use Rattle.mq_engine.specs.Catalogs.{catalog_of, entry_of_table};
 ghost use Rattle.mq_ir.specs.Ready.{QueryIsReady};
+ghost use Rattle.mq_answers.specs.declared.workers.TheConstants.{MAX_WORKERS};
 ghost use Rattle.mq_engine.specs.Sessions.{nothing, view_answer, view_explained, no_view as none_called};
 
 use crate::catalogs::table_entry;
-use crate::explaining::explained_over;
+use crate::kept_views::KeptViews;
 use crate::open_block::OpenBlock;
-use crate::queries::answer_over;
 use crate::uses::user_of;
 use crate::views::NoView;
-use crate::workers::{Crew, Workers};
+use mq_answers::{Crew, Workers, answer_over, explained_over};
 use mq_io::Gate;
 use mq_ir::{Answer, BoundQuery, ByName, Catalog, CellName, Change, Explained, TableDef, View};
 use mq_tables::Tables;
@@ -26,17 +26,15 @@ use std::alloc::Global;
 use std::marker::Model;
 use std::thread::Threads;
 
-/// How many workers there may be.
-pub const MAX_WORKERS: u32 = 64;
-
-/// The tables, views and scenarios of a session, and its block. Contracts see it as the `State` of mq_ir's
+/// The tables, views and scenarios of a session, its block, and what is kept of its views. Contracts see it as the `State` of mq_ir's
 /// `specs/Statement`: the tables with their rows, the views with their queries and the scenarios with their changes, each in
-/// order of creation, and the block where one is there.
+/// order of creation, and the block where one is there. Of what is kept they see nothing.
 #[derive(Drop)]
 pub struct Engine {
     pub(crate) tables: Tables,
     pub(crate) catalog: Catalog,
     pub(crate) block: Option<OpenBlock>,
+    kept: KeptViews,
     // Where scenarios are kept.
     pub(crate) alloc: Global,
     workers: Workers,
@@ -52,6 +50,7 @@ impl Model for Engine {
     ghost use Rattle.mq_ir.specs.Statement.{State};
     ghost use Rattle.mq_engine.specs.Blocks.{state_over};
     ghost use Rattle.mq_engine.specs.Catalogs.{entry_of_table};
+    ghost use Rattle.mq_engine.specs.KeptViews.{AreKeptOf};
     ghost use Rattle.mq_engine.specs.Scenarios.{MayStand};
 
     ghost Value = { State };
@@ -60,7 +59,10 @@ impl Model for Engine {
 
     ghost view = { λ e. state_over e.tables e.catalog e.block };
 
-    ghost invariant = { λ e. (e.catalog.tables ≡ map entry_of_table e.tables) × All (λ v. QueryIsReady v.query) e.catalog.views × MayStand e.catalog.scenarios };
+    ghost invariant = { λ e. (e.catalog.tables ≡ map entry_of_table e.tables)
+        × All (λ v. QueryIsReady v.query) e.catalog.views
+        × MayStand e.catalog.scenarios
+        × AreKeptOf e.catalog.views e.kept.views.entries };
 }
 
 impl Engine {
@@ -77,6 +79,7 @@ impl Engine {
                 scenarios: ByName::new(alloc),
             },
             block: None,
+            kept: KeptViews::new(alloc),
             alloc,
             workers: Workers::new(workers),
         }
@@ -133,8 +136,12 @@ impl Engine {
         ensures ok { OnOk result (self.new ≡ spec.create_view self.old name.now q) }
         ensures err { OnErr result (self.new ≡ self.old) }
     {
-        let name = Words::new(alloc, name)?;
-        self.catalog.views.put(View { name, query: q })
+        let own_name = Words::new(alloc, name)?;
+        let_go(self.kept.take(name));
+        self.catalog.views.put(View {
+            name: own_name,
+            query: q,
+        })
     }
 
     /// Drops the table of this name, where no block is there, or refuses it with the first view that reads it, or else with
@@ -158,6 +165,7 @@ impl Engine {
     pub fn drop_view(&mut self, name: &str)
         ensures { self.new ≡ spec.drop_view self.old name.now }
     {
+        let_go(self.kept.take(name));
         self.catalog.views.remove(name);
     }
 
@@ -190,7 +198,9 @@ impl Engine {
     {
         let crew = self.crew(rt, gate);
         match self.catalog.views.get(view) {
-            Some(found) => Ok(answer_over(&crew, alloc, &self.tables, &found.query)?),
+            Some(found) => Ok(
+                self.kept.answer_of(&crew, alloc, &self.tables, &self.catalog.views, view, found)?,
+            ),
             None => Err(Fail::Cause(NoView {
                 name: Words::new(alloc, view)?,
             })),
@@ -241,6 +251,9 @@ impl Engine {
         }
     }
 }
+
+// Lets what was kept go.
+fn let_go<T: Drop>(_item: T) {}
 
 fn no_view(alloc: Global, name: &str) -> Result<Fail<NoView>, Memory>
     ensures { IfOk result (λ fault. fault ≡ Fail.Cause (none_called name.now)) }

@@ -12,9 +12,8 @@ ghost use Rattle.mq_engine.specs.Sessions.{view_compared};
 
 use crate::change_copies::{same_change, same_changes};
 use crate::engine::Engine;
-use crate::queries::answer_over;
 use crate::views::NoView;
-use crate::workers::Crew;
+use mq_answers::{Crew, answer_over};
 use mq_io::Gate;
 use mq_ir::{BoundQuery, ByName, Change, Compared, Scenario};
 use mq_overlay::overlay;

@@ -5,7 +5,7 @@ use Rattle.std.specs.List.{list_all}
 use Rattle.std.specs.Option.{option_map}
 use Rattle.std.specs.Str.{bytes_eq}
 use Rattle.std.specs.Str.Parse.{digits_value}
-use Rattle.mq_engine.specs.declared.engine.TheConstants.{MAX_WORKERS}
+use Rattle.mq_answers.specs.declared.workers.TheConstants.{MAX_WORKERS}
 use Rattle.mq_run.specs.declared.commands.Command.{Command}
 use Rattle.mq_run.specs.declared.commands.Command.TheVariants.{Script, Generated}
 use Rattle.mq_run.specs.declared.commands.TheConstants.{DECIMAL_BASE, DEFAULT_WORKERS, MAX_DIGITS, MAX_NUMBER, MAX_SIZE}

@@ -6,7 +6,7 @@ ghost use Rattle.mq_io.specs.Causes.{Rose};
 ghost use Rattle.mq_io.specs.Progress.{AppendsFront};
 ghost use Rattle.mq_ir.specs.Lines.{Line};
 ghost use Rattle.mq_generate.specs.Script.{script_of};
-ghost use Rattle.mq_engine.specs.declared.engine.TheConstants.{MAX_WORKERS};
+ghost use Rattle.mq_answers.specs.declared.workers.TheConstants.{MAX_WORKERS};
 ghost use Rattle.mq_tool.specs.Script.{IsOutput, IsWhole, status_of};
 ghost use Rattle.mq_tool.specs.Loads.{no_files};
 ghost use Rattle.mq_tool.specs.Summary.{IsSummaryOf, summary_text};

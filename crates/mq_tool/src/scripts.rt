@@ -7,7 +7,7 @@ ghost use Rattle.mq_io.specs.Progress.{AppendsFront, GaveAtMost, GaveMore};
 ghost use Rattle.mq_lexer.specs.Statements as lexer;
 ghost use Rattle.mq_lexer.specs.Tokens as scanner;
 ghost use Rattle.mq_ir.specs.Lines.{Line, text_of};
-ghost use Rattle.mq_engine.specs.declared.engine.TheConstants.{MAX_WORKERS};
+ghost use Rattle.mq_answers.specs.declared.workers.TheConstants.{MAX_WORKERS};
 ghost use Rattle.mq_tool.specs.declared.statuses.TheConstants.{BAD_WORDS};
 ghost use Rattle.mq_tool.specs.Loads.{FileMap};
 ghost use Rattle.mq_tool.specs.Script.{IsOutput, IsScript, IsStatus, IsWhole, StoppedAtLoad, StopsAtLoad, status_of};

@@ -14,4 +14,5 @@ invariant_of-self c = (
   c.self.invariant.1,
   longer_stand c.args.name.now c.args.c c.self.inside.catalog.scenarios c.in_ok-scenarios.scenarios c.in_ok-scenarios.ensures c.self.invariant.2
       (subst (λ (s : State). length (changes_at s c.args.name.now) < MAX_SCENARIO_CHANGES) (sym c.self.view_is) c.requires),
+  c.self.invariant.3,
 )

@@ -13,6 +13,7 @@ invariant_of-self g c = (
   c.self.invariant.0 ∙ sym (names_stay c.self.inside.tables c.args.c.now c.apply.result c.apply.new.self c.apply.ensures.exact c.apply.ensures.err),
   c.self.invariant.1,
   c.self.invariant.2,
+  c.self.invariant.3,
 )
 
 pub returns-clause-exact : goal.returns-clause-exact

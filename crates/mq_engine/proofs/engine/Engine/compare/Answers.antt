@@ -2,7 +2,7 @@ use Rattle.std.proofs.Common.{Bool, sym}
 use Rattle.mq_ir.specs.declared.catalog.View.{View}
 use Rattle.mq_ir.specs.Tables.{is_name}
 use Rattle.mq_ir.specs.Ready.{QueryIsReady}
-use Rattle.mq_engine.proofs.ListLemmas.{all_found}
+use Rattle.mq_answers.specs.FoundLaws.{all_found}
 use Rattle.mq_engine.proofs.StateLemmas.{compared_is}
 use Rattle.mq_engine.proofs.engine.Engine.compare.Goals as goal
 

@@ -18,4 +18,5 @@ invariant_of-self c =
       c.self.invariant.0,
       c.self.invariant.1,
       put_or_not c.put.result scenarios c.put.new.self s c.put.ensures.ok c.put.ensures.err c.self.invariant.2 new c.new-changes.ensures,
+      c.self.invariant.3,
     )

@@ -26,7 +26,7 @@ invariant_of-self-in-Err c =
     let t : Table = record { name = c.args.t.name; schema = c.args.t.schema; rows = [] } in
     let absent = ap (λ (s : State). table_at s.tables t.name) c.self.view_is ∙ c.requires.new in
     let back = tables_back entries tables c.self.invariant.0 t c.as_str.result.now c.add.new.self c.remove.new.self c.in_ok-add.ensures.ok (c.as_str.ensures ∙ c.in_ok-name.ensures) absent c.remove.ensures.others in
-    (names_back entries tables c.self.invariant.0 c.remove.new.self c.put.new.self back c.in-Err.ensures.err, c.self.invariant.1, c.self.invariant.2)
+    (names_back entries tables c.self.invariant.0 c.remove.new.self c.put.new.self back c.in-Err.ensures.err, c.self.invariant.1, c.self.invariant.2, c.self.invariant.3)
 
 pub returns-clause-err : goal.returns-clause-err
 returns-clause-err c =

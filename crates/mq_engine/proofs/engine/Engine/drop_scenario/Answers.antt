@@ -9,4 +9,5 @@ invariant_of-self c = (
   c.self.invariant.0,
   c.self.invariant.1,
   kept_stand (λ (s : Scenario). not (is_name c.args.name.now s.name)) c.self.inside.catalog.scenarios c.remove.new.self c.remove.ensures c.self.invariant.2,
+  c.self.invariant.3,
 )

@@ -1,0 +1,14 @@
+pub mod AnswerLemmas
+pub mod ColumnLemmas
+pub mod CrossLemmas
+pub mod CutLemmas
+pub mod ExplainLemmas
+pub mod KeptLemmas
+pub mod MarkLemmas
+pub mod NumberLemmas
+pub mod PlaceLemmas
+pub mod PrintLemmas
+pub mod RowLemmas
+pub mod StretchLemmas
+pub mod TakenLemmas
+pub mod TurnLemmas

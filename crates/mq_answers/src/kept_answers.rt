@@ -1,0 +1,229 @@
+//! What a query with MODEL answers that is kept.
+ghost use Rattle.std.specs.Prelude.{◌≡◌, ◌++◌, [], Some, IfOk, IfSome, OnOk};
+ghost use Rattle.std.specs.List.{All};
+ghost use Rattle.mq_values.specs.Answers.{Gives, result_map};
+ghost use Rattle.mq_ir.specs.Answer as spec;
+ghost use Rattle.mq_ir.specs.Printing as printing;
+ghost use Rattle.mq_ir.specs.Ready.{QueryIsReady};
+ghost use Rattle.mq_ir.specs.Results.{each_in_turn};
+ghost use Rattle.mq_ir.specs.Tables.{Tables};
+ghost use Rattle.mq_ir.specs.Unfolding.{model_of};
+ghost use Rattle.mq_kept.specs.Kept.{AllRight, IsBegun, IsKept, IsRight, inputs_of};
+ghost use Rattle.mq_answers.specs.KeptStretches.{parts_in};
+ghost use Rattle.mq_answers.specs.Models.{gathered_rows};
+ghost use Rattle.mq_answers.specs.Queries.{shown_of};
+
+use crate::gathering::{Gathered, with_cells};
+use crate::kept_stretches::{KeptStretch, kept_stretches_of};
+use crate::printing::printed_rows;
+use crate::workers::Crew;
+use mq_io::Gate;
+use mq_ir::{Answer, BoundQuery, Model as Lent, ModelPart, PartResult};
+use mq_kept::{KeptPart, KeptView, PartState, begun, followed, made_of};
+use mq_tables::TableSet;
+use mq_values::{Fail, Items, Key, Memory, QueryFault};
+use mq_workers::run_pieces;
+use std::alloc::Global;
+use std::thread::Threads;
+
+/// What a query with MODEL answers over these tables, as `answer_over` has it. What was kept of it before follows the tables, and
+/// only what the change of the tables reached is run again, by the crew. Out comes what is kept of it now, beside the answer:
+/// nothing where the query has a fault before its partitions (docs/MEANING.md, "Kept views"). `Memory` is the only error, and then
+/// nothing is kept.
+pub fn kept_answer<R: Threads + Sync, T: TableSet, G: Gate>(
+    crew: &Crew<'_, '_, R, G>,
+    alloc: Global,
+    tables: &T,
+    q: &BoundQuery,
+    part: &ModelPart,
+    old: Option<KeptView>,
+) -> Result<(Option<KeptView>, Answer), Memory>
+    requires ready { QueryIsReady q.now }
+    requires model { q.now.model ≡ Some part.now }
+    requires right { IfSome old (AllRight part.now) }
+    ensures exact { IfOk result (λ r. r.1 ≡ spec.answer_of (T.tables tables.now) q.now) }
+    ensures right { IfOk result (λ r. IfSome r.0 (AllRight part.now)) }
+{
+    match view_now(alloc, tables, q, part, old) {
+        Ok(view) => answer_of_view(crew, alloc, q, part, view),
+        Err(Fail::Cause(fault)) => Ok((None, Answer::Fault(fault))),
+        Err(Fail::Memory) => Err(Memory),
+    }
+}
+
+// What is kept of the query over these tables, by what was kept before; or its fault before its partitions.
+fn view_now<T: TableSet>(
+    alloc: Global,
+    tables: &T,
+    q: &BoundQuery,
+    part: &ModelPart,
+    old: Option<KeptView>,
+) -> Result<KeptView, Fail<QueryFault>>
+    requires ready { QueryIsReady q.now }
+    requires model { q.now.model ≡ Some part.now }
+    requires right { IfSome old (AllRight part.now) }
+    ensures { IsBegun (T.tables tables.now) q.now part.now result }
+{
+    let Some(old) = old else {
+        return begun(alloc, tables, q, part);
+    };
+    match followed(alloc, tables, q, part, old)? {
+        Some(view) => Ok(view),
+        None => begun(alloc, tables, q, part),
+    }
+}
+
+// What it answers by what is kept of it, of which the partitions are run where that was not done yet.
+fn answer_of_view<R: Threads + Sync, G: Gate>(
+    crew: &Crew<'_, '_, R, G>,
+    alloc: Global,
+    q: &BoundQuery,
+    part: &ModelPart,
+    view: KeptView,
+) -> Result<(Option<KeptView>, Answer), Memory>
+    requires model { q.now.model ≡ Some part.now }
+    requires right { AllRight part.now view }
+    ensures exact { (tables : Tables) → IsKept tables q.now part.now view → IfOk result (λ r. r.1 ≡ spec.answer_of tables q.now) }
+    ensures right { IfOk result (λ r. IfSome r.0 (AllRight part.now)) }
+{
+    let KeptView { lists, refs, parts } = view;
+    let model = Lent {
+        part,
+        lists: lists.as_slice(),
+        refs: refs.as_slice(),
+    };
+    let (parts, answer) = answer_of_parts(crew, alloc, q, &model, parts)?;
+    let view = KeptView { lists, refs, parts };
+    Ok((Some(view), answer))
+}
+
+// The same by the partitions.
+fn answer_of_parts<R: Threads + Sync, G: Gate>(
+    crew: &Crew<'_, '_, R, G>,
+    alloc: Global,
+    q: &BoundQuery,
+    m: &Lent<'_>,
+    parts: Items<KeptPart>,
+) -> Result<(Items<KeptPart>, Answer), Memory>
+    requires right { All (IsRight (model_of m.now)) parts }
+    ensures exact { IfOk result (λ r. r.1 ≡ shown_of (result_map (printing.printed_rows q.now) (gathered_rows (model_of m.now) (inputs_of parts)))) }
+    ensures right { IfOk result (λ r. All (IsRight (model_of m.now)) r.0) }
+{
+    let mut parts = settled(crew, alloc, m, parts)?;
+    match shown_parts(alloc, q, m, parts.as_mut_slice()) {
+        Ok(rows) => Ok((Items::from_vec(parts), Answer::Rows(rows))),
+        Err(Fail::Cause(fault)) => Ok((Items::from_vec(parts), Answer::Fault(fault))),
+        Err(Fail::Memory) => Err(Memory),
+    }
+}
+
+// The rows of kept partitions as they are printed, or the first fault.
+fn shown_parts(
+    alloc: Global,
+    q: &BoundQuery,
+    m: &Lent<'_>,
+    parts: &mut [KeptPart],
+) -> Result<Items<Key>, Fail<QueryFault>>
+    requires right { All (IsRight (model_of m.now)) parts.old }
+    ensures exact { Gives result (result_map (printing.printed_rows q.now) (gathered_rows (model_of m.now) (inputs_of parts.old))) }
+    ensures right { All (IsRight (model_of m.now)) parts.new }
+{
+    let gathered = gathered_parts(alloc, m, parts)?;
+    Ok(printed_rows(alloc, q, gathered.rows)?)
+}
+
+// What kept partitions make, one after another.
+fn gathered_parts(
+    alloc: Global,
+    m: &Lent<'_>,
+    parts: &mut [KeptPart],
+) -> Result<Gathered, Fail<QueryFault>>
+    requires right { All (IsRight (model_of m.now)) parts.old }
+    ensures exact { Gives result (each_in_turn (spec.partition_step (model_of m.now)) (inputs_of parts.old) (0, [])) }
+    ensures right { All (IsRight (model_of m.now)) parts.new }
+{
+    let mut gathered = Gathered::new(alloc);
+    for part in parts.iter_mut() {
+        gathered = with_part(alloc, m, part, gathered)?;
+    }
+    Ok(gathered)
+}
+
+// What a kept partition makes of what is gathered so far.
+fn with_part(
+    alloc: Global,
+    m: &Lent<'_>,
+    part: &mut KeptPart,
+    gathered: Gathered,
+) -> Result<Gathered, Fail<QueryFault>>
+    requires right { IsRight (model_of m.now) part.old }
+    ensures exact { Gives result (spec.partition_step (model_of m.now) part.old.input gathered) }
+    ensures right { IsRight (model_of m.now) part.new }
+    ensures same_input { part.new.input ≡ part.old.input }
+{
+    match made_of(alloc, m, part)? {
+        PartResult::Rows(cells) => with_cells(m, &part.input.key, gathered, cells),
+        PartResult::Fault(fault) => Err(Fail::Cause(fault)),
+    }
+}
+
+// The partitions, run by the crew where that was not done yet.
+fn settled<R: Threads + Sync, G: Gate>(
+    crew: &Crew<'_, '_, R, G>,
+    alloc: Global,
+    m: &Lent<'_>,
+    parts: Items<KeptPart>,
+) -> Result<Vec<KeptPart>, Memory>
+    requires right { All (IsRight (model_of m.now)) parts }
+    ensures right { IfOk result (λ after. All (IsRight (model_of m.now)) after.items) }
+    ensures same { IfOk result (λ after. inputs_of after.items ≡ inputs_of parts) }
+{
+    if are_settled(parts.as_slice()) {
+        return Ok(parts.into_vec());
+    }
+    let stretches = kept_stretches_of(alloc, m, parts, crew.workers)?;
+    let done = run_pieces(crew.rt, alloc, stretches, crew.workers.count(), crew.gate)?;
+    parts_of(alloc, done)
+}
+
+// Whether all partitions were run: then no piece is made.
+fn are_settled(parts: &[KeptPart]) -> bool {
+    for part in parts {
+        if is_new(&part.state) {
+            return false;
+        }
+    }
+    true
+}
+
+fn is_new(state: &PartState) -> bool {
+    match state {
+        PartState::NotKept => true,
+        _ => false,
+    }
+}
+
+// The partitions of stretches that were run, in order.
+fn parts_of(alloc: Global, done: Vec<KeptStretch<'_>>) -> Result<Vec<KeptPart>, Memory>
+    ensures { IfOk result (λ parts. parts.items ≡ parts_in done.entry.items) }
+{
+    let mut parts = Vec::new(alloc);
+    for stretch in done {
+        add_parts(stretch, &mut parts)?;
+    }
+    Ok(parts)
+}
+
+// The partitions of a stretch behind others.
+fn add_parts(stretch: KeptStretch<'_>, parts: &mut Vec<KeptPart>) -> Result<(), Memory>
+    ensures { OnOk result (parts.new.items ≡ parts.old.items ++ stretch.entry.parts.items) }
+{
+    let KeptStretch {
+        parts: mut own,
+        done,
+        ..
+    } = stretch;
+    done?;
+    parts.append(&mut own)?;
+    Ok(())
+}

@@ -1,4 +1,0 @@
-use Rattle.mq_engine.proofs.explaining.steps_of.Goals as goal
-
-pub returns : goal.returns
-returns g c = c.in_ok-steps.ensures.exact c.args.p.now.cells c.requires.values
