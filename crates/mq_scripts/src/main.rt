@@ -5,6 +5,7 @@
 
 mod gates;
 mod heads;
+mod rules;
 mod runs;
 mod shows;
 mod table;

@@ -1,7 +1,8 @@
 //! The table, line by line: a line `## name` begins a row, and the lines behind it are its script. A line that begins
 //! with one sign `#` is a comment.
 
-use crate::heads::{ask, name_of};
+use crate::heads::{ask, count, name_of};
+use crate::rules::add_by_rule;
 use crate::runs::run_script;
 use crate::shows::{add_last, add_lines, add_met, add_status, lines};
 use crate::texts::{bytes_of, joined};
@@ -100,6 +101,10 @@ fn add_answer<R: Threads + Sync>(
     if ask(table.head.as_str(), "base").is_some() {
         let copy = script.clone()?;
         keep(alloc, table.head.as_str(), copy, &mut table.bases)?;
+    }
+    if ask(table.head.as_str(), "rule").is_some() {
+        let scripts = count(table.head.as_str(), "rule", 0);
+        return add_by_rule(rt, alloc, table.text.as_str(), scripts, answer);
     }
     add_shown(rt, alloc, table, script, answer)
 }
