@@ -35,6 +35,11 @@ module _ {K : Type 0} {R : K → K → Ordering} (o : IsTotalOrder R) where
   all_front P [] zs all = tt
   all_front P (y ∷ ys) zs all = (all.0, all_front P ys zs all.1)
 
+  pub front_ascends : (ys zs : List K) → IsStrictlySortedBy R (ys ++ zs) → IsStrictlySortedBy R ys
+  unfolding IsStrictlySortedBy
+  front_ascends [] zs s = tt
+  front_ascends (y ∷ ys) zs s = (all_front (λ z. R y z ≡ Less) ys zs s.0, front_ascends ys zs s.1)
+
   less_than_all : (x y : K) (zs : List K) → R x y ≡ Less → AllByRecursion (λ z. R y z ≡ Less) zs → AllByRecursion (λ z. R x z ≡ Less) zs
   less_than_all x y [] h all = tt
   less_than_all x y (z ∷ zs) h all = (o.trans x y z h all.0, less_than_all x y zs h all.1)

@@ -24,6 +24,7 @@ pub mod SetLemmas
 pub mod SparedLemmas
 pub mod StageLemmas
 pub mod StandLemmas
+pub mod StandingLemmas
 pub mod VisitLemmas
 pub mod Walks
 pub mod WantedLemmas

@@ -1,5 +1,5 @@
 -- One of keys in strictly ascending order is taken away.
-use Rattle.std.proofs.Common.{◌≡◌, ℕ, zero, suc, ◌+◌, ◌<◌, List, [], ◌∷◌, Bool, true, false, ◌||◌, length, get_or, Less, Equal, refl, sym, ap, ◌∙◌, subst, arith}
+use Rattle.std.proofs.Common.{◌≡◌, ℕ, zero, suc, ◌<◌, List, [], ◌∷◌, Bool, true, false, ◌||◌, length, get_or, Less, Equal, refl, sym, ap, ◌∙◌, subst, arith}
 use Rattle.std.specs.Prelude.{cond}
 use Rattle.std.specs.List.{AllByRecursion, remove}
 use Rattle.std.specs.List.Sorted.{IsStrictlySortedBy}
@@ -9,7 +9,7 @@ use Rattle.mq_values.specs.Order.{cmp_key}
 use Rattle.mq_values.specs.OrderLaws.{key_total}
 use Rattle.mq_ir.specs.Keys.{Tuple, is_among, is_same}
 use Rattle.mq_tables.specs.KeyOrder.{LosesOne}
-use Rattle.mq_tables.proofs.LoseLemmas.{Losing, is_equal, losing_next, same_turned}
+use Rattle.mq_tables.proofs.LoseLemmas.{is_equal, same_turned}
 
 -- a key that is less than all others is not among them
 not_among_greater : (y : Tuple) (zs : List Tuple) → AllByRecursion (λ z. cmp_key y z ≡ Less) zs → is_among zs y ≡ false
@@ -66,15 +66,3 @@ lost_none keys key n q = by (is_same key q) refl
     by : (b : Bool) → is_same key q ≡ b → is_among keys q ≡ cond b false (is_among keys q)
     by true h = ap (is_among keys) (sym (is_equal key q h)) ∙ n
     by false h = refl
-
--- ---- several keys are taken away, one by one
-pub record Thinning (all gone : List Tuple) (i : ℕ) (now : List Tuple) : Type 0 where
-  pub losing : Losing all gone i now
-  pub ascend : IsStrictlySortedBy cmp_key now
-
-pub thinning_next : (all gone now after : List Tuple) (i : ℕ) (key : Tuple) → i < length gone → key ≡ get_or gone i key → LosesOne key now after
-    → IsStrictlySortedBy cmp_key after → Thinning all gone i now → Thinning all gone (i + 1) after
-thinning_next all gone now after i key h e l s t = record {
-  losing = losing_next all gone now after i key h e l t.losing;
-  ascend = s;
-}

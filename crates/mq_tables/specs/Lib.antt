@@ -10,6 +10,7 @@ pub mod Rows
 pub mod Seeking
 pub mod Sizes
 pub mod Staging
+pub mod Standing
 pub mod Touching
 pub mod Visits
 pub mod Wanted

@@ -1,5 +1,5 @@
 //! Keys that nobody else holds.
-ghost use Rattle.std.specs.Prelude.{◌≡◌, ◌≤◌, ◌++◌, [], true, false, not, length, IfOk, OnOk};
+ghost use Rattle.std.specs.Prelude.{◌≡◌, ◌++◌, [], true, false, not, IfOk, OnOk};
 ghost use Rattle.mq_ir.specs.Keys.{is_among};
 ghost use Rattle.mq_tables.specs.KeyOrder.{HoldsBoth, Loses, PutsTo};
 
@@ -38,13 +38,6 @@ impl OwnKeys {
         }
     }
 
-    /// How many keys there are. It decides what later calls cost, and no answer.
-    pub fn len(&self) -> usize
-        ensures { result ≤ length self.now }
-    {
-        self.last.len().saturating_add(self.behind.as_slice().len())
-    }
-
     /// Whether a key is among these. It takes no memory.
     pub fn contains(&self, key: &NumberedKey) -> bool
         ensures { result ≡ is_among self.now key.now }
@@ -68,8 +61,7 @@ impl OwnKeys {
         if self.last.contains(key) {
             return Ok(false);
         }
-        if self.behind.is_below(key) {
-            self.behind.push(key.copy()?)?;
+        if self.behind.push(key)? {
             return Ok(true);
         }
         if self.behind.contains(key) {
@@ -83,10 +75,9 @@ impl OwnKeys {
     pub fn join(&mut self, alloc: Global, others: OwnKeys) -> Result<(), Memory>
         ensures { OnOk result (HoldsBoth others self.old self.new) }
     {
-        let (mut last, behind) = others.into_parts();
+        let (mut last, mut behind) = others.into_parts();
         self.last.append(&mut last)?;
-        if self.behind.is_before(&behind) {
-            self.behind.append(behind)?;
+        if self.behind.append(&mut behind)? {
             return Ok(());
         }
         self.last.append(&mut behind.to_set(alloc)?)?;
