@@ -1,6 +1,7 @@
 -- The places of assignments, and which of them an assignment looks at.
-use Rattle.std.proofs.Common.{◌≡◌, ℕ, zero, suc, ◌+◌, ◌<◌, Bool, true, false, cond, List, [], ◌∷◌, ◌++◌, drop, length, get_or, map, Option, Some, None, slice_get, refl, sym, ap, subst, arith, ◌∙◌, eqb}
+use Rattle.std.proofs.Common.{◌≡◌, ℕ, zero, suc, ◌+◌, ◌<◌, Bool, true, false, ◌&&◌, ◌==◌, cond, List, [], ◌∷◌, ◌++◌, drop, length, get_or, map, Option, Some, None, slice_get, refl, sym, ap, subst, arith, ◌∙◌, eqb}
 use Rattle.std.specs.Prelude.{slice_index_or}
+use Rattle.std.specs.Cmp.{eq_by_cmp_equiv, nat_eq_equiv}
 use Rattle.std.specs.List.{All, cons_option, filter_map, find, position_from}
 use Rattle.std.specs.Ordering.{is_eq}
 use Rattle.std.specs.declared.cmp.Ordering.{Ordering}
@@ -8,6 +9,7 @@ use Rattle.std.specs.declared.cmp.Ordering.TheVariants.{Less, Equal, Greater}
 use Rattle.std.proofs.lemmas.Bool.{and_parts, eqb-true}
 use Rattle.std.proofs.lemmas.List.Elements.{All-cons, All-head, All-nil, All-tail}
 use Rattle.mq_values.specs.Order.{cmp_key}
+use Rattle.mq_values.specs.OrderLaws.{key_total}
 use Rattle.mq_values.specs.OrderTells.{same_key}
 use Rattle.mq_ir.specs.declared.query.CellName.{CellName}
 use Rattle.mq_ir.specs.declared.query.Look.{Look}
@@ -20,7 +22,6 @@ use Rattle.mq_ir.specs.Unfolding.{Model}
 use Rattle.mq_levels.specs.Levels.{ReadsNodes}
 use Rattle.mq_auto_shape.specs.Numbers.{NumberDiffers, Numbered, number_at}
 use Rattle.mq_auto_shape.specs.Edges.{PlacesAre, looks_by, number_looked, place_looked, reads_of}
-use Rattle.mq_auto_shape.proofs.NodeLemmas.{turned}
 use Rattle.mq_ir.specs.StepLaws.{next_item}
 use Rattle.mq_auto_shape.proofs.StepLemmas.{item_before}
 
@@ -89,13 +90,16 @@ missed test i (x ∷ xs) h = by (test x) h (λ g. missed test (i + 1) xs g)
     by false g rest = rest g
 
 -- ---- numbers that are places
+both_ways : (x y : Tuple × ℕ) → (is_same x.0 y.0 && (x.1 == y.1)) ≡ (is_same y.0 x.0 && (y.1 == x.1))
+both_ways x y = λ i. (eq_by_cmp_equiv key_total).symm x.0 y.0 i && nat_eq_equiv.symm x.1 y.1 i
+
 pub places_next : (before after : Numbered) (assigned : List Assignment) (n at : ℕ) (x : Assignment) → n + 1 ≡ at → n < length assigned → x ≡ get_or assigned n x
     → ((key : Tuple) (m : ℕ) → number_at before key m ≡ position_from (assigns m key) at (drop at assigned))
     → NumberDiffers before after x.0 x.1 (Some n)
     → (key : Tuple) (m : ℕ) → number_at after key m ≡ position_from (assigns m key) n (drop n assigned)
 places_next before after assigned n at x e lt is h g key m =
     g key m
-    ∙ (λ i. cond (turned (x.0, x.1) (key, m) i) (Some n) (h key m i))
+    ∙ (λ i. cond (both_ways (x.0, x.1) (key, m) i) (Some n) (h key m i))
     ∙ ap (λ k. cond (assigns m key x) (Some n) (position_from (assigns m key) k (drop at assigned))) (sym e)
     ∙ sym (ap (position_from (assigns m key) n) (item_before assigned n at x e lt is))
 

@@ -168,9 +168,8 @@ module _ (m number : ℕ) where
       ap (λ b. (b && (m == m)) || list_any (assigns m key) (map (assigned_by m number) xs)) both.0 ∙ any_made key xs both.1
 
   -- a measure that is new is not assigned once later ones are
-  pub node_lacking : (keys : List Tuple) (nodes now : List Assignment) (n at : ℕ) (x : Tuple) → n + 1 ≡ at → n < length keys → x ≡ get_or keys n x
-      → Fresh (λ key. list_any (assigns m key) nodes) keys → now ≡ placed_all cmp_assignment (map (assigned_by m number) (drop at keys)) nodes → list_any (assigns m x) now ≡ false
-  node_lacking keys nodes now n at x e lt is f h =
-      let fresh = fresh_at (λ key. list_any (assigns m key) nodes) keys n at x e lt is f in
-      ap (λ (l : List Assignment). list_any (assigns m x) l) h ∙ any_placed_all (assigns m x) (map (assigned_by m number) (drop at keys)) nodes
-      ∙ (λ i. any_made x (drop at keys) fresh.once i || fresh.lacking i)
+  pub node_lacking : (x : Tuple) (rest : List Tuple) (nodes now : List Assignment) → IsFresh (λ key. list_any (assigns m key) nodes) x rest
+      → now ≡ placed_all cmp_assignment (map (assigned_by m number) rest) nodes → list_any (assigns m x) now ≡ false
+  node_lacking x rest nodes now fresh h =
+      ap (λ (l : List Assignment). list_any (assigns m x) l) h ∙ any_placed_all (assigns m x) (map (assigned_by m number) rest) nodes
+      ∙ (λ i. any_made x rest fresh.once i || fresh.lacking i)

@@ -1,5 +1,5 @@
 -- Cells and assignments that come one by one, from the last to the first.
-use Rattle.std.proofs.Common.{◌≡◌, ℕ, ◌+◌, ◌<◌, ◌≤◌, Bool, true, false, ◌||◌, List, [], ◌∷◌, ◌++◌, drop, length, get_or, map, Option, Some, slice_get, if◌then◌else◌, Ordering, Less, Equal, Greater, refl, sym, ap, ◌∙◌}
+use Rattle.std.proofs.Common.{◌≡◌, ℕ, ◌+◌, ◌<◌, ◌≤◌, Bool, true, false, ◌||◌, List, [], ◌∷◌, ◌++◌, drop, length, get_or, Option, Some, slice_get, if◌then◌else◌, Ordering, Less, Equal, Greater, refl, sym, ap, ◌∙◌}
 use Rattle.std.specs.List.{AllByRecursion}
 use Rattle.std.specs.List.Sorted.{IsStrictlySortedBy}
 use Rattle.std.specs.Ordering.{is_eq, is_gt, match_ordering}
@@ -7,9 +7,9 @@ use Rattle.std.proofs.lemmas.List.{drop_all}
 use Rattle.mq_values.specs.Order.{cmp_key}
 use Rattle.mq_ir.specs.Keys.{Tuple}
 use Rattle.mq_ir.specs.Partitions.{ascending, placed}
-use Rattle.mq_ir.specs.Shape.{Assignment, cmp_assignment, least_of}
+use Rattle.mq_ir.specs.Shape.{least_of}
 use Rattle.mq_dim_index.specs.Places.{is_there, with_key}
-use Rattle.mq_auto_shape.specs.Walk.{assigned_by, placed_all, sooner_of}
+use Rattle.mq_auto_shape.specs.Walk.{sooner_of}
 use Rattle.mq_auto_shape.proofs.StepLemmas.{item_before}
 
 -- ---- the least
@@ -55,15 +55,3 @@ pub cells_next : (keys set now after : List Tuple) (n at : ℕ) (x : Tuple) → 
     → now ≡ ascending cmp_key (drop at keys ++ set) → after ≡ placed cmp_key x now → after ≡ ascending cmp_key (drop n keys ++ set)
 cells_next keys set now after n at x e lt is h a =
     a ∙ ap (placed cmp_key x) h ∙ sym (ap (λ l. ascending cmp_key (l ++ set)) (item_before keys n at x e lt is))
-
--- ---- assignments
-module _ (m number : ℕ) where
-  pub nodes_start : (keys : List Tuple) (nodes : List Assignment) (n : ℕ) → length keys ≤ n → nodes ≡ placed_all cmp_assignment (map (assigned_by m number) (drop n keys)) nodes
-  nodes_start keys nodes n h = sym (ap (λ l. placed_all cmp_assignment (map (assigned_by m number) l) nodes) (drop_all n keys h))
-
-  pub nodes_next : (keys : List Tuple) (nodes now after : List Assignment) (n at : ℕ) (x : Tuple) → n + 1 ≡ at → n < length keys → x ≡ get_or keys n x
-      → now ≡ placed_all cmp_assignment (map (assigned_by m number) (drop at keys)) nodes → after ≡ placed cmp_assignment (assigned_by m number x) now
-      → after ≡ placed_all cmp_assignment (map (assigned_by m number) (drop n keys)) nodes
-  nodes_next keys nodes now after n at x e lt is h a =
-      a ∙ ap (placed cmp_assignment (assigned_by m number x)) h
-      ∙ sym (ap (λ l. placed_all cmp_assignment (map (assigned_by m number) l) nodes) (item_before keys n at x e lt is))

@@ -1,8 +1,8 @@
 -- The walk over the rules, where what is assigned is kept in its order.
-use Rattle.std.specs.Prelude.{◌≡◌, ℕ, Bool, false, List, [], ◌∷◌, ◌++◌, map, Option, Some, None, Result, Ok, Err, nat_lt, if◌then◌else◌}
-use Rattle.std.specs.List.{enumerate_from, list_any}
+use Rattle.std.specs.Prelude.{◌≡◌, ◌≤◌, ℕ, Bool, true, false, List, [], ◌∷◌, ◌++◌, length, map, Option, Some, None, Result, Ok, Err, IfOk, IfErr, nat_lt, if◌then◌else◌}
+use Rattle.std.specs.List.{AllByRecursion, enumerate_from, insert, list_any}
 use Rattle.std.specs.Option.{option_map, option_map_or, option_or}
-use Rattle.std.specs.Ordering.{is_gt, nat_cmp, ordering_then}
+use Rattle.std.specs.Ordering.{is_gt, is_lt, nat_cmp, ordering_then}
 use Rattle.std.specs.declared.cmp.Ordering.{Ordering}
 use Rattle.mq_values.specs.declared.faults.FaultKind.TheVariants as kind
 use Rattle.mq_values.specs.declared.limits.TheConstants.{MAX_CELLS_OF_PARTITION}
@@ -53,16 +53,25 @@ sooner_of cmp x (Some y) = if is_gt (cmp x y) then y else x
 abbrev pub assigned_by : ℕ → ℕ → Tuple → Assignment
 assigned_by m number key = (key, m, number)
 
--- a measure of a cell, and the order of such
-abbrev pub Node : Type 0
-Node = Tuple × ℕ
+-- assigned measures by cell, then measure
+abbrev pub cmp_measure : Assignment → Assignment → Ordering
+cmp_measure a b = ordering_then (cmp_key a.0 b.0) (nat_cmp a.1 b.1)
 
-abbrev pub cmp_node : Node → Node → Ordering
-cmp_node x y = ordering_then (cmp_key x.0 y.0) (nat_cmp x.1 y.1)
+-- nodes before this one
+abbrev pub AreBefore : Assignment → List Assignment → Type 0
+AreBefore x ys = AllByRecursion (λ y. is_lt (cmp_measure y x) ≡ true) ys
 
--- a node with a number, as an assignment
-abbrev pub node_in : Node × ℕ → Assignment
-node_in e = (e.0.0, e.0.1, e.1)
+-- nodes of which the first is not before this one, or there is none
+abbrev pub IsNotBefore : Assignment → List Assignment → Type 0
+IsNotBefore x [] = Unit {0}
+IsNotBefore x (y ∷ ys) = is_lt (cmp_measure y x) ≡ false
+
+-- what a search among nodes says of a measure: it is there, or it is not, and would be put at this place
+pub record Searched (key : Tuple) (m : ℕ) (nodes : List Assignment) (at : Result ℕ ℕ) : Type 0 where
+  pub found : IfOk at (λ place. list_any (assigns m key) nodes ≡ true)
+  pub within : IfErr at (λ place. place ≤ length nodes)
+  pub absent : IfErr at (λ place. list_any (assigns m key) nodes ≡ false)
+  pub put : (number : ℕ) → IfErr at (λ place. insert nodes place (key, m, number) ≡ placed cmp_assignment (key, m, number) nodes)
 
 -- why a single left side may not assign its targets: one is assigned again, or there are too many cells
 abbrev pub fault_in : ℕ → Option Tuple → ℕ → Option Placed

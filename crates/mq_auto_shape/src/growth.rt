@@ -12,7 +12,7 @@ ghost use Rattle.mq_auto_shape.specs.Walk.{AreUnassigned, Fresh, assigned_by, pl
 
 use crate::least::least;
 use crate::mapping::map_tested;
-use crate::nodes::NodeMap;
+use crate::nodes::NodeList;
 use mq_dim_index::DimIndex;
 use mq_ir::{Model as Lent, PartShape, SingleLeft};
 use mq_targets::{Targets, targets};
@@ -25,7 +25,7 @@ use std::marker::Model;
 #[derive(Drop)]
 pub struct Growth {
     index: DimIndex,
-    assigned: NodeMap,
+    assigned: NodeList,
 }
 
 impl Model for Growth {
@@ -44,7 +44,7 @@ impl Growth {
     {
         Ok(Growth {
             index: DimIndex::new(alloc, keys)?,
-            assigned: NodeMap::new(alloc),
+            assigned: NodeList::new(alloc),
         })
     }
 
@@ -97,16 +97,22 @@ impl Growth {
     }
 
     /// The same, with measure `m` of these cells, of which none is assigned yet, assigned by the rule of this number.
-    pub fn with_assigned(self, m: u32, number: u32, found: &[Key]) -> Result<Growth, Memory>
-        requires { AreUnassigned m self.assigned found.now }
+    pub fn with_assigned(
+        self,
+        alloc: Global,
+        m: u32,
+        number: u32,
+        found: Items<Key>,
+    ) -> Result<Growth, Memory>
+        requires { AreUnassigned m self.assigned found }
         ensures set { IfOk result (λ g. g.set ≡ self.set) }
         ensures assigned { IfOk result (λ g. g.assigned
-            ≡ placed_all cmp_assignment (map (assigned_by m number) found.now) self.assigned) }
+            ≡ placed_all cmp_assignment (map (assigned_by m number) found) self.assigned) }
     {
         let Growth { index, assigned } = self;
         Ok(Growth {
             index,
-            assigned: with_nodes(assigned, m, number, found)?,
+            assigned: assigned.with_all(alloc, m, number, found)?,
         })
     }
 
@@ -129,19 +135,19 @@ impl Growth {
         let shape = PartShape {
             base: copies(alloc, base)?,
             cells: copies(alloc, index.keys())?,
-            assigned: assigned.list(alloc)?,
+            assigned: assigned.into_items(),
         };
         Ok((shape, index))
     }
 }
 
 // Those of which measure `m` is assigned already.
-fn already(alloc: Global, assigned: &NodeMap, m: u32, found: &[Key]) -> Result<Vec<Key>, Memory>
+fn already(alloc: Global, assigned: &NodeList, m: u32, found: &[Key]) -> Result<Vec<Key>, Memory>
     ensures { IfOk result (λ again. again.items ≡ filter (λ key. list_any (assigns m key) assigned.now) found.now) }
 {
     let mut again = Vec::new(alloc);
     for key in found {
-        if assigned.has(key, m)? {
+        if assigned.has(key, m) {
             again.push(key.copy()?)?;
         }
     }
@@ -162,20 +168,6 @@ fn with_keys(index: DimIndex, keys: &[Key]) -> Result<DimIndex, Memory>
         index.insert(keys[at].copy()?)?;
     }
     Ok(index)
-}
-
-// The assignments with these too, of which none is there yet, from the last to the first.
-fn with_nodes(nodes: NodeMap, m: u32, number: u32, keys: &[Key]) -> Result<NodeMap, Memory>
-    requires { AreUnassigned m nodes keys.now }
-    ensures { IfOk result (λ it. it ≡ placed_all cmp_assignment (map (assigned_by m number) keys.now) nodes) }
-{
-    let mut nodes = nodes;
-    let mut at = keys.len();
-    'placing: while at > 0 {
-        at -= 1;
-        nodes.put(keys[at].copy()?, m, number)?;
-    }
-    Ok(nodes)
 }
 
 // These keys once more.

@@ -46,7 +46,7 @@ fn grow_one(
     match fault_of(number, again, there.len()) {
         Some(fault) => Err(Fail::Cause(fault)),
         None => {
-            let grown = there.with_assigned(rule.measure, number, found.cells.as_slice())?;
+            let grown = there.with_assigned(alloc, rule.measure, number, found.cells)?;
             Ok(grown)
         }
     }

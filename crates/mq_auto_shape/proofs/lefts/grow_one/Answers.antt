@@ -29,8 +29,8 @@ with_assigned-requires c =
     none_again c.args.number c.in_ok-again.again _ (sym c.in-None.is ∙ c.fault_of.ensures) in
     let passes : filter had cells ≡ [] =
     least_none cmp_key (filter had cells) (none ∙ c.in_ok-again.ensures ∙ ap (λ (l : List Tuple). least_of cmp_key (filter had l)) (c.as_slice.ensures ∙ c.in_ok-found.ensures.cells)) in
-    subst (λ (nodes : List Assignment). AreUnassigned m nodes c.as_slice-in-None.result.now) (sym c.in_ok-there.ensures.assigned)
-    (subst (AreUnassigned m before) (sym (c.as_slice-in-None.ensures ∙ c.in_ok-found.ensures.cells))
+    subst (λ (nodes : List Assignment). AreUnassigned m nodes c.in_ok-found.found.cells) (sym c.in_ok-there.ensures.assigned)
+    (subst (AreUnassigned m before) (sym c.in_ok-found.ensures.cells)
     (targets_fresh left set c.targets.ensures.ascend mode had passes))
 
 pub returns-in-Some : goal.returns-in-Some
@@ -39,11 +39,11 @@ returns-in-Some c =
     (c.as_slice.ensures ∙ c.in_ok-found.ensures.cells) (c.as_slice-2.ensures ∙ c.in_ok-found.ensures.created) c.in_ok-again.ensures c.in_ok-there.ensures.set c.in-Some.fault
     (sym c.in-Some.is ∙ c.fault_of.ensures ∙ ap (fault_in c.args.number c.in_ok-again.again) c.len.ensures)
 
-pub returns : goal.returns
-returns c =
+pub returns-in_ok-grown-in-None : goal.returns-in_ok-grown-in-None
+returns-in_ok-grown-in-None c =
     left_passes c.args.number c.args.rule.now c.args.left.now c.args.growth c.as_slice.result.now c.as_slice-2.result.now c.in_ok-again.again c.in_ok-there.there
     (c.as_slice.ensures ∙ c.in_ok-found.ensures.cells) (c.as_slice-2.ensures ∙ c.in_ok-found.ensures.created) c.in_ok-again.ensures c.in_ok-there.ensures.set c.in_ok-grown-in-None.grown
     (sym c.in-None.is ∙ c.fault_of.ensures ∙ ap (fault_in c.args.number c.in_ok-again.again) c.len.ensures) c.in_ok-grown-in-None.ensures.set
     (c.in_ok-grown-in-None.ensures.assigned
-    ∙ ap (λ (l : List Tuple). placed_all cmp_assignment (map (assigned_by c.args.rule.now.measure c.args.number) l) c.in_ok-there.there.assigned) (c.as_slice-in-None.ensures ∙ sym c.as_slice.ensures))
+    ∙ ap (λ (l : List Tuple). placed_all cmp_assignment (map (assigned_by c.args.rule.now.measure c.args.number) l) c.in_ok-there.there.assigned) (sym c.as_slice.ensures))
     c.in_ok-there.ensures.assigned
