@@ -1,6 +1,7 @@
 pub mod FoldLemmas
 pub mod KeyLemmas
 pub mod ListLemmas
+pub mod NearLemmas
 pub mod LookLaws
 pub mod PartLemmas
 pub mod PlainLemmas

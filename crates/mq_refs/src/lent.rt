@@ -131,8 +131,8 @@ fn with_run_lent(
     Ok(aggregation)
 }
 
-// The aggregate with a value taken that is lent, or null.
-fn with_lent(aggregation: Aggregation, lent: Option<&Value>) -> Result<Aggregation, Memory>
+/// The aggregate with a value taken that is lent, or null.
+pub fn with_lent(aggregation: Aggregation, lent: Option<&Value>) -> Result<Aggregation, Memory>
     ensures { (values : List OneValue) → IfOk result (λ a. comes_to a values
         ≡ comes_to aggregation (unwrap_or (option_copied lent.entry) Null ∷ values)) }
 {

@@ -240,8 +240,7 @@ fn with_run<K: CellKeys, W: Worths>(
     let mut aggregation = aggregation;
     for place in run.first..run.past {
         let key = keys.key_at(place).as_slice();
-        let v = worths.value_at(place, key, measure)?;
-        aggregation = aggregation.with(&v)?;
+        aggregation = worths.take_at(aggregation, place, key, measure)?;
     }
     Ok(aggregation)
 }

@@ -17,15 +17,12 @@ loop-place-preserved g c =
     let value : ℕ → Value = λ p. now (cell_name (slice_index_or set p []) c.args.measure) in
     let rest : List Value = map value (range_with_len (place + 1) (past - (place + 1))) in
     let key : c.as_slice-key.result.now ≡ slice_index_or set place [] = c.as_slice-key.ensures ∙ c.key_at.ensures [] in
-    let read : c.in_ok-v.v ≡ value place =
-    c.in_ok-v.ensures.exact
-    ∙ ap (λ (w : Measures). w (cell_name c.as_slice-key.result.now c.args.measure)) c.loop-place.invariant.same
-    ∙ ap (λ (k : Tuple). now (cell_name k c.args.measure)) key in
     record {
-      same = c.value_at.ensures.same ∙ c.loop-place.invariant.same;
+      same = c.take_at.ensures.same ∙ c.loop-place.invariant.same;
       taken = λ values.
-          c.in_ok-aggregation.ensures (rest ++ values)
-          ∙ ap (λ (v : Value). comes_to c.loop-place.aggregation (v ∷ (rest ++ values))) read
+          c.in_ok-aggregation.ensures.taken (rest ++ values)
+          ∙ ap (λ (w : Measures). comes_to c.loop-place.aggregation (w (cell_name c.as_slice-key.result.now c.args.measure) ∷ (rest ++ values))) c.loop-place.invariant.same
+          ∙ ap (λ (k : Tuple). comes_to c.loop-place.aggregation (now (cell_name k c.args.measure) ∷ (rest ++ values))) key
           ∙ ap (comes_to c.loop-place.aggregation) (sym (next_place_values value place past values (omega arith)))
           ∙ c.loop-place.invariant.taken values;
     }
