@@ -17,12 +17,13 @@ use Rattle.mq_cells.specs.Stores.{is_named}
 use Rattle.mq_change_laws.specs.ChangeLaws.{SameLooksAreOne}
 use Rattle.mq_auto.specs.Walks.{AreOwn}
 use Rattle.mq_auto_shape.specs.Edges.{looks_by}
-use Rattle.mq_delta_cells.specs.Nodes.{Nodes, Numbers, is_in, number_in}
 use Rattle.mq_delta_cells.specs.Readers.{HasMarked, HasReadersOf, Readers, is_due, is_looked_at, may_look}
 use Rattle.mq_delta_cells.specs.Seeds.{is_moved, is_told_outside, outside_by}
-use Rattle.mq_delta_cells.specs.Walks.{Ground, IsDue, ground_for, is_known_in}
+use Rattle.mq_delta_cells.specs.Tables.{NumbersBy, Table, no_numbers, number_by}
+use Rattle.mq_delta_cells.specs.Walks.{Ground, IsDue, ground_for, is_changed, is_known_in}
 use Rattle.mq_delta_cells.proofs.NodeLemmas.{named_itself, named_same}
 use Rattle.mq_delta_cells.proofs.StepLemmas.{at_place}
+use Rattle.mq_delta_cells.proofs.TableLemmas.{none_in}
 use Rattle.mq_delta_cells.proofs.TargetLemmas.{target_same}
 
 or_false : (a : Bool) → (a || false) ≡ a
@@ -48,25 +49,24 @@ mapped_at f [] k x h = cc
 mapped_at f (y ∷ ys) zero x h = let e : y ≡ x = cc in ap f e
 mapped_at f (y ∷ ys) (suc k) x h = mapped_at f ys k x h
 
-not_read : (readers : Option Readers) (c : CellName) (place : ℕ) (looks : List (List Look)) → HasReadersOf looks readers → may_look readers c place ≡ false
-    → is_looked_at (slice_index_or looks place []) c ≡ false
-not_read readers c place looks has h = by (is_looked_at (slice_index_or looks place []) c) refl
+not_read : (keys : List Tuple) (readers : Option Readers) (c : CellName) (place : ℕ) (looks : List (List Look)) → HasReadersOf keys looks readers
+    → may_look keys readers c place ≡ false → is_looked_at (slice_index_or looks place []) c ≡ false
+not_read keys readers c place looks has h = by (is_looked_at (slice_index_or looks place []) c) refl
   where
     by : (b : Bool) → is_looked_at (slice_index_or looks place []) c ≡ b → b ≡ false
     by true e = let k : true ≡ false = sym (has c place e) ∙ h in cc
     by false e = refl
 
 -- one more measure changed, and its readers are due
-pub due_next : (g : Ground) (readers : Option Readers) (looks : List (List Look)) → HasReadersOf looks readers → looks ≡ map (looks_by g.model g.shape) g.shape.assigned
-    → (changed next : Nodes) (name : CellName) (number : ℕ) (before after : List Bool) → Numbers changed next name number
-    → HasMarked readers name before after → IsDue g changed before → IsDue g next after
-due_next g readers looks has are changed next name number before after put marked due place a at h =
+pub due_next : (g : Ground) (keys : List Tuple) (readers : Option Readers) → HasReadersOf keys (map (looks_by g.model g.shape) g.shape.assigned) readers
+    → (changed next : Table) (name : CellName) (number : ℕ) (before after : List Bool) → NumbersBy g.shape.cells changed next name number
+    → HasMarked keys readers name before after → IsDue g changed before → IsDue g next after
+due_next g keys readers has changed next name number before after put marked due place a at h =
     let m = marked place h in
     let was = or_parts (g.told (node_of a)) (list_any (is_known_in g changed) (looks_by g.model g.shape a)) (due place a at m.0) in
-    let its : slice_index_or looks place [] ≡ looks_by g.model g.shape a =
-    ap (λ (l : List (List Look)). slice_index_or l place []) are ∙ mapped_at (looks_by g.model g.shape) g.shape.assigned place a at in
     let unread : is_looked_at (looks_by g.model g.shape a) name ≡ false =
-    ap (λ (xs : List Look). is_looked_at xs name) (sym its) ∙ not_read readers name place looks has m.1 in
+    ap (λ (xs : List Look). is_looked_at xs name) (sym (mapped_at (looks_by g.model g.shape) g.shape.assigned place a at))
+    ∙ not_read keys readers name place (map (looks_by g.model g.shape) g.shape.assigned) has m.1 in
     ap (λ b. g.told (node_of a) || b) (any_looked (is_known_in g next) (is_known_in g changed) (λ key. refl) (looks_by g.model g.shape a) (λ c l. same c l unread))
     ∙ ap (λ b. b || list_any (is_known_in g changed) (looks_by g.model g.shape a)) was.0 ∙ was.1
   where
@@ -74,25 +74,25 @@ due_next g readers looks has are changed next name number before after put marke
         → is_known_in g next (Measure c) ≡ is_known_in g changed (Measure c)
     same c l unread = ap (λ b. b || g.outside (Measure c)) (by (is_named name c) refl)
       where
-        by : (b : Bool) → is_named name c ≡ b → is_in next c ≡ is_in changed c
+        by : (b : Bool) → is_named name c ≡ b → is_changed g next c ≡ is_changed g changed c
         by true e =
             let one : name ≡ c = named_same name c e in
             absurd (let k : true ≡ false = sym l ∙ ap (is_looked_at (looks_by g.model g.shape a)) (sym one) ∙ unread in cc)
-        by false e = ap is_some (put c ∙ ap (λ b. if b then Some number else number_in changed c) e)
+        by false e = ap is_some (put c ∙ ap (λ b. if b then Some number else number_by g.shape.cells changed c) e)
 
 -- ---- at first
-pub moved_next : (readers : Option Readers) (moved : List CellName) (i : ℕ) (name : CellName) (before after : List Bool) → i < length moved → name ≡ get_or moved i name
-    → HasMarked readers name before after
-    → ((place : ℕ) → is_due before place ≡ false → (c : CellName) → is_moved (take i moved) c ≡ true → may_look readers c place ≡ false)
-    → (place : ℕ) → is_due after place ≡ false → (c : CellName) → is_moved (take (i + 1) moved) c ≡ true → may_look readers c place ≡ false
-moved_next readers moved i name before after l at marked so place h c m =
+pub moved_next : (keys : List Tuple) (readers : Option Readers) (moved : List CellName) (i : ℕ) (name : CellName) (before after : List Bool) → i < length moved → name ≡ get_or moved i name
+    → HasMarked keys readers name before after
+    → ((place : ℕ) → is_due before place ≡ false → (c : CellName) → is_moved (take i moved) c ≡ true → may_look keys readers c place ≡ false)
+    → (place : ℕ) → is_due after place ≡ false → (c : CellName) → is_moved (take (i + 1) moved) c ≡ true → may_look keys readers c place ≡ false
+moved_next keys readers moved i name before after l at marked so place h c m =
     let both = marked place h in
     let parted : is_moved (take (i + 1) moved) c ≡ (is_moved (take i moved) c || (is_named c name || false)) =
     ap (λ (xs : List CellName). is_moved xs c) (take_more moved i name l ∙ ap (λ (d : CellName). take i moved ++ d ∷ []) (sym at))
     ∙ any_append (λ d. is_named c d) (take i moved) (name ∷ []) in
     elim (or_cases (is_moved (take i moved) c) (is_named c name || false) (sym parted ∙ m)) [
       | inl a ↦ so place both.0 c a
-      | inr b ↦ ap (λ (d : CellName). may_look readers d place) (named_same c name (sym (or_false (is_named c name)) ∙ b)) ∙ both.1
+      | inr b ↦ ap (λ (d : CellName). may_look keys readers d place) (named_same c name (sym (or_false (is_named c name)) ∙ b)) ∙ both.1
     ]
   where
     any_append : {A : Type 0} (p : A → Bool) (xs ys : List A) → list_any p (xs ++ ys) ≡ (list_any p xs || list_any p ys)
@@ -103,13 +103,13 @@ moved_next readers moved i name before after l at marked so place h c m =
         grouped true b c = refl
         grouped false b c = refl
 
-pub moved_all : (readers : Option Readers) (moved : List CellName) (i : ℕ) (due : List Bool) → length moved ≤ i
-    → ((place : ℕ) → is_due due place ≡ false → (c : CellName) → is_moved (take i moved) c ≡ true → may_look readers c place ≡ false)
-    → (place : ℕ) → is_due due place ≡ false → (c : CellName) → is_moved moved c ≡ true → may_look readers c place ≡ false
-moved_all readers moved i due l so place h c m = so place h c (ap (λ (xs : List CellName). is_moved xs c) (take_all i moved l) ∙ m)
+pub moved_all : (keys : List Tuple) (readers : Option Readers) (moved : List CellName) (i : ℕ) (due : List Bool) → length moved ≤ i
+    → ((place : ℕ) → is_due due place ≡ false → (c : CellName) → is_moved (take i moved) c ≡ true → may_look keys readers c place ≡ false)
+    → (place : ℕ) → is_due due place ≡ false → (c : CellName) → is_moved moved c ≡ true → may_look keys readers c place ≡ false
+moved_all keys readers moved i due l so place h c m = so place h c (ap (λ (xs : List CellName). is_moved xs c) (take_all i moved l) ∙ m)
 
-module _ (model : Model) (old new : PartShape) (moved : List CellName) (readers : Option Readers) (looks : List (List Look)) (own : AreOwn new)
-    (has : HasReadersOf looks readers) (are : looks ≡ map (looks_by model new) new.assigned) (law : (xs ys : List Look) → SameLooksAreOne xs ys) (same : old ≡ new) where
+module _ (model : Model) (old new : PartShape) (moved : List CellName) (keys : List Tuple) (readers : Option Readers) (own : AreOwn new)
+    (has : HasReadersOf keys (map (looks_by model new) new.assigned) readers) (law : (xs ys : List Look) → SameLooksAreOne xs ys) (same : old ≡ new) where
   -- of one shape a look that did not move begins nothing
   outside_none : (c : CellName) → is_moved moved c ≡ false → is_told_outside old new moved (Measure c) ≡ false
   outside_none c h =
@@ -132,20 +132,19 @@ module _ (model : Model) (old new : PartShape) (moved : List CellName) (readers 
       by true = refl
       by false = refl
 
-  pub first_due : (due : List Bool) → ((place : ℕ) → is_due due place ≡ false → (c : CellName) → is_moved moved c ≡ true → may_look readers c place ≡ false)
-      → IsDue (ground_for model old new moved) [] due
+  pub first_due : (due : List Bool) → ((place : ℕ) → is_due due place ≡ false → (c : CellName) → is_moved moved c ≡ true → may_look keys readers c place ≡ false)
+      → IsDue (ground_for model old new moved) no_numbers due
   first_due due so place a at h =
       let g = ground_for model old new moved in
       let mine = at_place (λ (b : Assignment). find (assigns b.1 b.0) new.assigned ≡ Some b) new.assigned place a at own in
-      let its : slice_index_or looks place [] ≡ looks_by model new a =
-      ap (λ (l : List (List Look)). slice_index_or l place []) are ∙ mapped_at (looks_by model new) new.assigned place a at in
-      let none : list_any (is_known_in g []) (looks_by model new a) ≡ false =
-      any_looked (is_known_in g []) (λ u. false) presence_none (looks_by model new a)
-      (λ c l. outside_none c (unmoved c (ap (λ (xs : List Look). is_looked_at xs c) its ∙ l)))
+      let its : slice_index_or (map (looks_by model new) new.assigned) place [] ≡ looks_by model new a = mapped_at (looks_by model new) new.assigned place a at in
+      let none : list_any (is_known_in g no_numbers) (looks_by model new a) ≡ false =
+      any_looked (is_known_in g no_numbers) (λ u. false) presence_none (looks_by model new a)
+      (λ c l. ap (λ b. b || g.outside (Measure c)) (none_in new.cells c) ∙ outside_none c (unmoved c (ap (λ (xs : List Look). is_looked_at xs c) its ∙ l)))
       ∙ none_any (looks_by model new a) in
-      ap (λ b. b || list_any (is_known_in g []) (looks_by model new a)) (sym (target_same model old new moved a mine law same)) ∙ none
+      ap (λ b. b || list_any (is_known_in g no_numbers) (looks_by model new a)) (sym (target_same model old new moved a mine law same)) ∙ none
     where
-      unmoved : (c : CellName) → is_looked_at (slice_index_or looks place []) c ≡ true → is_moved moved c ≡ false
+      unmoved : (c : CellName) → is_looked_at (slice_index_or (map (looks_by model new) new.assigned) place []) c ≡ true → is_moved moved c ≡ false
       unmoved c l = by (is_moved moved c) refl
         where
           by : (b : Bool) → is_moved moved c ≡ b → b ≡ false

@@ -5,7 +5,7 @@ use Rattle.std.specs.BTreeMap.{is_at}
 use Rattle.std.specs.BTreeSet.{insert_key}
 use Rattle.std.specs.List.{find, list_any, position_from}
 use Rattle.std.specs.List.Sorted.{IsStrictlySortedBy}
-use Rattle.std.specs.Option.{option_map, option_map_or}
+use Rattle.std.specs.Option.{option_map}
 use Rattle.std.proofs.lemmas.Bool.{eqb-true}
 use Rattle.std.proofs.lemmas.Iterator.Adapters.{position_from-zero}
 use Rattle.std.proofs.lemmas.List.{drop_all}
@@ -18,13 +18,12 @@ use Rattle.mq_ir.specs.Affected.{is_in_one}
 use Rattle.mq_ir.specs.Keys.{Tuple, is_among, is_same}
 use Rattle.mq_ir.specs.Shape.{Assignment, assigns}
 use Rattle.mq_dim_index.specs.Places.{place_of, with_key}
-use Rattle.mq_cells.specs.LaneItems.{lane_item}
 use Rattle.mq_cells.specs.Stores.{Results, cell_name, is_named, name_assigned}
 use Rattle.mq_change_laws.specs.SoundLaws.{same_is}
-use Rattle.mq_delta_cells.specs.Nodes.{Nodes, Numbers, is_in, number_in}
-use Rattle.mq_delta_cells.specs.Tables.{NumbersBy, Table, number_by}
+use Rattle.mq_delta_cells.specs.Tables.{NumbersBy, Table, is_in_table, no_numbers, number_by}
 use Rattle.mq_delta_cells.specs.Seeds.{is_gone, is_gone_at, is_missing, is_missing_at, is_moved}
 use Rattle.mq_delta_cells.proofs.NodeLemmas.{named_turned}
+use Rattle.mq_delta_cells.proofs.TableLemmas.{none_by, none_in}
 
 swapped : (a b c : Bool) → ((a || b) || c) ≡ (b || (a || c))
 swapped true true c = refl
@@ -36,43 +35,39 @@ or_false true = refl
 or_false false = refl
 
 -- ---- names
-is_in_next : (before after : Nodes) (name c : CellName) (number : ℕ) → Numbers before after name number → is_in after c ≡ (is_named name c || is_in before c)
-is_in_next before after name c number h = ap is_some (h c) ∙ by (is_named name c)
+is_in_next : (keys : List Tuple) (before after : Table) (name c : CellName) (number : ℕ) → NumbersBy keys before after name number
+    → is_in_table keys after c ≡ (is_named name c || is_in_table keys before c)
+is_in_next keys before after name c number h = ap is_some (h c) ∙ by (is_named name c)
   where
-    by : (b : Bool) → is_some (if b then Some number else number_in before c) ≡ (b || is_in before c)
+    by : (b : Bool) → is_some (if b then Some number else number_by keys before c) ≡ (b || is_in_table keys before c)
     by true = refl
     by false = refl
 
-pub names_start : (names : Nodes) (moved : List CellName) → names ≡ [] → (c : CellName) → (is_in names c || is_moved (drop 0 moved) c) ≡ is_moved moved c
-names_start names moved e c = ap (λ (n : Nodes). is_in n c || is_moved moved c) e
+pub names_start : (keys : List Tuple) (names : Table) (moved : List CellName) → names ≡ no_numbers → (c : CellName)
+    → (is_in_table keys names c || is_moved (drop 0 moved) c) ≡ is_moved moved c
+names_start keys names moved e c =
+    ap (λ (n : Table). is_in_table keys n c || is_moved moved c) e ∙ ap (λ b. b || is_moved moved c) (none_in keys c)
 
-pub names_next : (moved : List CellName) (i : ℕ) (name : CellName) (key : Tuple) (before after : Nodes) → i < length moved → name ≡ get_or moved i name → key ≡ name.key
-    → Numbers before after (cell_name key name.measure) 0
-    → ((c : CellName) → (is_in before c || is_moved (drop i moved) c) ≡ is_moved moved c)
-    → (c : CellName) → (is_in after c || is_moved (drop (i + 1) moved) c) ≡ is_moved moved c
-names_next moved i name key before after l at k put h c =
+pub names_next : (keys : List Tuple) (moved : List CellName) (i : ℕ) (name : CellName) (before after : Table) → i < length moved → name ≡ get_or moved i name
+    → NumbersBy keys before after (cell_name name.key name.measure) 0
+    → ((c : CellName) → (is_in_table keys before c || is_moved (drop i moved) c) ≡ is_moved moved c)
+    → (c : CellName) → (is_in_table keys after c || is_moved (drop (i + 1) moved) c) ≡ is_moved moved c
+names_next keys moved i name before after l at put h c =
     ap (λ b. b || is_moved (drop (i + 1) moved) c)
-    (is_in_next before after (cell_name key name.measure) c 0 put
-    ∙ ap (λ (key : Tuple). is_named (cell_name key name.measure) c || is_in before c) k
-    ∙ ap (λ b. b || is_in before c) (named_turned name c))
-    ∙ swapped (is_named c name) (is_in before c) (is_moved (drop (i + 1) moved) c)
-    ∙ ap (λ (l : List CellName). is_in before c || is_moved l c) (sym (next_item moved i name l at))
+    (is_in_next keys before after (cell_name name.key name.measure) c 0 put
+    ∙ ap (λ b. b || is_in_table keys before c) (named_turned name c))
+    ∙ swapped (is_named c name) (is_in_table keys before c) (is_moved (drop (i + 1) moved) c)
+    ∙ ap (λ (l : List CellName). is_in_table keys before c || is_moved l c) (sym (next_item moved i name l at))
     ∙ h c
 
-pub names_end : (moved : List CellName) (i : ℕ) (names : Nodes) → length moved ≤ i → ((c : CellName) → (is_in names c || is_moved (drop i moved) c) ≡ is_moved moved c)
-    → (c : CellName) → is_in names c ≡ is_moved moved c
-names_end moved i names l h c =
-    sym (or_false (is_in names c)) ∙ ap (λ (m : List CellName). is_in names c || is_moved m c) (sym (drop_all i moved l)) ∙ h c
+pub names_end : (keys : List Tuple) (moved : List CellName) (i : ℕ) (names : Table) → length moved ≤ i
+    → ((c : CellName) → (is_in_table keys names c || is_moved (drop i moved) c) ≡ is_moved moved c)
+    → (c : CellName) → is_in_table keys names c ≡ is_moved moved c
+names_end keys moved i names l h c =
+    sym (or_false (is_in_table keys names c)) ∙ ap (λ (m : List CellName). is_in_table keys names c || is_moved m c) (sym (drop_all i moved l)) ∙ h c
 
 -- ---- rules
-none_by : (keys : List Tuple) (c : CellName) → number_by keys (record { lanes = []; elsewhere = [] }) c ≡ None
-none_by keys c = by (place_of keys c.key)
-  where
-    by : (o : Option ℕ) → option_map_or (lane_item {T = ℕ} [] c.measure) o None ≡ None
-    by None = refl
-    by (Some p) = refl
-
-pub rules_start : (keys : List Tuple) (assigned : List Assignment) (at : ℕ) (rules : Table) → rules ≡ record { lanes = []; elsewhere = [] } → length assigned ≤ at → (c : CellName)
+pub rules_start : (keys : List Tuple) (assigned : List Assignment) (at : ℕ) (rules : Table) → rules ≡ no_numbers → length assigned ≤ at → (c : CellName)
     → number_by keys rules c ≡ option_map (λ a. a.2) (find (assigns c.measure c.key) (drop at assigned))
 rules_start keys assigned at rules e l c =
     ap (λ (t : Table). number_by keys t c) e ∙ none_by keys c

@@ -1,5 +1,5 @@
 -- What a walk over a shape goes by.
-use Rattle.std.specs.Prelude.{◌≡◌, true, List, [], map}
+use Rattle.std.specs.Prelude.{◌≡◌, true, List, [], map, IfSome}
 use Rattle.std.specs.List.{All}
 use Rattle.std.specs.Option.{option_map_or}
 use Rattle.mq_ir.specs.declared.query.Look.{Look}
@@ -29,10 +29,10 @@ pub record IsCourse (model : Model) (shape : PartShape) (course : Course) : Type
   pub base : course.base ≡ shape.base
   pub cells : course.cells ≡ shape.cells
   pub rounds : AreRoundsOf model shape course.rounds
-  -- what each assignment looks at, in their order
-  pub looks : course.looks ≡ map (looks_by model shape) shape.assigned
-  -- .. and who looks at a measure, where that is gathered
-  pub readers : HasReadersOf course.looks course.readers
+  -- what each assignment looks at, in their order, where that is gathered
+  pub looks : IfSome course.looks (λ looks. looks ≡ map (looks_by model shape) shape.assigned)
+  -- .. and who looks at a measure
+  pub readers : HasReadersOf course.cells (map (looks_by model shape) shape.assigned) course.readers
   pub rules : HasRulesOf shape course.cells course.rules
   -- what is said to be known of the references holds
   pub refs : course.refs.ascend ≡ true → All CellsAscend model.refs

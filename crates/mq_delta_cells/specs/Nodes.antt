@@ -1,5 +1,5 @@
 -- Measures of cells with numbers, as a map has them.
-use Rattle.std.specs.Prelude.{◌≡◌, ℕ, Bool, List, Option, Some, is_some, if◌then◌else◌}
+use Rattle.std.specs.Prelude.{◌≡◌, ℕ, List, Option, Some, if◌then◌else◌}
 use Rattle.std.specs.BTreeMap.{is_at}
 use Rattle.std.specs.Map.{lookup}
 use Rattle.std.specs.Ordering.{nat_cmp, ordering_then}
@@ -23,9 +23,6 @@ Nodes = List (Node × ℕ)
 -- the number of a measure, where it has one
 abbrev pub number_in : Nodes → CellName → Option ℕ
 number_in nodes c = lookup (is_at (cmp_node (c.key, c.measure))) nodes
-
-abbrev pub is_in : Nodes → CellName → Bool
-is_in nodes c = is_some (number_in nodes c)
 
 -- the measures after differ from those before in this one alone, which has the number now
 abbrev pub Numbers : Nodes → Nodes → CellName → ℕ → Type 0

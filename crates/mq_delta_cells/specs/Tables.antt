@@ -1,5 +1,5 @@
 -- Numbers at measures of cells, by the places of the cells among keys, and elsewhere by their names.
-use Rattle.std.specs.Prelude.{◌≡◌, ℕ, List, Option, Some, is_some, Bool, if◌then◌else◌}
+use Rattle.std.specs.Prelude.{◌≡◌, ℕ, List, [], Option, Some, is_some, Bool, if◌then◌else◌}
 use Rattle.std.specs.Option.{option_map_or}
 use Rattle.mq_dim_index.specs.Places.{place_of}
 use Rattle.mq_ir.specs.declared.query.CellName.{CellName}
@@ -15,6 +15,10 @@ use Rattle.mq_delta_cells.specs.Nodes.{Nodes, number_in}
 pub record Table : Type 0 where
   pub lanes : Lanes ℕ
   pub elsewhere : Nodes
+
+-- no measure has a number
+abbrev pub no_numbers : Table
+no_numbers = record { lanes = []; elsewhere = [] }
 
 -- the number of a measure, where it has one
 abbrev pub number_by : List Tuple → Table → CellName → Option ℕ

@@ -1,22 +1,25 @@
 //! What a walk over a shape goes by.
-ghost use Rattle.std.specs.Prelude.{◌≡◌, ◌-◌, Some, map, slice_get, IfOk};
+ghost use Rattle.std.specs.Prelude.{◌≡◌, ◌-◌, List, Some, map, slice_get, IfOk, IfSome};
 ghost use Rattle.std.specs.List.{All};
 ghost use Rattle.std.specs.Option.{option_copied};
 ghost use Rattle.mq_ir.specs.Unfolding.{model_of};
 ghost use Rattle.mq_auto.specs.Walks.{AreOwn};
+ghost use Rattle.mq_auto_shape.specs.Edges.{looks_by};
 ghost use Rattle.mq_auto_shape.specs.Found.{AreRoundsOf, IsRuled};
 ghost use Rattle.mq_delta_cells.specs.Courses.{IsCourse, looks_among, stays_course};
+ghost use Rattle.mq_delta_cells.specs.Readers.{HasReadersOf};
+ghost use Rattle.mq_ir.specs.declared.query.Look.{Look};
 ghost use Rattle.mq_delta_cells.specs.Tables.{HasRulesOf};
 
 use crate::number_table::NumberTable;
-use crate::reader_map::{ReaderMap, readers_of};
+use crate::reader_table::{ReaderTable, readers_of};
 use mq_dim_index::DimIndex;
 use mq_ir::{Look, Model, PartShape, Rule};
 use mq_refs::{CellKeys, RefsOrder, ShapeKeys, looks_over, refs_order};
 use mq_values::{Items, Key, Memory};
 use std::alloc::Global;
 
-/// The keys of a shape as indexes, the rounds in which its assignments come, what each of them looks at, which of them look at
+/// The keys of a shape as indexes, the rounds in which its assignments come, what each of them looks at and which of them look at
 /// a measure, where that is gathered, the rules by the measures that they assign, and what is known of the order of the
 /// model's references. It serves for every partition with the keys of the shape.
 #[derive(Drop)]
@@ -24,15 +27,15 @@ pub struct Course {
     pub base: DimIndex,
     pub cells: DimIndex,
     pub rounds: Items<Items<u32>>,
-    pub looks: Items<Items<Look>>,
-    pub readers: Option<ReaderMap>,
+    pub looks: Option<Items<Items<Look>>>,
+    pub readers: Option<ReaderTable>,
     pub rules: NumberTable,
     pub refs: RefsOrder,
 }
 
-/// The course of a shape of which these are the rounds and the indexes of the keys, for one walk: who looks at what is not
-/// gathered, so the walk asks every assignment. `Memory` is the only error; it comes too where there are more assignments than
-/// a `u32` can number.
+/// The course of a shape of which these are the rounds and the indexes of the keys. What each assignment looks at is gathered, and
+/// who looks at a measure is not, so a walk asks every assignment. `Memory` is the only error; it comes too where there are more
+/// assignments than a `u32` can number.
 pub fn course_of(
     alloc: Global,
     m: &Model<'_>,
@@ -49,6 +52,46 @@ pub fn course_of(
     ensures { IfOk result (IsCourse (model_of m.now) shape.now) }
 {
     let looks = all_looks(alloc, m, shape, &cells)?;
+    course_with(alloc, m, shape, rounds, base, cells, Some(looks))
+}
+
+/// The same for one walk: what an assignment looks at is asked of its rule when its turn comes, so no list of it is kept.
+pub fn course_for_walk(
+    alloc: Global,
+    m: &Model<'_>,
+    shape: &PartShape,
+    rounds: Items<Items<u32>>,
+    base: DimIndex,
+    cells: DimIndex,
+) -> Result<Course, Memory>
+    requires own { AreOwn shape.now }
+    requires ruled { All (IsRuled (model_of m.now)) shape.now.assigned }
+    requires rounds { AreRoundsOf (model_of m.now) shape.now rounds }
+    requires base { base ≡ shape.now.base }
+    requires cells { cells ≡ shape.now.cells }
+    ensures { IfOk result (IsCourse (model_of m.now) shape.now) }
+{
+    course_with(alloc, m, shape, rounds, base, cells, None)
+}
+
+// The course with these lists of what its assignments look at, or none.
+fn course_with(
+    alloc: Global,
+    m: &Model<'_>,
+    shape: &PartShape,
+    rounds: Items<Items<u32>>,
+    base: DimIndex,
+    cells: DimIndex,
+    looks: Option<Items<Items<Look>>>,
+) -> Result<Course, Memory>
+    requires own { AreOwn shape.now }
+    requires ruled { All (IsRuled (model_of m.now)) shape.now.assigned }
+    requires rounds { AreRoundsOf (model_of m.now) shape.now rounds }
+    requires base { base ≡ shape.now.base }
+    requires cells { cells ≡ shape.now.cells }
+    requires looks { IfSome looks (λ looks. looks ≡ map (looks_by (model_of m.now) shape.now) shape.now.assigned) }
+    ensures { IfOk result (IsCourse (model_of m.now) shape.now) }
+{
     let rules = rules_of(alloc, shape, &cells)?;
     Ok(Course {
         base,
@@ -61,17 +104,25 @@ pub fn course_of(
     })
 }
 
-/// The same course with who looks at what: a walk where values alone moved visits those that look at what changed, and no
-/// others. It is for a course that serves more than once. `Memory` comes too where there are more assignments than a `u32` can
-/// number.
+/// The same course with who looks at a measure, where what each assignment looks at is gathered: a walk where values alone moved
+/// visits those that look at what changed, and no others. It is for a course that serves more than once. `Memory` comes too where
+/// there are more assignments, or looks, than a `u32` can number.
 pub fn with_readers(alloc: Global, course: Course) -> Result<Course, Memory>
     ensures { IfOk result (stays_course course) }
 {
-    let readers = readers_of(alloc, course.looks.as_slice())?;
-    Ok(Course {
-        readers: Some(readers),
-        ..course
-    })
+    let readers = readers_in(alloc, &course)?;
+    Ok(Course { readers, ..course })
+}
+
+// Who looks at a measure, where a course has what each assignment looks at.
+fn readers_in(alloc: Global, course: &Course) -> Result<Option<ReaderTable>, Memory>
+    ensures { IfOk result (λ readers. (lists : List (List Look)) → IfSome course.now.looks (λ looks. looks ≡ lists)
+        → HasReadersOf course.now.cells lists readers) }
+{
+    match &course.looks {
+        Some(lists) => Ok(Some(readers_of(alloc, &course.cells, lists.as_slice())?)),
+        None => Ok(None),
+    }
 }
 
 // What each assignment of a shape with these cells looks at.
@@ -83,14 +134,25 @@ fn all_looks(
 ) -> Result<Items<Items<Look>>, Memory>
     ensures { IfOk result (λ looks. looks ≡ map (looks_among (model_of m.now) cells.now) shape.now.assigned) }
 {
-    // What a right side looks at does not depend on which cells the input has.
-    let keys = ShapeKeys { base: cells, cells };
     let assigned = shape.assigned.as_slice();
     let mut looks = Items::with_room(alloc, assigned.len());
     for a in assigned {
-        looks.push(looks_at(alloc, m, &keys, a)?)?;
+        looks.push(looks_by_cells(alloc, m, cells, a)?)?;
     }
     Ok(looks)
+}
+
+/// What an assignment looks at over these cells.
+pub fn looks_by_cells(
+    alloc: Global,
+    m: &Model<'_>,
+    cells: &DimIndex,
+    a: &(Key, u32, u32),
+) -> Result<Items<Look>, Memory>
+    ensures { IfOk result (λ looks. looks ≡ looks_among (model_of m.now) cells.now a.now) }
+{
+    // What a right side looks at does not depend on which cells the input has.
+    looks_at(alloc, m, &ShapeKeys { base: cells, cells }, a)
 }
 
 /// What an assignment looks at over these keys.

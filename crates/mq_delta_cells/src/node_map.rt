@@ -37,6 +37,9 @@ impl NodeMap {
     pub fn get(&self, key: &Key, m: u32) -> Result<Option<u32>, Memory>
         ensures { IfOk result (λ number. number ≡ number_in self.now (cell_name key.now m)) }
     {
+        if self.numbers.is_empty() {
+            return Ok(None);
+        }
         let node = (key.copy()?, m);
         Ok(self.numbers.get(&node).copied())
     }

@@ -1,7 +1,7 @@
 //! Numbers at measures of cells.
-ghost use Rattle.std.specs.Prelude.{◌≡◌, [], IfOk, OnOk};
+ghost use Rattle.std.specs.Prelude.{◌≡◌, IfOk, OnOk};
 ghost use Rattle.mq_cells.specs.Stores.{cell_name};
-ghost use Rattle.mq_delta_cells.specs.Tables.{NumbersBy, number_by};
+ghost use Rattle.mq_delta_cells.specs.Tables.{NumbersBy, no_numbers, number_by};
 
 use crate::node_map::NodeMap;
 use mq_cells::Lanes;
@@ -30,7 +30,7 @@ impl Model for NumberTable {
 impl NumberTable {
     /// No numbers. It takes no memory.
     pub fn new(alloc: Global) -> NumberTable
-        ensures { result ≡ record { lanes = []; elsewhere = [] } }
+        ensures { result ≡ no_numbers }
     {
         NumberTable {
             lanes: Lanes::new(alloc),

@@ -13,7 +13,7 @@ ghost use Rattle.mq_delta_cells.specs.Bounds.{most_reads};
 ghost use Rattle.mq_delta_cells.specs.Changes.{IsChange, reaches, reads_of_change, side_of};
 ghost use Rattle.mq_delta_cells.specs.Courses.{IsCourse};
 
-use crate::course::{Course, course_of};
+use crate::course::{Course, course_for_walk};
 use crate::starting::{clear_vanished, moved_alone, seeds_of};
 use crate::walking::walk_rounds;
 use crate::work::Work;
@@ -61,7 +61,7 @@ pub fn propagate<C: Cells>(
                 base,
                 cells: index,
             } = it;
-            let course = course_of(alloc, m, &shape, leveled.rounds, base, index)?;
+            let course = course_for_walk(alloc, m, &shape, leveled.rounds, base, index)?;
             propagate_over(alloc, m, old, &shape, &course, moved, cells)?;
             Ok(Verdict::Done(shape))
         }
@@ -137,7 +137,7 @@ pub fn propagate_values<C: Cells>(
 {
     shapes_are_sound();
     results_stay();
-    let seeds = moved_alone(alloc, shape, moved)?;
+    let seeds = moved_alone(alloc, shape, &course.cells, moved)?;
     let work = Work {
         model: m,
         shape,

@@ -8,13 +8,11 @@ ghost use Rattle.mq_ir.specs.Shape.{assigns};
 ghost use Rattle.mq_ir.specs.Unfolding.{model_of};
 ghost use Rattle.mq_auto_shape.specs.Edges.{looks_by};
 ghost use Rattle.mq_cells.specs.Stores.{name_assigned};
-ghost use Rattle.mq_delta_cells.specs.Nodes.{is_in};
 ghost use Rattle.mq_delta_cells.specs.Tables.{HasRulesOf, is_in_table};
 ghost use Rattle.mq_delta_cells.specs.Seeds as spec;
 ghost use Rattle.mq_delta_cells.specs.Seeds.{AreDifferences, AreSeeds};
 
 use crate::course::looks_at;
-use crate::node_map::NodeMap;
 use crate::number_table::NumberTable;
 use crate::work::Work;
 use mq_change_laws::same_looks_are_one;
@@ -41,25 +39,25 @@ pub struct Differences {
 pub struct Seeds<'a> {
     pub old: &'a PartShape,
     pub moved: &'a [CellName],
-    pub names: NodeMap,
+    pub names: NumberTable,
     pub differ: Option<Differences>,
 }
 
 /// Whether the change begins at a look that no rule assigns; at one that a rule does, whether its cell comes or goes.
-pub fn begins_at_look(work: &Work<'_>, look: &Look) -> Result<bool, Memory>
+pub fn begins_at_look(work: &Work<'_>, look: &Look, near: &mut u32) -> Result<bool, Memory>
     requires rules { HasRulesOf work.now.shape.now work.now.course.now.cells work.now.course.now.rules }
     requires seeds { AreSeeds work.now.shape.now work.now.course.now.cells work.now.seeds.now }
     ensures { IfOk result (λ begins. begins
         ≡ spec.is_told_outside work.now.seeds.now.old.now work.now.shape.now work.now.seeds.now.moved.now look.now) }
 {
     match &work.seeds.differ {
-        None => moves_at(work, look),
-        Some(differences) => differs_at(work, differences, look),
+        None => moves_at(work, look, near),
+        Some(differences) => differs_at(work, differences, look, near),
     }
 }
 
 // The same where the shapes are one.
-fn moves_at(work: &Work<'_>, look: &Look) -> Result<bool, Memory>
+fn moves_at(work: &Work<'_>, look: &Look, near: &mut u32) -> Result<bool, Memory>
     requires rules { HasRulesOf work.now.shape.now work.now.course.now.cells work.now.course.now.rules }
     requires seeds { AreSeeds work.now.shape.now work.now.course.now.cells work.now.seeds.now }
     requires same { work.now.seeds.now.old.now ≡ work.now.shape.now }
@@ -69,15 +67,20 @@ fn moves_at(work: &Work<'_>, look: &Look) -> Result<bool, Memory>
     let Look::Measure(name) = look else {
         return Ok(false);
     };
-    if has(&work.seeds.names, name)? {
-        Ok(!is_ruled(work, &work.course.rules, name)?)
+    if has(work, &work.seeds.names, name, near)? {
+        Ok(!has(work, &work.course.rules, name, near)?)
     } else {
         Ok(false)
     }
 }
 
 // The same where they differ in this way.
-fn differs_at(work: &Work<'_>, differences: &Differences, look: &Look) -> Result<bool, Memory>
+fn differs_at(
+    work: &Work<'_>,
+    differences: &Differences,
+    look: &Look,
+    near: &mut u32,
+) -> Result<bool, Memory>
     requires rules { HasRulesOf work.now.shape.now work.now.course.now.cells work.now.course.now.rules }
     requires seeds { AreSeeds work.now.shape.now work.now.course.now.cells work.now.seeds.now }
     requires differ { AreDifferences work.now.seeds.now.old.now work.now.shape.now work.now.course.now.cells differences.now }
@@ -90,7 +93,7 @@ fn differs_at(work: &Work<'_>, differences: &Differences, look: &Look) -> Result
             if differences.cells.has(&name.key) {
                 return Ok(true);
             }
-            differs_by_rules(work, differences, name)
+            differs_by_rules(work, differences, name, near)
         }
     }
 }
@@ -100,6 +103,7 @@ fn differs_by_rules(
     work: &Work<'_>,
     differences: &Differences,
     name: &CellName,
+    near: &mut u32,
 ) -> Result<bool, Memory>
     requires rules { HasRulesOf work.now.shape.now work.now.course.now.cells work.now.course.now.rules }
     requires seeds { AreSeeds work.now.shape.now work.now.course.now.cells work.now.seeds.now }
@@ -108,31 +112,28 @@ fn differs_by_rules(
         ≡ spec.outside_by work.now.seeds.now.old.now work.now.shape.now work.now.seeds.now.moved.now name.now
         (rule_at work.now.seeds.now.old.now (Measure name.now)) (rule_at work.now.shape.now (Measure name.now))) }
 {
-    if is_ruled(work, &work.course.rules, name)? {
+    if has(work, &work.course.rules, name, near)? {
         return Ok(false);
     }
-    if is_ruled(work, &differences.rules, name)? {
+    if has(work, &differences.rules, name, near)? {
         return Ok(true);
     }
     if differences.base.has(&name.key) {
         return Ok(true);
     }
-    has(&work.seeds.names, name)
+    has(work, &work.seeds.names, name, near)
 }
 
-// Whether a measure has a number.
-fn has(nodes: &NodeMap, name: &CellName) -> Result<bool, Memory>
-    ensures { IfOk result (λ has. has ≡ is_in nodes.now name.now) }
+/// Whether a measure has a number in a table, by the cells of the course.
+pub fn has(
+    work: &Work<'_>,
+    table: &NumberTable,
+    name: &CellName,
+    near: &mut u32,
+) -> Result<bool, Memory>
+    ensures { IfOk result (λ has. has ≡ is_in_table work.now.course.now.cells table.now name.now) }
 {
-    let number = nodes.get(&name.key, name.measure)?;
-    Ok(number.is_some())
-}
-
-// Whether one of these rules, by the cells of the course, assigns a measure.
-fn is_ruled(work: &Work<'_>, rules: &NumberTable, name: &CellName) -> Result<bool, Memory>
-    ensures { IfOk result (λ ruled. ruled ≡ is_in_table work.now.course.now.cells rules.now name.now) }
-{
-    let number = rules.get(&work.course.cells, &name.key, name.measure, &mut 0)?;
+    let number = table.get(&work.course.cells, &name.key, name.measure, near)?;
     Ok(number.is_some())
 }
 
@@ -142,6 +143,7 @@ pub fn begins_at_target(
     work: &Work<'_>,
     a: &(Key, u32, u32),
     looks: &[Look],
+    near: &mut u32,
 ) -> Result<bool, Memory>
     requires seeds { AreSeeds work.now.shape.now work.now.course.now.cells work.now.seeds.now }
     requires own { find (assigns a.now.1 a.now.0) work.now.shape.now.assigned ≡ Some a.now }
@@ -159,7 +161,7 @@ pub fn begins_at_target(
             if differences.cells.has(&a.0) {
                 return Ok(true);
             }
-            differs_by_looks(alloc, work, differences, a, looks)
+            differs_by_looks(alloc, work, differences, a, looks, near)
         }
     }
 }
@@ -171,6 +173,7 @@ fn differs_by_looks(
     differences: &Differences,
     a: &(Key, u32, u32),
     looks: &[Look],
+    near: &mut u32,
 ) -> Result<bool, Memory>
     requires differ { AreDifferences work.now.seeds.now.old.now work.now.shape.now work.now.course.now.cells differences.now }
     requires own { find (assigns a.now.1 a.now.0) work.now.shape.now.assigned ≡ Some a.now }
@@ -179,9 +182,7 @@ fn differs_by_looks(
         ≡ spec.told_by (model_of work.now.model.now) work.now.seeds.now.old.now work.now.shape.now work.now.seeds.now.moved.now
         (name_assigned a.now) (rule_at work.now.seeds.now.old.now (node_of a.now)) (rule_at work.now.shape.now (node_of a.now))) }
 {
-    let rule_was = differences
-        .rules
-        .get(&work.course.cells, &a.0, a.1, &mut 0)?;
+    let rule_was = differences.rules.get(&work.course.cells, &a.0, a.1, near)?;
     match rule_was {
         None => Ok(true),
         Some(number) => {

@@ -1,14 +1,12 @@
 //! What is done before a walk.
-ghost use Rattle.std.specs.Prelude.{◌≡◌, ◌||◌, ◌&&◌, not, List, None, true, if◌then◌else◌, IfOk, IfSome, OnOk};
+ghost use Rattle.std.specs.Prelude.{◌≡◌, ◌||◌, ◌&&◌, not, None, true, if◌then◌else◌, IfOk, IfSome, OnOk};
 ghost use Rattle.mq_ir.specs.Keys.{Tuple, is_among};
 ghost use Rattle.mq_ir.specs.declared.query.CellName.{CellName};
-ghost use Rattle.mq_delta_cells.specs.Nodes.{is_in};
-ghost use Rattle.mq_delta_cells.specs.Tables.{HasRulesOf};
+ghost use Rattle.mq_delta_cells.specs.Tables.{HasRulesOf, is_in_table};
 ghost use Rattle.mq_values.specs.KeySets.{HasKeysOf};
 ghost use Rattle.mq_delta_cells.specs.Seeds.{AreDifferences, AreSeeds, HasOddKeysOf, has_vanished, is_gone, is_gone_at, is_missing, is_missing_at, is_moved};
 
 use crate::course::rules_of;
-use crate::node_map::NodeMap;
 use crate::number_table::NumberTable;
 use crate::seeds::{Differences, Seeds};
 use mq_cells::{Cells, keys_ascend};
@@ -32,7 +30,7 @@ pub fn seeds_of<'a>(
     ensures old { IfOk result (λ seeds. seeds.old.now ≡ old.now) }
     ensures moved { IfOk result (λ seeds. seeds.moved.now ≡ moved.now) }
 {
-    let names = names_of(alloc, moved)?;
+    let names = names_of(alloc, keys.cells, moved)?;
     if are_one(old, new) {
         return Ok(Seeds {
             old,
@@ -50,31 +48,33 @@ pub fn seeds_of<'a>(
     })
 }
 
-/// The same where the shape stays.
+/// The same where the shape stays, which has these cells.
 pub fn moved_alone<'a>(
     alloc: Global,
     shape: &'a PartShape,
+    cells: &DimIndex,
     moved: &'a [CellName],
 ) -> Result<Seeds<'a>, Memory>
-    ensures seeds { IfOk result (λ seeds. (keys : List Tuple) → AreSeeds shape.now keys seeds) }
+    ensures seeds { IfOk result (AreSeeds shape.now cells.now) }
     ensures old { IfOk result (λ seeds. seeds.old.now ≡ shape.now) }
     ensures moved { IfOk result (λ seeds. seeds.moved.now ≡ moved.now) }
 {
     Ok(Seeds {
         old: shape,
         moved,
-        names: names_of(alloc, moved)?,
+        names: names_of(alloc, cells, moved)?,
         differ: None,
     })
 }
 
-// These measures, to be looked up.
-fn names_of(alloc: Global, moved: &[CellName]) -> Result<NodeMap, Memory>
-    ensures { IfOk result (λ names. (c : CellName) → is_in names c ≡ is_moved moved.now c) }
+// These measures, to be looked up by the places of cells.
+fn names_of(alloc: Global, cells: &DimIndex, moved: &[CellName]) -> Result<NumberTable, Memory>
+    ensures { IfOk result (λ names. (c : CellName) → is_in_table cells.now names c ≡ is_moved moved.now c) }
 {
-    let mut names = NodeMap::new(alloc);
+    let mut names = NumberTable::new(alloc);
+    let mut near = 0;
     'putting: for name in moved {
-        names.put(name.key.copy()?, name.measure, 0)?;
+        names.put(cells, &name.key, name.measure, 0, &mut near)?;
     }
     Ok(names)
 }

@@ -15,10 +15,10 @@ ghost use Rattle.mq_delta_cells.specs.Seeds.{AreSeeds};
 ghost use Rattle.mq_delta_cells.specs.Walks as spec;
 ghost use Rattle.mq_delta_cells.specs.Walks.{IsAssigned, IsDue, IsVisited, ground_of, is_known_in, model_at};
 
-use crate::course::rule_of;
-use crate::node_map::NodeMap;
-use crate::reader_map::mark_readers;
-use crate::seeds::{begins_at_look, begins_at_target};
+use crate::course::{looks_by_cells, rule_of};
+use crate::number_table::NumberTable;
+use crate::reader_table::mark_readers;
+use crate::seeds::{begins_at_look, begins_at_target, has};
 use crate::work::Work;
 use mq_cells::Cells;
 use mq_ir::{Look, Slot};
@@ -27,13 +27,14 @@ use mq_values::{Key, Memory};
 use std::alloc::Global;
 
 /// Visits the assignment at a place, where it is due: where the change reaches it its slot is found anew and put, it is among
-/// what `changed` then, and what looks at it is due.
+/// what `changed` then, and what looks at it is due. Cells are looked for beside the place `near` first.
 pub fn visit<C: Cells>(
     alloc: Global,
     work: &Work<'_>,
     place: u32,
-    changed: &mut NodeMap,
+    changed: &mut NumberTable,
     due: &mut Vec<bool>,
+    near: &mut u32,
     cells: &mut C,
 ) -> Result<(), Memory>
     requires course { IsCourse (model_at work.now) work.now.shape.now work.now.course.now }
@@ -48,8 +49,8 @@ pub fn visit<C: Cells>(
     ensures same_input { C.input cells.new ≡ C.input cells.old }
 {
     let a = &work.shape.assigned.as_slice()[place as usize];
-    if is_hit_at(alloc, work, place, a, changed, due)? {
-        assign(alloc, work, a, changed, due, cells)?;
+    if is_hit_at(alloc, work, place, a, changed, due, near)? {
+        assign(alloc, work, a, changed, due, near, cells)?;
     }
     Ok(())
 }
@@ -60,8 +61,9 @@ fn is_hit_at(
     work: &Work<'_>,
     place: u32,
     a: &(Key, u32, u32),
-    changed: &NodeMap,
+    changed: &NumberTable,
     due: &[bool],
+    near: &mut u32,
 ) -> Result<bool, Memory>
     requires course { IsCourse (model_at work.now) work.now.shape.now work.now.course.now }
     requires seeds { AreSeeds work.now.shape.now work.now.course.now.cells work.now.seeds.now }
@@ -69,11 +71,16 @@ fn is_hit_at(
     requires due { IsDue (ground_of work.now) changed.now due.now }
     ensures { IfOk result (λ hit. hit ≡ spec.is_hit (ground_of work.now) changed.now a.now) }
 {
-    if is_due(due, place) {
-        let looks = &work.course.looks.as_slice()[place as usize];
-        return is_hit(alloc, work, a, looks.as_slice(), changed);
+    if !is_due(due, place) {
+        return Ok(false);
     }
-    Ok(false)
+    match &work.course.looks {
+        Some(lists) => {
+            let looks = &lists.as_slice()[place as usize];
+            is_hit(alloc, work, a, looks.as_slice(), changed, near)
+        }
+        None => is_hit_by_rule(alloc, work, a, changed, near),
+    }
 }
 
 // Whether a place is due.
@@ -86,13 +93,31 @@ fn is_due(due: &[bool], place: u32) -> bool
     }
 }
 
+// Whether the change reaches an assignment, of which no looks are gathered.
+fn is_hit_by_rule(
+    alloc: Global,
+    work: &Work<'_>,
+    a: &(Key, u32, u32),
+    changed: &NumberTable,
+    near: &mut u32,
+) -> Result<bool, Memory>
+    requires course { IsCourse (model_at work.now) work.now.shape.now work.now.course.now }
+    requires seeds { AreSeeds work.now.shape.now work.now.course.now.cells work.now.seeds.now }
+    requires own { find (assigns a.now.1 a.now.0) work.now.shape.now.assigned ≡ Some a.now }
+    ensures { IfOk result (λ hit. hit ≡ spec.is_hit (ground_of work.now) changed.now a.now) }
+{
+    let looks = looks_by_cells(alloc, work.model, &work.course.cells, a)?;
+    is_hit(alloc, work, a, looks.as_slice(), changed, near)
+}
+
 // Whether the change reaches an assignment, which looks at these.
 fn is_hit(
     alloc: Global,
     work: &Work<'_>,
     a: &(Key, u32, u32),
     looks: &[Look],
-    changed: &NodeMap,
+    changed: &NumberTable,
+    near: &mut u32,
 ) -> Result<bool, Memory>
     requires course { IsCourse (model_at work.now) work.now.shape.now work.now.course.now }
     requires seeds { AreSeeds work.now.shape.now work.now.course.now.cells work.now.seeds.now }
@@ -100,20 +125,25 @@ fn is_hit(
     requires looks { looks.now ≡ looks_by (model_at work.now) work.now.shape.now a.now }
     ensures { IfOk result (λ hit. hit ≡ spec.is_hit (ground_of work.now) changed.now a.now) }
 {
-    if begins_at_target(alloc, work, a, looks)? {
+    if begins_at_target(alloc, work, a, looks, near)? {
         return Ok(true);
     }
-    is_some_known(work, looks, changed)
+    is_some_known(work, looks, changed, near)
 }
 
 // Whether one of these looks is known to be reached.
-fn is_some_known(work: &Work<'_>, looks: &[Look], changed: &NodeMap) -> Result<bool, Memory>
+fn is_some_known(
+    work: &Work<'_>,
+    looks: &[Look],
+    changed: &NumberTable,
+    near: &mut u32,
+) -> Result<bool, Memory>
     requires course { IsCourse (model_at work.now) work.now.shape.now work.now.course.now }
     requires seeds { AreSeeds work.now.shape.now work.now.course.now.cells work.now.seeds.now }
     ensures { IfOk result (λ some. some ≡ list_any (is_known_in (ground_of work.now) changed.now) looks.now) }
 {
     for look in looks {
-        if is_known(work, look, changed)? {
+        if is_known(work, look, changed, near)? {
             return Ok(true);
         }
     }
@@ -121,17 +151,22 @@ fn is_some_known(work: &Work<'_>, looks: &[Look], changed: &NodeMap) -> Result<b
 }
 
 // Whether a look is known to be reached.
-fn is_known(work: &Work<'_>, look: &Look, changed: &NodeMap) -> Result<bool, Memory>
+fn is_known(
+    work: &Work<'_>,
+    look: &Look,
+    changed: &NumberTable,
+    near: &mut u32,
+) -> Result<bool, Memory>
     requires course { IsCourse (model_at work.now) work.now.shape.now work.now.course.now }
     requires seeds { AreSeeds work.now.shape.now work.now.course.now.cells work.now.seeds.now }
     ensures { IfOk result (λ known. known ≡ is_known_in (ground_of work.now) changed.now look.now) }
 {
     if let Look::Measure(name) = look {
-        if changed.get(&name.key, name.measure)?.is_some() {
+        if has(work, changed, name, near)? {
             return Ok(true);
         }
     }
-    begins_at_look(work, look)
+    begins_at_look(work, look, near)
 }
 
 // Puts at the measure of an assignment what its rule makes of the cell, and marks what looks at it.
@@ -139,13 +174,15 @@ fn assign<C: Cells>(
     alloc: Global,
     work: &Work<'_>,
     a: &(Key, u32, u32),
-    changed: &mut NodeMap,
+    changed: &mut NumberTable,
     due: &mut Vec<bool>,
+    near: &mut u32,
     cells: &mut C,
 ) -> Result<(), Memory>
     requires course { IsCourse (model_at work.now) work.now.shape.now work.now.course.now }
     requires ruled { IsRuled (model_at work.now) a.now }
-    ensures marked { OnOk result (HasMarked work.now.course.now.readers (name_assigned a.now) due.old.items due.new.items) }
+    ensures marked { OnOk result
+        (HasMarked work.now.course.now.cells work.now.course.now.readers (name_assigned a.now) due.old.items due.new.items) }
     ensures assigned { OnOk result (IsAssigned (ground_of work.now) (C.input cells.old) (C.results cells.old) (C.results cells.new)
         changed.old changed.new a.now) }
     ensures reads { C.looks cells.new ≤ C.looks cells.old + measures_in (looks_by (model_at work.now) work.now.shape.now a.now) }
@@ -153,8 +190,9 @@ fn assign<C: Cells>(
 {
     let slot = slot_for(alloc, work, a, cells)?;
     cells.put(&a.0, a.1, slot)?;
-    changed.put(a.0.copy()?, a.1, a.2)?;
-    mark_readers(&work.course.readers, &a.0, a.1, due)
+    let course = work.course;
+    changed.put(&course.cells, &a.0, a.1, a.2, near)?;
+    mark_readers(&course.readers, &course.cells, &a.0, a.1, near, due)
 }
 
 // What the rule of an assignment makes of its cell, over the cells of the course. Nothing that stands is changed.

@@ -13,7 +13,7 @@ ghost use Rattle.mq_delta_cells.specs.Seeds.{AreSeeds};
 ghost use Rattle.mq_delta_cells.specs.Walks.{BeginsRight, IsDue, IsWalked, ground_of, model_at, reached_on, reads_at};
 
 use crate::dues::due_at_first;
-use crate::node_map::NodeMap;
+use crate::number_table::NumberTable;
 use crate::visiting::visit;
 use crate::work::Work;
 use mq_cells::Cells;
@@ -36,21 +36,31 @@ pub fn walk_rounds<C: Cells>(alloc: Global, work: &Work<'_>, cells: &mut C) -> R
     ensures same_input { C.input cells.new ≡ C.input cells.old }
 {
     steps_read_their_looks();
-    let mut changed = NodeMap::new(alloc);
+    let mut changed = NumberTable::new(alloc);
+    let mut near = 0;
     let mut due = due_at_first(alloc, work)?;
     'rounds: for round in work.course.rounds.as_slice() {
-        walk_round(alloc, work, round.as_slice(), &mut changed, &mut due, cells)?;
+        walk_round(
+            alloc,
+            work,
+            round.as_slice(),
+            &mut changed,
+            &mut due,
+            &mut near,
+            cells,
+        )?;
     }
     Ok(())
 }
 
-// The same for the assignments at these places, which come in one round.
+// The same for the assignments at these places, which come in one round. Cells are looked for beside the place `near` first.
 fn walk_round<C: Cells>(
     alloc: Global,
     work: &Work<'_>,
     round: &[u32],
-    changed: &mut NodeMap,
+    changed: &mut NumberTable,
     due: &mut Vec<bool>,
+    near: &mut u32,
     cells: &mut C,
 ) -> Result<(), Memory>
     requires course { IsCourse (model_at work.now) work.now.shape.now work.now.course.now }
@@ -70,7 +80,7 @@ fn walk_round<C: Cells>(
 {
     steps_read_their_looks();
     'places: for place in round {
-        visit(alloc, work, *place, changed, due, cells)?;
+        visit(alloc, work, *place, changed, due, near, cells)?;
     }
     Ok(())
 }

@@ -9,5 +9,5 @@ returns-in-None c =
     let seeds = work.seeds.now in
     IfOk-weaker c.due_by_moved.result _ _
     (λ due so.
-    first_due (model_at work) seeds.old.now work.shape.now seeds.moved.now work.course.now.readers work.course.now.looks c.requires.course.own c.requires.course.readers
-    c.requires.course.looks c.same_looks_are_one.ensures (rw c.in-None.is at c.requires.seeds.differ) due.items so) c.due_by_moved.ensures
+    first_due (model_at work) seeds.old.now work.shape.now seeds.moved.now work.course.now.cells work.course.now.readers c.requires.course.own c.requires.course.readers
+    c.same_looks_are_one.ensures (rw c.in-None.is at c.requires.seeds.differ) due.items so) c.due_by_moved.ensures

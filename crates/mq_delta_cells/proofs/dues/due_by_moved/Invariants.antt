@@ -7,4 +7,4 @@ use Rattle.mq_delta_cells.proofs.dues.due_by_moved.Given as goal
 abbrev pub invariant-marking : goal.invariant-marking
 invariant-marking l =
     (place : ℕ) → is_due l.due.items place ≡ false → (c : CellName) → is_moved (take l.name-index l.work.seeds.now.moved.now) c ≡ true
-    → may_look l.work.course.now.readers c place ≡ false
+    → may_look l.work.course.now.cells l.work.course.now.readers c place ≡ false

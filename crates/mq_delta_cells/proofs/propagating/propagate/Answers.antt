@@ -1,7 +1,7 @@
 use Rattle.std.proofs.Common.{◌≡◌, ◌+◌, ◌≤◌, Ok, sym, subst}
 use Rattle.mq_ir.specs.Unfolding.{model_of}
 use Rattle.mq_auto_shape.specs.Found.{shape_meant}
-use Rattle.mq_delta_cells.proofs.PropagateLemmas.{change_over, is_shaped, most_are}
+use Rattle.mq_delta_cells.proofs.PropagateLemmas.{change_over, found_done, is_shaped, most_are}
 use Rattle.mq_delta_cells.proofs.propagating.propagate.Goals as goal
 
 pub returns-in_err-propagate_over-in-Ok-clause-reads : goal.returns-in_err-propagate_over-in-Ok-clause-reads
@@ -65,3 +65,10 @@ returns-in_ok-propagate_over-in-Ok-clause-reads g c =
     (sym (most_are model keys old shape c.args.moved.now before after given results change found))
     (c.propagate_over.ensures.reads before after (is_shaped model keys old shape c.args.moved.now before after given results change found c.requires.ready.ascend)
     (change_over model keys old shape c.args.moved.now before after given results change found base))
+
+pub returns-in_ok-propagate_over-in-Ok-clause-verdict : goal.returns-in_ok-propagate_over-in-Ok-clause-verdict
+returns-in_ok-propagate_over-in-Ok-clause-verdict g c =
+    let model = model_of c.args.m.now in
+    let shape = c.in-Ok.it.shape in
+    let found : Ok shape ≡ shape_meant model c.args.new.now = rw c.in-Ok.is at c.in_ok-found.ensures.exact in
+    found_done model c.args.new.now shape found

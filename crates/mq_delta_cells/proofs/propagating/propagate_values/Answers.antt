@@ -46,4 +46,4 @@ returns-clause-reads g c =
     c.walk_rounds.ensures.reads
 
 pub walk_rounds-requires-clause-seeds : goal.walk_rounds-requires-clause-seeds
-walk_rounds-requires-clause-seeds g c = c.in_ok-seeds.ensures.seeds c.args.course.now.cells
+walk_rounds-requires-clause-seeds g c = c.in_ok-seeds.ensures.seeds

@@ -62,7 +62,7 @@ returns-in_ok-assign-clause-due g c =
     let work = c.args.work.now in
     let it = c.index-as_slice-place.result in
     let done = c.in_ok-assign.ensures.assigned in
-    due_next (ground_of work) work.course.now.readers work.course.now.looks c.requires.course.readers c.requires.course.looks c.args.changed.now c.assign.new.changed
+    due_next (ground_of work) work.course.now.cells work.course.now.readers c.requires.course.readers c.args.changed.now c.assign.new.changed
     (name_assigned it) it.2 c.args.due.now.items c.assign.new.due.items done.noted c.in_ok-assign.ensures.marked c.requires.due
 
 pub assign-requires-clause-ruled : goal.assign-requires-clause-ruled
