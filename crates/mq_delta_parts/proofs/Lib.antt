@@ -1,0 +1,10 @@
+pub mod ChangeLemmas
+pub mod EditLemmas
+pub mod GroupLemmas
+pub mod InputLemmas
+pub mod ListLemmas
+pub mod RepeatLemmas
+pub mod SomeLemmas
+pub mod SpanLemmas
+pub mod WalkLemmas
+pub mod WovenLemmas
