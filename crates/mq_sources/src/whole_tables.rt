@@ -3,9 +3,10 @@ ghost use Rattle.std.specs.Prelude.{◌≡◌, ◌==◌, ◌∷◌, [], None, Ok
 ghost use Rattle.std.specs.List.{list_all, list_any};
 ghost use Rattle.mq_ir.specs.BaseRows.{conditions_of, items_of};
 ghost use Rattle.mq_ir.specs.Items as spec;
-ghost use Rattle.mq_sources.specs.WholeTables.{column, columns_of};
+ghost use Rattle.mq_delta_items.specs.Columns.{columns_of};
 
-use mq_ir::{Expr, FromPart, ItemPart, Leaf, Row};
+use mq_delta_items::are_columns;
+use mq_ir::{Expr, FromPart, ItemPart, Row};
 use mq_tables::TableSet;
 use mq_values::{Items, Key, MAX_BASE_ROWS, Memory};
 use std::alloc::Global;
@@ -64,28 +65,6 @@ fn any_stands(ons: &[Option<Expr>]) -> bool
     ensures { result ≡ list_any is_some ons.now }
 {
     ons.iter().any(|on| on.is_some())
-}
-
-// Whether these are the columns of the first FROM item, in order.
-fn are_columns(items: &[Expr]) -> bool
-    ensures { IsTrue result → items.now ≡ columns_of (length items.now) }
-{
-    'items: for (number, item) in items.iter().enumerate() {
-        if !is_column(item, number) {
-            return false;
-        }
-    }
-    true
-}
-
-// Whether this is the column of this number of the first FROM item.
-fn is_column(item: &Expr, number: usize) -> bool
-    ensures { IsTrue result → item.now ≡ column number }
-{
-    match item {
-        Expr::Leaf(Leaf::Column(0, column)) => *column as usize == number,
-        _ => false,
-    }
 }
 
 // The rows of the table, where the query is over one table that is there.

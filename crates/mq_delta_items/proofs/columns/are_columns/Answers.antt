@@ -1,5 +1,5 @@
-use Rattle.mq_sources.proofs.WholeLemmas.{column_more, columns_end}
-use Rattle.mq_sources.proofs.whole_tables.are_columns.Goals as goal
+use Rattle.mq_delta_items.proofs.ColumnLemmas.{column_more, columns_end}
+use Rattle.mq_delta_items.proofs.columns.are_columns.Goals as goal
 
 pub items-preserved : goal.items-preserved
 items-preserved c =
