@@ -1,27 +1,19 @@
 -- What a query answers: its items, its rows as they are printed, or its first fault.
-use Rattle.std.proofs.Common.{◌≡◌, ℕ, List, [], ◌∷◌, Bool, true, false, length, map, Option, Some, None, Result, Ok, Err, refl, sym, ap, ◌∙◌, subst}
-use Rattle.std.specs.Prelude.{if◌then◌else◌, slice_index_or}
-use Rattle.std.specs.List.{All, range_with_len}
+use Rattle.std.proofs.Common.{◌≡◌, ℕ, List, length, map, Option, Some, None, Result, Ok, Err, refl, sym, ap, ◌∙◌, subst}
 use Rattle.std.specs.Option.{option_map_or}
-use Rattle.std.specs.Ordering.{is_gt}
-use Rattle.std.specs.declared.cmp.Ordering.{Ordering}
 use Rattle.std.proofs.lemmas.List.{map-id}
-use Rattle.std.proofs.lemmas.List.Elements.{All-cons, All-head, All-tail}
-use Rattle.std.proofs.lemmas.List.FromFn.{fill_by_all}
 use Rattle.mq_values.specs.Answers.{Gives, result_map}
 use Rattle.mq_values.specs.declared.faults.QueryFault.{QueryFault}
 use Rattle.mq_values.specs.declared.memory.Fail.{Fail}
-use Rattle.mq_values.specs.declared.value.Value.TheVariants.{Null}
 use Rattle.mq_ir.specs.declared.query.Answer.TheVariants as answer
 use Rattle.mq_ir.specs.declared.query.BoundQuery.{BoundQuery}
 use Rattle.mq_ir.specs.declared.query.ModelPart.{ModelPart}
 use Rattle.mq_ir.specs.Answer.{answer_of, model_rows, plain_fault, query_rows}
 use Rattle.mq_ir.specs.Items.{items_over}
-use Rattle.mq_ir.specs.Partitions.{Tuple, ascending, placed}
-use Rattle.mq_ir.specs.Printing.{cmp_printed, columns_at, printed_rows}
+use Rattle.mq_ir.specs.Partitions.{Tuple}
+use Rattle.mq_ir.specs.Printing.{printed_rows}
 use Rattle.mq_ir.specs.Results.{◌>>=◌, marked}
 use Rattle.mq_ir.specs.Tables.{Tables}
-use Rattle.mq_answers.specs.Printing.{cmp_rows}
 use Rattle.mq_ir.specs.Ready.{HaveLength, ModelIsReady}
 use Rattle.mq_answers.specs.Models.{MayRun}
 use Rattle.mq_answers.specs.Queries.{rows_shown, shown_of}
@@ -30,41 +22,6 @@ use Rattle.mq_answers.proofs.TurnLemmas.{fault_is_last}
 -- what a query with MODEL asks of its items
 pub may_run : (q : BoundQuery) (part : ModelPart) (items : List Tuple) → ModelIsReady (length q.items.items) part → HaveLength (length q.items.items) items → MayRun part items
 may_run q part items m h = record { lefts = m.lefts; wide = subst (λ (n : ℕ). HaveLength n items) m.wide h }
-
--- rows that are printed from the first column to the last
-
-in_place : (n : ℕ) (row : Tuple) → length row ≡ n → columns_at (range_with_len 0 n) row ≡ row
-in_place n row h = sym (fill_by_all (λ (k : ℕ). slice_index_or row k Null) row n Null h (λ k l. refl))
-
-whole_rows : (n : ℕ) (rows : List Tuple) → HaveLength n rows → map (columns_at (range_with_len 0 n)) rows ≡ rows
-whole_rows n [] h = refl
-whole_rows n (row ∷ rows) h =
-    let first = in_place n row (All-head (λ (row : Tuple). length row ≡ n) row rows h) in
-    let rest = whole_rows n rows (All-tail (λ (row : Tuple). length row ≡ n) row rows h) in
-    λ i. first i ∷ rest i
-
-module _ {K : Type 0} (P : K → Type 0) (R : K → K → Ordering) where
-  placed_all : (x : K) (ys : List K) → P x → All P ys → All P (placed R x ys)
-  placed_all x [] p h = All-cons P x [] p h
-  placed_all x (y ∷ ys) p h = by (is_gt (R x y)) (placed_all x ys p (All-tail P y ys h))
-    where
-      by : (g : Bool) → All P (placed R x ys) → All P (if g then y ∷ placed R x ys else x ∷ y ∷ ys)
-      by true k = All-cons P y (placed R x ys) (All-head P y ys h) k
-      by false k = All-cons P x (y ∷ ys) p h
-
-  ascending_all : (xs : List K) → All P xs → All P (ascending R xs)
-  ascending_all [] h = h
-  ascending_all (x ∷ xs) h = placed_all x (ascending R xs) (All-head P x xs h) (ascending_all xs (All-tail P x xs h))
-
-pub all_shown : (q : BoundQuery) (rows taken sorted : List Tuple) → q.print ≡ range_with_len 0 (length q.items.items) → HaveLength (length q.items.items) rows
-    → taken ≡ rows → sorted ≡ ascending (cmp_rows {R = Tuple} (λ row. row) q) taken → sorted ≡ printed_rows q rows
-all_shown q rows taken sorted all h e f =
-    let n = length q.items.items in
-    let order = cmp_printed q in
-    f
-    ∙ ap (ascending order) e
-    ∙ sym (whole_rows n (ascending order rows) (ascending_all (λ (row : Tuple). length row ≡ n) order rows h))
-    ∙ ap (λ (print : List ℕ). map (columns_at print) (ascending order rows)) (sym all)
 
 -- what a query answers once its items are there, or their first fault
 

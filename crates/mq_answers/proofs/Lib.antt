@@ -9,6 +9,8 @@ pub mod NumberLemmas
 pub mod PlaceLemmas
 pub mod PrintLemmas
 pub mod RowLemmas
+pub mod ShownLemmas
 pub mod StretchLemmas
 pub mod TakenLemmas
 pub mod TurnLemmas
+pub mod WholeLemmas

@@ -1,11 +1,8 @@
 -- Numbers that count on from 0.
-use Rattle.std.proofs.Common.{◌≡◌, ℕ, ◌<◌, List, length, get_or, sym, ap, ◌∙◌, arith}
+use Rattle.std.proofs.Common.{◌≡◌, ℕ, ◌<◌, List, length, get_or, sym, ap, arith}
 use Rattle.std.specs.List.{range_with_len}
 use Rattle.std.proofs.lemmas.List.{ext_get_or}
 use Rattle.std.proofs.lemmas.List.FromFn.{get_or-range_with_len, length-range_with_len}
-
-pub so_many : (numbers : List ℕ) (n : ℕ) → numbers ≡ range_with_len 0 n → length numbers ≡ n
-so_many numbers n e = ap length e ∙ length-range_with_len 0 n
 
 pub in_order : (numbers : List ℕ) → ((k : ℕ) → k < length numbers → get_or numbers k 0 ≡ k) → numbers ≡ range_with_len 0 (length numbers)
 in_order numbers h =

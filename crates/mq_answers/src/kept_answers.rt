@@ -9,40 +9,41 @@ ghost use Rattle.mq_ir.specs.Results.{each_in_turn};
 ghost use Rattle.mq_ir.specs.Tables.{Tables};
 ghost use Rattle.mq_ir.specs.Unfolding.{model_of};
 ghost use Rattle.mq_kept.specs.Kept.{AllRight, IsBegun, IsKept, IsRight, inputs_of};
+ghost use Rattle.mq_kept.specs.Standing.{IsStanding};
 ghost use Rattle.mq_answers.specs.KeptStretches.{parts_in};
 ghost use Rattle.mq_answers.specs.Models.{gathered_rows};
 ghost use Rattle.mq_answers.specs.Queries.{shown_of};
 
-use crate::gathering::{Gathered, with_cells};
+use crate::gathering::{KeptRows, with_shown};
 use crate::kept_stretches::{KeptStretch, kept_stretches_of};
-use crate::printing::printed_rows;
+use crate::printing::printed_keys;
 use crate::workers::Crew;
 use mq_io::Gate;
-use mq_ir::{Answer, BoundQuery, Model as Lent, ModelPart, PartResult};
-use mq_kept::{KeptPart, KeptView, PartState, begun, followed, made_of};
+use mq_ir::{Answer, BoundQuery, Model as Lent, ModelPart};
+use mq_kept::{KeptPart, KeptView, PartState, StandingView, begun, followed, show};
 use mq_tables::TableSet;
 use mq_values::{Fail, Items, Key, Memory, QueryFault};
 use mq_workers::run_pieces;
 use std::alloc::Global;
 use std::thread::Threads;
 
-/// What a query with MODEL answers over these tables, as `answer_over` has it. What was kept of it before follows the tables, and
-/// only what the change of the tables reached is run again, by the crew. Out comes what is kept of it now, beside the answer:
-/// nothing where the query has a fault before its partitions (docs/MEANING.md, "Kept views"). `Memory` is the only error, and then
-/// nothing is kept.
+/// What a query with MODEL answers over these tables, as `answer_over` has it. What was kept of it before follows the tables, where it
+/// is not fresh, and only what the change of the tables reached is run again, by the crew. Out comes what is kept of it now, beside the
+/// answer: nothing where the query has a fault before its partitions (docs/MEANING.md, "Kept views"). `Memory` is the only error, and
+/// then nothing is kept.
 pub fn kept_answer<R: Threads + Sync, T: TableSet, G: Gate>(
     crew: &Crew<'_, '_, R, G>,
     alloc: Global,
     tables: &T,
     q: &BoundQuery,
     part: &ModelPart,
-    old: Option<KeptView>,
-) -> Result<(Option<KeptView>, Answer), Memory>
+    old: Option<StandingView>,
+) -> Result<(Option<StandingView>, Answer), Memory>
     requires ready { QueryIsReady q.now }
     requires model { q.now.model ≡ Some part.now }
-    requires right { IfSome old (AllRight part.now) }
+    requires standing { IfSome old (IsStanding (T.tables tables.now) q.now part.now) }
     ensures exact { IfOk result (λ r. r.1 ≡ spec.answer_of (T.tables tables.now) q.now) }
-    ensures right { IfOk result (λ r. IfSome r.0 (AllRight part.now)) }
+    ensures standing { IfOk result (λ r. IfSome r.0 (IsStanding (T.tables tables.now) q.now part.now)) }
 {
     match view_now(alloc, tables, q, part, old) {
         Ok(view) => answer_of_view(crew, alloc, q, part, view),
@@ -57,17 +58,20 @@ fn view_now<T: TableSet>(
     tables: &T,
     q: &BoundQuery,
     part: &ModelPart,
-    old: Option<KeptView>,
+    old: Option<StandingView>,
 ) -> Result<KeptView, Fail<QueryFault>>
     requires ready { QueryIsReady q.now }
     requires model { q.now.model ≡ Some part.now }
-    requires right { IfSome old (AllRight part.now) }
+    requires standing { IfSome old (IsStanding (T.tables tables.now) q.now part.now) }
     ensures { IsBegun (T.tables tables.now) q.now part.now result }
 {
     let Some(old) = old else {
         return begun(alloc, tables, q, part);
     };
-    match followed(alloc, tables, q, part, old)? {
+    if old.fresh {
+        return Ok(old.view);
+    }
+    match followed(alloc, tables, q, part, old.view)? {
         Some(view) => Ok(view),
         None => begun(alloc, tables, q, part),
     }
@@ -80,21 +84,32 @@ fn answer_of_view<R: Threads + Sync, G: Gate>(
     q: &BoundQuery,
     part: &ModelPart,
     view: KeptView,
-) -> Result<(Option<KeptView>, Answer), Memory>
+) -> Result<(Option<StandingView>, Answer), Memory>
     requires model { q.now.model ≡ Some part.now }
     requires right { AllRight part.now view }
     ensures exact { (tables : Tables) → IsKept tables q.now part.now view → IfOk result (λ r. r.1 ≡ spec.answer_of tables q.now) }
-    ensures right { IfOk result (λ r. IfSome r.0 (AllRight part.now)) }
+    ensures standing { (tables : Tables) → IsKept tables q.now part.now view
+        → IfOk result (λ r. IfSome r.0 (IsStanding tables q.now part.now)) }
 {
-    let KeptView { lists, refs, parts } = view;
+    let KeptView {
+        lists,
+        refs,
+        parts,
+        lines,
+    } = view;
     let model = Lent {
         part,
         lists: lists.as_slice(),
         refs: refs.as_slice(),
     };
     let (parts, answer) = answer_of_parts(crew, alloc, q, &model, parts)?;
-    let view = KeptView { lists, refs, parts };
-    Ok((Some(view), answer))
+    let view = KeptView {
+        lists,
+        refs,
+        parts,
+        lines,
+    };
+    Ok((Some(StandingView { view, fresh: true }), answer))
 }
 
 // The same by the partitions.
@@ -108,6 +123,7 @@ fn answer_of_parts<R: Threads + Sync, G: Gate>(
     requires right { All (IsRight (model_of m.now)) parts }
     ensures exact { IfOk result (λ r. r.1 ≡ shown_of (result_map (printing.printed_rows q.now) (gathered_rows (model_of m.now) (inputs_of parts)))) }
     ensures right { IfOk result (λ r. All (IsRight (model_of m.now)) r.0) }
+    ensures same { IfOk result (λ r. inputs_of r.0 ≡ inputs_of parts) }
 {
     let mut parts = settled(crew, alloc, m, parts)?;
     match shown_parts(alloc, q, m, parts.as_mut_slice()) {
@@ -127,43 +143,46 @@ fn shown_parts(
     requires right { All (IsRight (model_of m.now)) parts.old }
     ensures exact { Gives result (result_map (printing.printed_rows q.now) (gathered_rows (model_of m.now) (inputs_of parts.old))) }
     ensures right { All (IsRight (model_of m.now)) parts.new }
+    ensures same { inputs_of parts.new ≡ inputs_of parts.old }
 {
     let gathered = gathered_parts(alloc, m, parts)?;
-    Ok(printed_rows(alloc, q, gathered.rows)?)
+    Ok(printed_keys(alloc, q, gathered.rows)?)
 }
 
-// What kept partitions make, one after another.
+// What kept partitions add, one after another.
 fn gathered_parts(
     alloc: Global,
     m: &Lent<'_>,
     parts: &mut [KeptPart],
-) -> Result<Gathered, Fail<QueryFault>>
+) -> Result<KeptRows, Fail<QueryFault>>
     requires right { All (IsRight (model_of m.now)) parts.old }
     ensures exact { Gives result (each_in_turn (spec.partition_step (model_of m.now)) (inputs_of parts.old) (0, [])) }
     ensures right { All (IsRight (model_of m.now)) parts.new }
+    ensures same { inputs_of parts.new ≡ inputs_of parts.old }
 {
-    let mut gathered = Gathered::new(alloc);
+    let mut gathered = KeptRows::new(alloc);
     for part in parts.iter_mut() {
         gathered = with_part(alloc, m, part, gathered)?;
     }
     Ok(gathered)
 }
 
-// What a kept partition makes of what is gathered so far.
+// What a kept partition makes of what is gathered so far. Its rows are made where that was not done yet.
 fn with_part(
     alloc: Global,
     m: &Lent<'_>,
     part: &mut KeptPart,
-    gathered: Gathered,
-) -> Result<Gathered, Fail<QueryFault>>
+    gathered: KeptRows,
+) -> Result<KeptRows, Fail<QueryFault>>
     requires right { IsRight (model_of m.now) part.old }
     ensures exact { Gives result (spec.partition_step (model_of m.now) part.old.input gathered) }
     ensures right { IsRight (model_of m.now) part.new }
     ensures same_input { part.new.input ≡ part.old.input }
 {
-    match made_of(alloc, m, part)? {
-        PartResult::Rows(cells) => with_cells(m, &part.input.key, gathered, cells),
-        PartResult::Fault(fault) => Err(Fail::Cause(fault)),
+    show(alloc, m, part)?;
+    match &part.shown {
+        Some(shown) => with_shown(&part.input.key, gathered, shown),
+        None => unreachable!(),
     }
 }
 

@@ -1,10 +1,12 @@
 //! The order in which rows are printed, and their printed columns.
-ghost use Rattle.std.specs.Prelude.{◌≡◌, false, map, unwrap_or, slice_index_or, IfOk};
+ghost use Rattle.std.specs.Prelude.{◌≡◌, ◌↔◌, true, false, length, map, unwrap_or, slice_index_or, IfOk, IsTrue};
+ghost use Rattle.std.specs.List.{range_with_len};
 ghost use Rattle.std.specs.Option.{option_copied};
 ghost use Rattle.mq_values.specs.Order.{cmp_value};
 ghost use Rattle.mq_values.specs.declared.value.Value.TheVariants.{Null};
 ghost use Rattle.mq_ir.specs.Partitions.{ascending};
 ghost use Rattle.mq_ir.specs.Printing as spec;
+ghost use Rattle.mq_ir.specs.Ready.{HaveLength};
 ghost use Rattle.mq_answers.specs.Printing.{cmp_rows, with_ascending};
 
 use crate::columns::Columns;
@@ -24,6 +26,50 @@ pub fn printed_rows<R: Columns + Drop>(
 {
     let rows = sorted(q, rows)?;
     shown(alloc, q.print.as_slice(), &rows)
+}
+
+/// The same of rows that others hold too. Where all their columns are printed in order, the rows are printed as they are.
+pub fn printed_keys(alloc: Global, q: &BoundQuery, rows: Vec<Key>) -> Result<Items<Key>, Memory>
+    ensures { IfOk result (λ printed. printed ≡ spec.printed_rows q.now rows.items) }
+{
+    if are_whole(q.print.as_slice(), rows.as_slice()) {
+        return Ok(Items::from_vec(sorted(q, rows)?));
+    }
+    printed_rows(alloc, q, rows)
+}
+
+// Whether the printed columns are those of each row, from the first to the last.
+fn are_whole(print: &[u32], rows: &[Key]) -> bool
+    ensures order { result ≡ true → print.now ≡ range_with_len 0 (length print.now) }
+    ensures wide { result ≡ true → HaveLength (length print.now) rows.now }
+{
+    are_in_order(print) && have_width(print.len(), rows)
+}
+
+// Whether these are the numbers from 0 on.
+fn are_in_order(numbers: &[u32]) -> bool
+    ensures { IsTrue result ↔ (numbers.now ≡ range_with_len 0 (length numbers.now)) }
+{
+    let mut next = 0;
+    for number in numbers {
+        if *number as usize != next {
+            return false;
+        }
+        next += 1;
+    }
+    true
+}
+
+// Whether each row has so many columns.
+fn have_width(width: usize, rows: &[Key]) -> bool
+    ensures { result ≡ true → HaveLength width rows.now }
+{
+    for row in rows {
+        if row.as_slice().len() != width {
+            return false;
+        }
+    }
+    true
 }
 
 /// The rows in the order in which they are printed; rows that this order does not tell apart stay in their order.

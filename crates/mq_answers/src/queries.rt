@@ -1,15 +1,14 @@
 //! What a query answers over tables.
-ghost use Rattle.std.specs.Prelude.{◌≡◌, ◌↔◌, length, IfOk, IsTrue};
-ghost use Rattle.std.specs.List.{range_with_len};
+ghost use Rattle.std.specs.Prelude.{◌≡◌, IfOk};
 ghost use Rattle.mq_values.specs.Answers.{Gives, result_map};
 ghost use Rattle.mq_ir.specs.Answer as spec;
 ghost use Rattle.mq_ir.specs.Printing as printing;
-ghost use Rattle.mq_ir.specs.Ready.{HaveLength, QueryIsReady};
+ghost use Rattle.mq_ir.specs.Ready.{QueryIsReady};
 ghost use Rattle.mq_answers.specs.Models.{MayRun};
 ghost use Rattle.mq_answers.specs.Queries.{rows_shown};
 
 use crate::models::model_rows;
-use crate::printing::{printed_rows, sorted};
+use crate::printing::{printed_keys, printed_rows};
 use crate::workers::Crew;
 use mq_io::Gate;
 use mq_ir::{Answer, BoundQuery, ModelPart};
@@ -50,7 +49,7 @@ fn rows_over<R: Threads + Sync, T: TableSet, G: Gate>(
     let items = items_over(alloc, tables, &q.from, &q.items)?;
     match &q.model {
         Some(part) => shown_cells(crew, alloc, tables, q, part, items),
-        None => Ok(shown_items(alloc, q, items)?),
+        None => Ok(printed_keys(alloc, q, items.into_vec())?),
     }
 }
 
@@ -68,38 +67,4 @@ fn shown_cells<R: Threads + Sync, T: TableSet, G: Gate>(
 {
     let rows = model_rows(crew, alloc, tables, items, part)?;
     Ok(printed_rows(alloc, q, rows)?)
-}
-
-// The items of a query without MODEL, as they are printed. Where it prints them all, its rows are printed as they are.
-fn shown_items(alloc: Global, q: &BoundQuery, items: Items<Key>) -> Result<Items<Key>, Memory>
-    requires { HaveLength (length q.now.items.items) items }
-    ensures { IfOk result (λ rows. rows ≡ printing.printed_rows q.now items) }
-{
-    let rows = items.into_vec();
-    if shows_all(q) {
-        return Ok(Items::from_vec(sorted(q, rows)?));
-    }
-    printed_rows(alloc, q, rows)
-}
-
-// Whether a query prints its items from the first to the last.
-fn shows_all(q: &BoundQuery) -> bool
-    ensures { IsTrue result ↔ (q.now.print ≡ range_with_len 0 (length q.now.items.items)) }
-{
-    let print = q.print.as_slice();
-    print.len() == q.items.items.len() && are_in_order(print)
-}
-
-// Whether these are the numbers from 0 on.
-fn are_in_order(numbers: &[u32]) -> bool
-    ensures { IsTrue result ↔ (numbers.now ≡ range_with_len 0 (length numbers.now)) }
-{
-    let mut next = 0;
-    for number in numbers {
-        if *number as usize != next {
-            return false;
-        }
-        next += 1;
-    }
-    true
 }

@@ -10,4 +10,3 @@ pub mod RefreshLemmas
 pub mod ScenarioLemmas
 pub mod StageLemmas
 pub mod StateLemmas
-pub mod UseLemmas

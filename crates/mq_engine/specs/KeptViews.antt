@@ -1,12 +1,15 @@
 -- What is kept of the views of a session.
-use Rattle.std.specs.Prelude.{◌≡◌, ℕ, Bool, List, [], ◌∷◌, Some, String, bytes_eq}
+use Rattle.std.specs.Prelude.{◌≡◌, ℕ, zero, suc, Bool, List, [], ◌∷◌, Some, String, bytes_eq}
 use Rattle.std.specs.String.{string_bytes}
 use Rattle.std.specs.declared.alloc.Global.{Global}
 use Rattle.mq_ir.specs.declared.catalog.View.{View}
 use Rattle.mq_ir.specs.declared.query.ModelPart.{ModelPart}
 use Rattle.mq_ir.specs.NamedItems.{item_of}
-use Rattle.mq_kept.specs.declared.kept_view.KeptView.{KeptView}
-use Rattle.mq_kept.specs.Kept.{AllRight}
+use Rattle.mq_ir.specs.Tables.{Tables}
+use Rattle.mq_tables.specs.declared.touched.Touched.{Touched}
+use Rattle.mq_delta_items.specs.Touching.{TableChanges}
+use Rattle.mq_kept.specs.declared.standing.StandingView.{StandingView}
+use Rattle.mq_kept.specs.Standing.{IsStanding}
 
 -- a key is this name
 abbrev pub goes_by : List ℕ → String Global → Bool
@@ -22,10 +25,30 @@ module _ {K : Type 0} (Right : View → K → Type 0) where
   AreRightAt views [] = Unit {0}
   AreRightAt views (entry ∷ entries) = IsRightAt views entry × AreRightAt views entries
 
--- what is kept is right for the model of this view
-abbrev pub IsKeptOf : View → KeptView → Type 0
-IsKeptOf view kept = (part : ModelPart) → view.query.model ≡ Some part → AllRight part kept
+-- what is kept of this view stands over these tables
+abbrev pub IsStandingOf : Tables → View → StandingView → Type 0
+IsStandingOf tables view standing = (part : ModelPart) → view.query.model ≡ Some part → IsStanding tables view.query part standing
 
--- all that is kept is right for the view under whose name it is kept
-abbrev pub AreKeptOf : List View → List (String Global × KeptView) → Type 0
-AreKeptOf = AreRightAt IsKeptOf
+-- all that is kept does so for the view under whose name it is kept
+abbrev pub AreStandingOf : Tables → List View → List (String Global × StandingView) → Type 0
+AreStandingOf tables = AreRightAt (IsStandingOf tables)
+
+-- what was kept stood so over the tables before a change of one of them
+pub record StoodAll (touched : Touched) (name : List ℕ) (now : Tables) (views : List View)
+    (entries : List (String Global × StandingView)) : Type 0 where
+  pub before : Tables
+  pub change : TableChanges touched name before now
+  pub standing : AreStandingOf before views entries
+
+-- the same of what is kept under one name
+pub record StoodAt (touched : Touched) (name : List ℕ) (now : Tables) (views : List View)
+    (entry : String Global × StandingView) : Type 0 where
+  pub before : Tables
+  pub change : TableChanges touched name before now
+  pub standing : IsRightAt (IsStandingOf before) views entry
+
+-- so many of these stand over the tables now, and the others over those before
+abbrev pub AreHalfway : Tables → Tables → List View → ℕ → List (String Global × StandingView) → Type 0
+AreHalfway before now views n [] = Unit {0}
+AreHalfway before now views zero (entry ∷ entries) = AreStandingOf before views (entry ∷ entries)
+AreHalfway before now views (suc n) (entry ∷ entries) = IsRightAt (IsStandingOf now) views entry × AreHalfway before now views n entries

@@ -62,7 +62,10 @@ impl Engine {
             return Err(Fail::Cause(Refused::BlockBroken(line)));
         }
         match self.block.take() {
-            Some(block) => Ok(block.commit(&mut self.tables)),
+            Some(block) => {
+                self.kept.pass_over();
+                Ok(block.commit(&mut self.tables))
+            }
             None => unreachable!(),
         }
     }

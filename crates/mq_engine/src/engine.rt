@@ -15,7 +15,7 @@ ghost use Rattle.mq_engine.specs.Sessions.{nothing, view_answer, view_explained,
 use crate::catalogs::table_entry;
 use crate::kept_views::KeptViews;
 use crate::open_block::OpenBlock;
-use crate::uses::user_of;
+use crate::uses::{table_of, user_of};
 use crate::views::NoView;
 use mq_answers::{Crew, Workers, answer_over, explained_over};
 use mq_io::Gate;
@@ -34,7 +34,7 @@ pub struct Engine {
     pub(crate) tables: Tables,
     pub(crate) catalog: Catalog,
     pub(crate) block: Option<OpenBlock>,
-    kept: KeptViews,
+    pub(crate) kept: KeptViews,
     // Where scenarios are kept.
     pub(crate) alloc: Global,
     workers: Workers,
@@ -50,7 +50,7 @@ impl Model for Engine {
     ghost use Rattle.mq_ir.specs.Statement.{State};
     ghost use Rattle.mq_engine.specs.Blocks.{state_over};
     ghost use Rattle.mq_engine.specs.Catalogs.{entry_of_table};
-    ghost use Rattle.mq_engine.specs.KeptViews.{AreKeptOf};
+    ghost use Rattle.mq_engine.specs.KeptViews.{AreStandingOf};
     ghost use Rattle.mq_engine.specs.Scenarios.{MayStand};
 
     ghost Value = { State };
@@ -62,7 +62,7 @@ impl Model for Engine {
     ghost invariant = { λ e. (e.catalog.tables ≡ map entry_of_table e.tables)
         × All (λ v. QueryIsReady v.query) e.catalog.views
         × MayStand e.catalog.scenarios
-        × AreKeptOf e.catalog.views e.kept.views.entries };
+        × AreStandingOf e.tables e.catalog.views e.kept.views.entries };
 }
 
 impl Engine {
@@ -112,6 +112,7 @@ impl Engine {
     {
         let name = t.name.copy()?;
         let entry = table_entry(alloc, t.name.copy()?, &t.schema)?;
+        self.kept.pass_over();
         self.tables.add(t)?;
         match self.catalog.tables.put(entry) {
             Ok(()) => Ok(()),
@@ -156,6 +157,7 @@ impl Engine {
         if let Some(user) = user_of(&self.catalog, name) {
             return Err(Fail::Cause(Refused::InUse(user.copy()?)));
         }
+        self.kept.pass_over();
         self.tables.remove(name);
         self.catalog.tables.remove(name);
         Ok(())
@@ -170,7 +172,8 @@ impl Engine {
     }
 
     /// Changes the rows of a table, where no block is there, and answers how many rows are counted; or refuses the change, and
-    /// then nothing is changed (docs/MEANING.md, "Changes").
+    /// then nothing is changed (docs/MEANING.md, "Changes"). What is kept of views follows; want of memory there drops it, and never
+    /// refuses the change.
     pub fn apply<G: Gate>(
         &mut self,
         alloc: Global,
@@ -181,7 +184,11 @@ impl Engine {
         ensures exact { Gives (result_map (λ count. (self.new, Counted count ∷ [])) result) (spec.change_step self.old c.now) }
         ensures err { OnErr result (self.new ≡ self.old) }
     {
-        self.tables.apply(alloc, c)
+        let touched = self.tables.change(alloc, c)?;
+        let table = table_of(c).as_str();
+        self.kept
+            .follow(alloc, &self.tables, &self.catalog.views, table, &touched);
+        Ok(touched.count() as u64)
     }
 
     /// What the view of this name answers over the tables as they stand: its rows as they are printed, or its first fault.

@@ -42,7 +42,7 @@ unsettled_right model inputs h = All-from_recursion (IsRight model) (map unsettl
   where
     by : (ps : List PartInput) → AllByRecursion (IsReady model.part) ps → AllByRecursion (IsRight model) (map unsettled ps)
     by [] a = tt
-    by (p ∷ ps) a = (record { ready = a.0; found = tt }, by ps a.1)
+    by (p ∷ ps) a = (record { ready = a.0; found = tt; shown = tt }, by ps a.1)
 
 -- a model by its lists and arrays
 pub same_model : (part : ModelPart) (lists other : List (List Tuple)) (refs more : List Cells) → lists ≡ other → refs ≡ more → model_with part lists refs ≡ model_with part other more

@@ -1,8 +1,8 @@
 -- What a query with MODEL reads of tables.
-use Rattle.std.proofs.Common.{◌≡◌, false, List, [], ◌∷◌, Option, Some, Result, Ok, Err, refl, sym, ap, ◌∙◌}
-use Rattle.std.specs.Prelude.{is_ok}
+use Rattle.std.proofs.Common.{◌≡◌, ℕ, false, List, [], ◌∷◌, Option, Some, None, Result, Ok, Err, refl, sym, ap, subst, ◌∙◌}
+use Rattle.std.specs.Prelude.{is_ok, IfSome}
 use Rattle.std.specs.List.{enumerate_from}
-use Rattle.std.specs.Option.{option_map_or}
+use Rattle.std.specs.Option.{option_map, option_map_or}
 use Rattle.mq_values.specs.Answers.{Gives, result_map}
 use Rattle.mq_values.specs.declared.faults.QueryFault.{QueryFault}
 use Rattle.mq_values.specs.declared.memory.Fail.{Fail}
@@ -19,9 +19,12 @@ use Rattle.mq_ir.specs.Placed.{at_partition, plain_fault}
 use Rattle.mq_ir.specs.Printing.{printed_rows}
 use Rattle.mq_ir.specs.References.{reference_over}
 use Rattle.mq_ir.specs.Results.{◌>>=◌, each, each_in_turn, marked}
-use Rattle.mq_ir.specs.Tables.{Tables}
+use Rattle.mq_ir.specs.Tables.{Table, Tables, rows_of as rows_standing, table_at}
 use Rattle.mq_ir.specs.Unfolding.{Model}
-use Rattle.mq_kept.specs.Kept.{IsBegun, model_with, read_over}
+use Rattle.mq_delta_items.specs.LineLaws.{lines_tell}
+use Rattle.mq_delta_items.specs.Lines.{GoesByRow, items_in, lines_of}
+use Rattle.mq_tables.specs.Rows.{rows_at}
+use Rattle.mq_kept.specs.Kept.{AreLinesOver, IsBegun, model_with, read_over}
 use Rattle.mq_kept.specs.Sources.{read_with}
 
 -- a fault of a list is marked as that of its item
@@ -106,3 +109,38 @@ module _ (tables : Tables) (q : BoundQuery) (part : ModelPart) where
 
   pub not_followed : (fault : QueryFault) → read_over tables q part ≡ Err fault → is_ok (read_over tables q part) ≡ false
   not_followed fault h = ap is_ok h
+
+some_one : {A : Type 0} {x y : A} → Some x ≡ Some y → x ≡ y
+some_one h = cc
+
+-- lines that are handed on
+pub same_lines : (tables : Tables) (q : BoundQuery) {lines found : Option (List (Option Tuple))} → lines ≡ found → IfSome found (AreLinesOver tables q)
+    → IfSome lines (AreLinesOver tables q)
+same_lines tables q e h = subst (λ (o : Option (List (Option Tuple))). IfSome o (AreLinesOver tables q)) (sym e) h
+
+-- the rows of a table that is there
+pub rows_there : (tables : Tables) (table : List ℕ) (rows : List Tuple) → rows_at tables table ≡ Some rows → rows_standing tables table ≡ rows
+rows_there tables table rows at = by (table_at tables table) at
+  where
+    by : (o : Option Table) → option_map (λ (t : Table). t.rows) o ≡ Some rows → option_map_or (λ (t : Table). t.rows) o [] ≡ rows
+    by None h = absurd (cc)
+    by (Some t) h = some_one h
+
+-- the lines of the rows of the only table of a query
+pub lines_there : (tables : Tables) (q : BoundQuery) (table : List ℕ) (rows : List Tuple) → GoesByRow q.from q.items table → rows_at tables table ≡ Some rows
+    → (found : Option (List (Option Tuple))) → found ≡ lines_of q.from q.items rows → IfSome found (AreLinesOver tables q)
+lines_there tables q table rows goes at None e = tt
+lines_there tables q table rows goes at (Some lines) e = record {
+  table = table;
+  by_row = goes;
+  lines_are = ap (lines_of q.from q.items) (rows_there tables table rows at) ∙ sym e;
+}
+
+-- .. tell its items
+pub lines_items : (tables : Tables) (q : BoundQuery) (lines : List (Option Tuple)) → AreLinesOver tables q lines
+    → marked (plain_fault 0) (items_over tables q.from q.items) ≡ Ok (items_in lines)
+lines_items tables q lines are = ap (marked (plain_fault 0)) (lines_tell tables q.from q.items are.table lines are.by_row are.lines_are)
+
+pub lines_found : (tables : Tables) (q : BoundQuery) (found : Option (List (Option Tuple))) (lines : List (Option Tuple)) → found ≡ Some lines
+    → IfSome found (AreLinesOver tables q) → marked (plain_fault 0) (items_over tables q.from q.items) ≡ Ok (items_in lines)
+lines_found tables q found lines is h = lines_items tables q lines (subst (λ (o : Option (List (Option Tuple))). IfSome o (AreLinesOver tables q)) is h)

@@ -1,5 +1,5 @@
 -- What is kept of a view with MODEL, and when it is right.
-use Rattle.std.specs.Prelude.{◌≡◌, Bool, true, false, List, map, None, Option, Some, Result, Ok, Err, IfSome, is_ok}
+use Rattle.std.specs.Prelude.{◌≡◌, ℕ, Bool, true, false, List, length, map, None, Option, Some, Result, Ok, Err, IfSome, is_ok}
 use Rattle.std.specs.declared.alloc.Global.{Global}
 use Rattle.std.specs.declared.sync.Arc.{Arc}
 use Rattle.std.specs.List.{All}
@@ -11,20 +11,22 @@ use Rattle.mq_values.specs.declared.memory.Fail.TheVariants as fail
 use Rattle.mq_ir.specs.declared.query.Answer.TheVariants.{Fault}
 use Rattle.mq_ir.specs.declared.query.BoundQuery.{BoundQuery}
 use Rattle.mq_ir.specs.declared.query.ModelPart.{ModelPart}
+use Rattle.mq_ir.specs.declared.query.OutCell.{OutCell}
 use Rattle.mq_ir.specs.declared.query.PartInput.{PartInput}
 use Rattle.mq_ir.specs.declared.query.PartResult.TheVariants as part
-use Rattle.mq_ir.specs.Answer.{answer_of, result_in}
+use Rattle.mq_ir.specs.Answer.{answer_of, columns_of, result_in, returned}
 use Rattle.mq_ir.specs.Automatic.{levelled_shape}
 use Rattle.mq_ir.specs.Explaining.{model_with_items}
 use Rattle.mq_ir.specs.Iteration.{input_fault}
 use Rattle.mq_ir.specs.Partitions.{Tuple, partitions}
 use Rattle.mq_ir.specs.Ready.{IsReady}
-use Rattle.mq_ir.specs.Tables.{Tables}
+use Rattle.mq_ir.specs.Tables.{Tables, rows_of}
 use Rattle.mq_ir.specs.Unfolding.{Model}
 use Rattle.mq_cells.specs.IndexedStores.{input_in, results_of}
 use Rattle.mq_auto.specs.Findings.{IsLevelled}
 use Rattle.mq_auto.specs.Meaning.{HoldsValues}
 use Rattle.mq_delta_cells.specs.Courses.{IsCourse}
+use Rattle.mq_delta_items.specs.Lines.{GoesByRow, lines_of}
 use Rattle.mq_sources.specs.References.{cells_of_arrays}
 use Rattle.mq_kept.specs.declared.kept_view.KeptPart.{KeptPart}
 use Rattle.mq_kept.specs.declared.kept_view.KeptView.{KeptView}
@@ -32,6 +34,7 @@ use Rattle.mq_kept.specs.declared.kept_view.PartState.{PartState}
 use Rattle.mq_kept.specs.declared.kept_view.PartState.TheVariants.{NotKept, Automatic, Made}
 use Rattle.mq_kept.specs.declared.kept_view.ShapedCells.{ShapedCells}
 use Rattle.mq_kept.specs.declared.kept_view.SharedShape.{SharedShape}
+use Rattle.mq_kept.specs.declared.kept_view.ShownRows.{ShownRows}
 
 -- ---- a partition
 
@@ -67,10 +70,18 @@ IsFound model input NotKept = Unit {0}
 IsFound model input (Automatic kept) = HasValues model input kept
 IsFound model input (Made made) = made ≡ result_in model input
 
+-- the rows that the cells of a partition add to an answer, and how many cells these are
+pub record IsShown (model : Model) (input : PartInput) (shown : ShownRows) : Type 0 where
+  pub cells : List OutCell
+  pub made : result_in model input ≡ part.Rows cells
+  pub count : shown.count ≡ length cells
+  pub rows : shown.rows ≡ map (columns_of input.key) (returned model.part cells)
+
 -- the rules may run over the input of a partition, and what was found of it is right
 pub record IsRight (model : Model) (part : KeptPart) : Type 0 where
   pub ready : IsReady model.part part.input
   pub found : IsFound model part.input part.state
+  pub shown : IfSome part.shown (IsShown model part.input)
 
 abbrev pub is_settled : PartState → Bool
 is_settled NotKept = false
@@ -79,7 +90,7 @@ is_settled (Made made) = true
 
 -- a partition of which nothing was found yet
 abbrev pub unsettled : PartInput → KeptPart
-unsettled input = record { input = input; state = NotKept }
+unsettled input = record { input = input; state = NotKept; shown = None }
 
 -- ---- a view
 
@@ -105,10 +116,17 @@ read_over tables q part = result_map (λ found. (partitions part found.0, found.
 abbrev pub view_in : ModelPart → KeptView → List PartInput × Model
 view_in part kept = (inputs_of kept.parts, model_in part kept)
 
+-- these are the lines of a query that takes the rows of one table
+pub record AreLinesOver (tables : Tables) (q : BoundQuery) (lines : List (Option Tuple)) : Type 0 where
+  pub table : List ℕ
+  pub by_row : GoesByRow q.from q.items table
+  pub lines_are : lines_of q.from q.items (rows_of tables table) ≡ Some lines
+
 -- what is kept of a view is what its query reads of these tables, and right
 pub record IsKept (tables : Tables) (q : BoundQuery) (part : ModelPart) (kept : KeptView) : Type 0 where
   pub read : read_over tables q part ≡ Ok (view_in part kept)
   pub right : AllRight part kept
+  pub lines : IfSome kept.lines (AreLinesOver tables q)
 
 -- what is kept of a view from now on, or the fault that its query answers
 abbrev pub IsBegun : Tables → BoundQuery → ModelPart → Result KeptView (Fail QueryFault) → Type 0

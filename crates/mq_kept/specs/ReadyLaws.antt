@@ -177,7 +177,7 @@ module _ (part : ModelPart) (items : List Tuple) where
   cell_keys : (key : Tuple) → keys_of (input_of part items key).cells ≡ ascending cmp_key (keys_at key)
   cell_keys key = mapped_ascending (λ (row : Tuple × Tuple). row.0) cmp_key (rows_at key)
 
-  partition_ready : LeftsHavePlaces part → Each Long items → (key : Tuple) → IsReady part (input_of part items key)
+  pub partition_ready : LeftsHavePlaces part → Each Long items → (key : Tuple) → IsReady part (input_of part items key)
   partition_ready lefts a key = record {
     lefts = lefts;
     wide = All-from_recursion Wide (keys_of (input_of part items key).cells)

@@ -35,14 +35,21 @@ pub fn begun<T: TableSet>(
 pub fn unsettled(alloc: Global, found: Sources) -> Result<KeptView, Memory>
     ensures same { IfOk result (λ view. (part : ModelPart) → view_in part view ≡ found_in part found) }
     ensures right { (part : ModelPart) → All (IsReady part) found.inputs → IfOk result (AllRight part) }
+    ensures lines { IfOk result (λ view. view.lines ≡ found.lines) }
 {
     let Sources {
         inputs,
         lists,
         refs,
+        lines,
     } = found;
     let parts = unsettled_parts(alloc, inputs)?;
-    Ok(KeptView { lists, refs, parts })
+    Ok(KeptView {
+        lists,
+        refs,
+        parts,
+        lines,
+    })
 }
 
 // Partitions of which nothing was found yet.

@@ -33,14 +33,14 @@ pub fn followed<T: TableSet>(
     ensures { IfOk result (IsFollowed (T.tables tables.now) q.now part.now) }
 {
     match sources_over(alloc, tables, q, part) {
-        Ok(found) => Ok(Some(carried(alloc, part, old, found)?)),
+        Ok(found) => Ok(Some(brought(alloc, part, old, found)?)),
         Err(Fail::Cause(_fault)) => Ok(None),
         Err(Fail::Memory) => Err(Memory),
     }
 }
 
 // What is kept over these sources, by what was kept before.
-fn carried(
+fn brought(
     alloc: Global,
     part: &ModelPart,
     old: KeptView,
@@ -50,9 +50,10 @@ fn carried(
     requires ready { All (IsReady part.now) found.inputs }
     ensures same { IfOk result (λ view. view_in part.now view ≡ found_in part.now found) }
     ensures right { IfOk result (AllRight part.now) }
+    ensures lines { IfOk result (λ view. view.lines ≡ found.lines) }
 {
     if has_same_model(&old, &found) {
-        carried_on(alloc, part, old.parts, found)
+        brought_on(alloc, part, old.parts, found)
     } else {
         unsettled(alloc, found)
     }
@@ -68,7 +69,7 @@ fn has_same_model(old: &KeptView, found: &Sources) -> bool
 }
 
 // The same where they are.
-fn carried_on(
+fn brought_on(
     alloc: Global,
     part: &ModelPart,
     parts: Items<KeptPart>,
@@ -78,11 +79,13 @@ fn carried_on(
     requires ready { All (IsReady part.now) found.inputs }
     ensures same { IfOk result (λ view. view_in part.now view ≡ found_in part.now found) }
     ensures right { IfOk result (AllRight part.now) }
+    ensures lines { IfOk result (λ view. view.lines ≡ found.lines) }
 {
     let Sources {
         inputs,
         lists,
         refs,
+        lines,
     } = found;
     let model = Lent {
         part,
@@ -90,7 +93,12 @@ fn carried_on(
         refs: refs.as_slice(),
     };
     let parts = parts_after(alloc, &model, parts, inputs)?;
-    Ok(KeptView { lists, refs, parts })
+    Ok(KeptView {
+        lists,
+        refs,
+        parts,
+        lines,
+    })
 }
 
 // The partitions with these inputs, by those of before. Both ascend by their keys, which tells only what it costs.

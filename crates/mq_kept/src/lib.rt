@@ -4,19 +4,29 @@
 #![tactic(auto)]
 
 mod beginning;
+mod carrying;
 mod comparing;
 mod copying;
 mod following;
 mod kept_view;
 mod moving;
+mod reading;
 mod refreshing;
+mod renewing;
 mod settling;
 mod shapes;
+mod showing;
 mod sources;
+mod standing;
 
 pub use beginning::begun;
+pub use carrying::{MOST_FOLLOWED, carried};
 pub use following::followed;
-pub use kept_view::{KeptPart, KeptView, PartState, ShapedCells, SharedShape};
+pub use kept_view::{KeptPart, KeptView, PartState, ShapedCells, SharedShape, ShownRows};
+pub use reading::query_reads;
 pub use refreshing::refreshed;
-pub use settling::{made_of, settle, settle_all};
+pub use renewing::{renew, renew_parts};
+pub use settling::{settle, settle_all};
 pub use shapes::LONGEST_WITH_COURSE;
+pub use showing::show;
+pub use standing::StandingView;

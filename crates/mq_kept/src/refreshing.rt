@@ -16,15 +16,15 @@ ghost use Rattle.mq_delta_cells.specs.Seeds.{is_moved};
 ghost use Rattle.mq_kept.specs.Kept.{HasValues, IsFound, IsRight, IsShared};
 ghost use Rattle.mq_kept.specs.Refreshed.{IsWalked};
 
-use crate::comparing::is_same_input;
 use crate::kept_view::{KeptPart, PartState, ShapedCells, SharedShape};
 use crate::moving::moved_between;
+use crate::renewing::renew;
 use crate::shapes::shared;
 use mq_auto::{judge, serves};
 use mq_auto_shape::IndexedShape;
 use mq_cells::IndexedCells;
 use mq_change_laws::shapes_are_sound;
-use mq_delta_cells::{Course, course_of, propagate_over, propagate_values};
+use mq_delta_cells::{Course, course_for_walk, propagate_over, propagate_values};
 use mq_ir::{CellName, Model, PartInput, PartResult, PartShape};
 use mq_levels::Leveled;
 use mq_values::{Items, Memory};
@@ -44,16 +44,13 @@ pub fn refreshed(
     ensures input { IfOk result (λ new. new.input ≡ input) }
     ensures right { IfOk result (IsRight (model_of m.now)) }
 {
-    if is_same_input(&part.input, &input) {
-        return Ok(part);
-    }
-    let KeptPart { input: old, state } = part;
-    let state = state_after(alloc, m, &old, &input, state)?;
-    Ok(KeptPart { input, state })
+    let mut part = part;
+    renew(alloc, m, &mut part, input)?;
+    Ok(part)
 }
 
-// What is found of the new input by what was found of the old one.
-fn state_after(
+/// What is found of the new input by what was found of the old one.
+pub fn state_after(
     alloc: Global,
     m: &Model<'_>,
     old: &PartInput,
@@ -227,7 +224,7 @@ fn walked_over(
         cells: index,
     } = found;
     let Leveled { rounds, rest } = leveled;
-    let course = course_of(alloc, m, &shape, rounds, base, index)?;
+    let course = course_for_walk(alloc, m, &shape, rounds, base, index)?;
     propagate_over(alloc, m, old, &shape, &course, moved, cells)?;
     Ok(indexed_by(shape, course, rest))
 }

@@ -2,17 +2,15 @@
 ghost use Rattle.std.specs.Prelude.{◌≡◌, true, IfOk, OnOk};
 ghost use Rattle.std.specs.List.{All};
 ghost use Rattle.mq_ir.specs.declared.query.PartInput.{PartInput};
-ghost use Rattle.mq_ir.specs.Answer.{result_in};
 ghost use Rattle.mq_ir.specs.Ready.{IsReady};
 ghost use Rattle.mq_ir.specs.Unfolding.{Model, model_of};
 ghost use Rattle.mq_refs.specs.Orders.{IsOrderOf};
-ghost use Rattle.mq_kept.specs.Kept.{HasValues, IsFound, IsRight, IsServing, inputs_of};
+ghost use Rattle.mq_kept.specs.Kept.{IsFound, IsRight, IsServing, inputs_of};
 ghost use Rattle.mq_kept.specs.Kept as spec;
 
-use crate::copying::copy_of_result;
 use crate::kept_view::{KeptPart, PartState, ShapedCells, SharedShape};
 use crate::shapes::shape_after;
-use mq_auto::{stored_result, values_over};
+use mq_auto::values_over;
 use mq_cells::{Cells, MAX_ASSIGNMENTS};
 use mq_ir::{Model as Lent, PartInput, PartResult};
 use mq_refs::{RefsOrder, refs_order};
@@ -162,45 +160,4 @@ fn found_automatic(
         }
         Err(fault) => Ok(PartState::Made(PartResult::Fault(fault))),
     }
-}
-
-/// What the rules make of a partition, which is run first where that was not done yet. Its store counts what is read of it; what was
-/// found stays right, also after `Memory`.
-pub fn made_of(alloc: Global, m: &Lent<'_>, part: &mut KeptPart) -> Result<PartResult, Memory>
-    requires right { IsRight (model_of m.now) part.old }
-    ensures exact { IfOk result (λ r. r ≡ result_in (model_of m.now) part.old.input) }
-    ensures right { IsRight (model_of m.now) part.new }
-    ensures same_input { part.new.input ≡ part.old.input }
-{
-    settle(alloc, m, part)?;
-    made_of_settled(alloc, m, part)
-}
-
-// The same where it was run.
-fn made_of_settled(alloc: Global, m: &Lent<'_>, part: &mut KeptPart) -> Result<PartResult, Memory>
-    requires settled { spec.is_settled part.old.state ≡ true }
-    requires right { IsRight (model_of m.now) part.old }
-    ensures exact { IfOk result (λ r. r ≡ result_in (model_of m.now) part.old.input) }
-    ensures right { IsRight (model_of m.now) part.new }
-    ensures same_input { part.new.input ≡ part.old.input }
-{
-    match &mut part.state {
-        PartState::NotKept => unreachable!(),
-        PartState::Automatic(kept) => made_of_values(alloc, m, &part.input, kept),
-        PartState::Made(made) => copy_of_result(alloc, made),
-    }
-}
-
-// What the values that stand in a store come to.
-fn made_of_values(
-    alloc: Global,
-    m: &Lent<'_>,
-    p: &PartInput,
-    kept: &mut ShapedCells,
-) -> Result<PartResult, Memory>
-    requires { HasValues (model_of m.now) p.now kept.old }
-    ensures exact { IfOk result (λ r. r ≡ result_in (model_of m.now) p.now) }
-    ensures same { HasValues (model_of m.now) p.now kept.new }
-{
-    stored_result(alloc, m, p, &kept.shape.found.shape, &mut kept.cells)
 }

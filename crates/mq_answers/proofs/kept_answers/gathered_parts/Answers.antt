@@ -28,6 +28,11 @@ pub returns-in_err-gathered-clause-right : goal.returns-in_err-gathered-clause-r
 returns-in_err-gathered-clause-right c =
     All-set (IsRight (model_of c.args.m.now)) c.loop-part.parts c.loop-part.part-index c.with_part.new.part c.with_part.ensures.right c.loop-part.invariant.right
 
+pub returns-in_err-gathered-clause-same : goal.returns-in_err-gathered-clause-same
+returns-in_err-gathered-clause-same c =
+    map-set_same (λ (part : KeptPart). part.input) c.loop-part.parts c.loop-part.part-index c.with_part.new.part c.part-item.result c.with_part.ensures.same_input
+    ∙ c.loop-part.invariant.same
+
 pub loop-part-preserved : goal.loop-part-preserved
 loop-part-preserved c =
     let parts = c.loop-part.parts in

@@ -1,7 +1,8 @@
-use Rattle.std.proofs.Common.{length, subst}
+use Rattle.std.proofs.Common.{ap, length, subst, ◌∙◌}
 use Rattle.std.specs.Option.{IfSome}
 use Rattle.std.proofs.lemmas.Result.{err_from_is_err_and}
 use Rattle.mq_values.specs.Answers.{Gives}
+use Rattle.mq_ir.specs.Printing.{printed_rows}
 use Rattle.mq_ir.specs.Ready.{ModelIsReady}
 use Rattle.mq_kept.specs.ReadyLaws.{items_have}
 use Rattle.mq_answers.proofs.AnswerLemmas.{may_run, no_items, with_model, without_model}
@@ -28,11 +29,8 @@ returns-in-Some g c =
     (with_model tables q c.in_ok-items.items c.in-Some.part c.in_ok-items.ensures c.in-Some.is)
     c.shown_cells.ensures
 
-pub shown_items-requires : goal.shown_items-requires
-shown_items-requires g c =
+pub returns-in_ok-printed_keys-in-None : goal.returns-in_ok-printed_keys-in-None
+returns-in_ok-printed_keys-in-None g c =
     let q = c.args.q.now in
-    items_have (g.T.TableSet.tables c.args.tables.now) q.from q.items c.in_ok-items.items c.in_ok-items.ensures
-
-pub returns-in_ok-shown_items-in-None : goal.returns-in_ok-shown_items-in-None
-returns-in_ok-shown_items-in-None g c =
-    without_model (g.T.TableSet.tables c.args.tables.now) c.args.q.now c.in_ok-items.items c.in_ok-shown_items-in-None.field-0 c.in_ok-items.ensures c.in-None.is c.in_ok-shown_items-in-None.ensures
+    without_model (g.T.TableSet.tables c.args.tables.now) q c.in_ok-items.items c.in_ok-printed_keys-in-None.field-0 c.in_ok-items.ensures c.in-None.is
+    (c.in_ok-printed_keys-in-None.ensures ∙ ap (printed_rows q) c.into_vec.ensures)

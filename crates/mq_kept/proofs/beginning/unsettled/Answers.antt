@@ -1,4 +1,4 @@
-use Rattle.std.proofs.Common.{List, ap, subst, sym, ◌∙◌}
+use Rattle.std.proofs.Common.{List, ap, refl, subst, sym, ◌∙◌}
 use Rattle.std.specs.List.{All}
 use Rattle.mq_ir.specs.declared.query.PartInput.{PartInput}
 use Rattle.mq_sources.specs.References.{cells_of_arrays}
@@ -15,4 +15,5 @@ returns c =
           λ part ready.
           let model = model_with part found.lists (cells_of_arrays found.refs) in
           subst (All (IsRight model)) (sym c.in_ok-parts.ensures) (unsettled_right model found.inputs ready);
+      lines = refl;
     }

@@ -17,5 +17,5 @@ returns-in-None c =
     record {
       left = c.taken_at.ensures.left model c.requires.right;
       input = ap (λ (part : KeptPart). part.input) c.new.ensures;
-      right = subst (IsRight model) (sym c.new.ensures) (record { ready = c.requires.ready; found = tt });
+      right = subst (IsRight model) (sym c.new.ensures) (record { ready = c.requires.ready; found = tt; shown = tt });
     }

@@ -4,8 +4,8 @@ use Rattle.mq_auto.specs.Findings.{IsLevelled}
 use Rattle.mq_auto_shape.specs.declared.indexed.IndexedShape.{IndexedShape}
 use Rattle.mq_kept.proofs.refreshing.walked_over.Goals as goal
 
-pub course_of-requires : goal.course_of-requires
-course_of-requires c =
+pub course_for_walk-requires : goal.course_for_walk-requires
+course_for_walk-requires c =
     record { own = c.requires.own; ruled = c.requires.ruled; rounds = c.requires.rounds; base = c.requires.indexed.base; cells = c.requires.indexed.cells }
 
 pub returns-clause-same : goal.returns-clause-same

@@ -13,5 +13,5 @@ answer_of-requires-clause-ready g c κs within =
     let is_wanted : View → Bool = λ v. is_name v.name c.args.view.now in
     all_found is_wanted (λ (v : View). QueryIsReady v.query) c.self.inside.catalog.views c.in-Some.found.now c.self.invariant.1 (sym c.in-Some.ensures)
 
-pub answer_of-requires-clause-right : goal.answer_of-requires-clause-right
-answer_of-requires-clause-right g c κs within = c.self.invariant.3
+pub answer_of-requires-clause-standing : goal.answer_of-requires-clause-standing
+answer_of-requires-clause-standing g c κs within = c.self.invariant.3

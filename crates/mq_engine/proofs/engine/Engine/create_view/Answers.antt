@@ -4,7 +4,7 @@ use Rattle.mq_ir.specs.Names.{is_view}
 use Rattle.mq_ir.specs.declared.catalog.View.{View}
 use Rattle.mq_ir.specs.Statement.{State}
 use Rattle.mq_engine.specs.Catalogs.{catalog_of}
-use Rattle.mq_engine.specs.KeptViews.{IsKeptOf}
+use Rattle.mq_engine.specs.KeptViews.{IsStandingOf}
 use Rattle.mq_engine.proofs.KeptLemmas.{right_put_or_not}
 use Rattle.mq_engine.proofs.StateLemmas.{ready_put_or_not}
 use Rattle.mq_engine.proofs.engine.Engine.create_view.Goals as goal
@@ -22,6 +22,6 @@ invariant_of-self g c =
       c.self.invariant.0,
       ready_put_or_not c.put.result views c.put.new.self v c.put.ensures.ok c.put.ensures.err c.self.invariant.1 c.requires.ready,
       c.self.invariant.2,
-      right_put_or_not IsKeptOf c.args.name.now c.put.result views c.put.new.self v c.take.new.self.views.entries c.put.ensures.ok c.put.ensures.err
-          c.in_ok-own_name.ensures c.take.ensures.gone (c.take.ensures.left views c.self.invariant.3),
+      right_put_or_not (IsStandingOf c.self.inside.tables) c.args.name.now c.put.result views c.put.new.self v c.take.new.self.views.entries c.put.ensures.ok c.put.ensures.err
+          c.in_ok-own_name.ensures c.take.ensures.gone (c.take.ensures.left c.self.inside.tables views c.self.invariant.3),
     )

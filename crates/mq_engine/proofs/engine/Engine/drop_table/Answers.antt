@@ -13,7 +13,7 @@ invariant_of-self c = (
   tables_kept c.self.inside.catalog.tables c.self.inside.tables c.self.invariant.0 c.args.name.now c.remove.new.self c.remove-2.new.self c.remove.ensures.others c.remove-2.ensures,
   c.self.invariant.1,
   c.self.invariant.2,
-  c.self.invariant.3,
+  c.pass_over.ensures c.self.inside.tables c.remove.new.self c.self.inside.catalog.views c.self.invariant.3,
 )
 
 pub returns-in-Some-clause-exact : goal.returns-in-Some-clause-exact

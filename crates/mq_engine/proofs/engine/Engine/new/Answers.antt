@@ -12,5 +12,5 @@ invariant_of-result c = (
   c.new-2.ensures ∙ ap (map entry_of_table) (sym c.new.ensures),
   subst (All (λ (v : View). QueryIsReady v.query)) (sym c.new-3.ensures) (All-nil (λ (v : View). QueryIsReady v.query)),
   subst MayStand (sym c.new-4.ensures) (record { own = tt; bounded = All-nil IsBounded }),
-  c.new-5.ensures c.new-3.result,
+  c.new-5.ensures c.new.result c.new-3.result,
 )
