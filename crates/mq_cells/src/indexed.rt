@@ -203,6 +203,14 @@ impl IndexedCells {
         Ok(())
     }
 
+    /// How many slots were read so far, up to `MAX_LOOKS`. It takes no memory.
+    #[tactic(auto, unfolding(crate::specs::IndexedStores::looks_of))]
+    pub fn looks(&self) -> u64
+        ensures { result ≡ looks_of self.now }
+    {
+        self.looks
+    }
+
     /// All values, lent, where no result that was put is a fault or poisoned. It takes no memory.
     #[tactic(auto, unfolding(crate::specs::IndexedStores::input_in, crate::specs::IndexedStores::results_of, crate::specs::IndexedStores::sound_in))]
     pub fn lent(&self) -> Option<LentStore<'_>>
