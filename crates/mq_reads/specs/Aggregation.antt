@@ -1,7 +1,9 @@
 -- An aggregate on its way, whose fault waits until all values are taken.
-use Rattle.std.specs.Prelude.{List, Result, Err}
+use Rattle.std.specs.Prelude.{List, Option, Result, Ok, Err}
+use Rattle.mq_values.specs.Number.{Number}
 use Rattle.mq_values.specs.Tally.{outcome}
 use Rattle.mq_values.specs.declared.faults.ValueFault.{ValueFault}
+use Rattle.mq_values.specs.declared.tally.Tally.TheVariants as tally_of
 use Rattle.mq_values.specs.declared.value.Value.{Value}
 use Rattle.mq_reads.specs.declared.aggregates.Aggregation.{Aggregation}
 use Rattle.mq_reads.specs.declared.aggregates.Aggregation.TheVariants as aggregation
@@ -10,3 +12,8 @@ use Rattle.mq_reads.specs.declared.aggregates.Aggregation.TheVariants as aggrega
 abbrev pub comes_to : Aggregation → List Value → Result Value ValueFault
 comes_to (aggregation.Running tally) values = outcome tally values
 comes_to (aggregation.Faulted fault) values = Err fault
+
+-- a sum on its way, by the total of its numbers so far, or where it left the range
+abbrev pub sum_at : Result (Option Number) ValueFault → Aggregation
+sum_at (Ok total) = aggregation.Running (tally_of.Sum total)
+sum_at (Err fault) = aggregation.Faulted fault

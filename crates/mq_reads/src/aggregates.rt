@@ -1,11 +1,14 @@
 //! Aggregates of values, at once and one by one.
-ghost use Rattle.std.specs.Prelude.{◌≡◌, List, [], ◌∷◌, IfOk};
+ghost use Rattle.std.specs.Prelude.{◌≡◌, List, [], ◌∷◌, Ok, unwrap_or, IfOk};
+ghost use Rattle.std.specs.Option.{option_copied};
 ghost use Rattle.mq_values.specs.Aggregate.{aggregate as spec_aggregate};
 ghost use Rattle.mq_values.specs.Answers.{Gives};
+ghost use Rattle.mq_values.specs.Arithmetic.{sum_of};
 ghost use Rattle.mq_values.specs.declared.value.Value.{Value};
-ghost use Rattle.mq_reads.specs.Aggregation.{comes_to};
+ghost use Rattle.mq_values.specs.declared.value.Value.TheVariants.{Null};
+ghost use Rattle.mq_reads.specs.Aggregation.{comes_to, sum_at};
 
-use mq_values::{Agg, Fail, Memory, Tally, Value, ValueFault};
+use mq_values::{Agg, Fail, Memory, Num, Tally, Value, ValueFault, add};
 
 /// An aggregate on its way over some values, which it takes one by one in their order. A fault is kept until all
 /// values are taken, so that one that comes on the way to a later value can be told before it.
@@ -46,6 +49,37 @@ impl Aggregation {
             Aggregation::Running(tally) => tally.finish(),
             Aggregation::Faulted(fault) => Err(fault),
         }
+    }
+}
+
+/// A sum with a value taken that is lent, or null; `total` is that of the numbers before it, and `None` where there are none. It
+/// stays in hand where an `Aggregation` would be moved at each value. `Overflow` comes where the sum leaves the range here.
+pub fn with_summand(total: Option<Num>, lent: Option<&Value>) -> Result<Option<Num>, ValueFault>
+    ensures { (values : List Value) → comes_to (sum_at result) values
+        ≡ comes_to (sum_at (Ok total)) (unwrap_or (option_copied lent.entry) Null ∷ values) }
+{
+    let Some(Value::Num(n)) = lent else {
+        return Ok(total);
+    };
+    let Some(total) = total else {
+        return Ok(Some(*n));
+    };
+    match plus(total, *n) {
+        Ok(total) => Ok(Some(total)),
+        Err(fault) => Err(fault),
+    }
+}
+
+// The sum of two numbers. Those of one scale, as the values of a measure are, are added as they stand.
+fn plus(a: Num, b: Num) -> Result<Num, ValueFault>
+    ensures { result ≡ sum_of a b }
+{
+    if a.scale() != b.scale() {
+        return add(a, b);
+    }
+    match a.mant().checked_add(b.mant()) {
+        Some(sum) => Ok(Num::new(sum, a.scale())),
+        None => Err(ValueFault::Overflow),
     }
 }
 
