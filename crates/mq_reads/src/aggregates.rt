@@ -54,6 +54,7 @@ impl Aggregation {
 
 /// A sum with a value taken that is lent, or null; `total` is that of the numbers before it, and `None` where there are none. It
 /// stays in hand where an `Aggregation` would be moved at each value. `Overflow` comes where the sum leaves the range here.
+#[inline(always)]
 pub fn with_summand(total: Option<Num>, lent: Option<&Value>) -> Result<Option<Num>, ValueFault>
     ensures { (values : List Value) → comes_to (sum_at result) values
         ≡ comes_to (sum_at (Ok total)) (unwrap_or (option_copied lent.entry) Null ∷ values) }
@@ -71,6 +72,7 @@ pub fn with_summand(total: Option<Num>, lent: Option<&Value>) -> Result<Option<N
 }
 
 // The sum of two numbers. Those of one scale, as the values of a measure are, are added as they stand.
+#[inline(always)]
 fn plus(a: Num, b: Num) -> Result<Num, ValueFault>
     ensures { result ≡ sum_of a b }
 {
