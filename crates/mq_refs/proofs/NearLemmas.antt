@@ -1,7 +1,7 @@
 -- A cell that is looked for near a place.
-use Rattle.std.proofs.Common.{◌≡◌, ℕ, ◌+◌, Bool, true, false, ◌||◌, cond, List, [], ◌∷◌, get_or, Option, Some, None, Ordering, Less, Equal, Greater, refl, sym, ap, ◌∙◌}
+use Rattle.std.proofs.Common.{◌≡◌, ℕ, ◌+◌, Bool, true, false, ◌||◌, cond, List, [], ◌∷◌, get_or, Some, None, Ordering, Less, Equal, Greater, refl, sym, ◌∙◌}
 use Rattle.std.specs.BTreeMap.{is_at}
-use Rattle.std.specs.List.{list_any, position, position_from}
+use Rattle.std.specs.List.{list_any, position_from}
 use Rattle.std.specs.Ordering.{is_eq}
 use Rattle.std.proofs.lemmas.Iterator.Adapters.{position_from-zero}
 use Rattle.std.proofs.lemmas.List.Quantifiers.{position-Some}
@@ -10,8 +10,6 @@ use Rattle.mq_values.specs.OrderTells.{same_key}
 use Rattle.mq_values.specs.declared.value.Value.TheVariants.{Null}
 use Rattle.mq_ir.specs.Keys.{Tuple}
 use Rattle.mq_ir.specs.declared.query.CellName.{CellName}
-use Rattle.mq_ir.specs.Slots.{done_value}
-use Rattle.mq_ir.specs.declared.query.Slot.TheVariants.{Done}
 use Rattle.mq_dim_index.specs.Places.{is_there, place_of}
 use Rattle.mq_cells.specs.IndexedStores.{IndexedStore, input_in, results_of, value_in}
 

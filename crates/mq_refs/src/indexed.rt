@@ -1,18 +1,13 @@
 //! The keys of the cells in a store, and the values that it lends.
-ghost use Rattle.std.specs.Prelude.{◌≡◌, unwrap_or};
-ghost use Rattle.std.specs.Option.{option_copied};
-ghost use Rattle.mq_values.specs.declared.value.Value.TheVariants.{Null};
+ghost use Rattle.std.specs.Prelude.{◌≡◌};
 ghost use Rattle.mq_cells.specs.IndexedStores.{base_in, keys_in, value_in};
-ghost use Rattle.mq_cells.specs.Stores.{cell_name};
 
 use crate::cell_keys::CellKeys;
-use crate::lent::with_lent;
 use crate::standpoint::Standpoint;
 use crate::worths::Worths;
 use mq_cells::{IndexedCells, LentStore};
 use mq_dim_index::PlaceRun;
 use mq_ir::Expr;
-use mq_reads::Aggregation;
 use mq_values::{DimTest, Key, Memory, Value};
 use std::alloc::Global;
 
@@ -51,15 +46,8 @@ impl Worths for LentStore<'_> {
         self.read_near(place, key, measure)
     }
 
-    // The value is lent, and not copied.
-    fn take_at(
-        &mut self,
-        aggregation: Aggregation,
-        place: u32,
-        key: &[Value],
-        measure: u32,
-    ) -> Result<Aggregation, Memory> {
-        with_lent(aggregation, lent_near(self.store(), place, key, measure))
+    fn lent_by(&self) -> Option<&IndexedCells> {
+        Some(self.store())
     }
 
     fn next_value(
@@ -69,20 +57,5 @@ impl Worths for LentStore<'_> {
         _indices: &[Expr],
     ) -> Result<Option<Value>, Memory> {
         Ok(None)
-    }
-}
-
-// The value of a measure of the cell at `key`, lent; `None` where it is null. The cell is looked for at `place` and beside it first.
-fn lent_near<'a>(
-    store: &'a IndexedCells,
-    place: u32,
-    key: &[Value],
-    measure: u32,
-) -> Option<&'a Value>
-    ensures { unwrap_or (option_copied result) Null ≡ value_in store.now (cell_name key.now measure) }
-{
-    match store.index().place_near(key, place) {
-        Some(at) => store.lent_at(at, measure),
-        None => None,
     }
 }

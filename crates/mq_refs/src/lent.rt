@@ -1,31 +1,26 @@
 //! What the leaves of a right side are worth, over the cells of a store and the values that it lends.
-ghost use Rattle.std.specs.Prelude.{◌≡◌, ◌≤◌, List, [], ◌∷◌, ◌++◌, length, map, slice_index_or, unwrap_or, IfOk};
+ghost use Rattle.std.specs.Prelude.{◌≡◌, map};
 ghost use Rattle.std.specs.List.{filter};
-ghost use Rattle.std.specs.Option.{option_copied};
 ghost use Rattle.mq_values.specs.Aggregate.{aggregate};
 ghost use Rattle.mq_values.specs.Answers.{Gives};
-ghost use Rattle.mq_values.specs.declared.value.Value.{Value as OneValue};
-ghost use Rattle.mq_values.specs.declared.value.Value.TheVariants.{Null};
-ghost use Rattle.mq_dim_index.specs.PlaceRuns.{numbers_in};
 ghost use Rattle.mq_ir.specs.Reads as spec;
 ghost use Rattle.mq_ir.specs.Targets.{meets_every};
-ghost use Rattle.mq_reads.specs.Aggregation.{comes_to};
 ghost use Rattle.mq_cells.specs.IndexedStores.{base_in, keys_in, value_in};
 ghost use Rattle.mq_cells.specs.Stores.{cell_name};
 ghost use Rattle.mq_refs.specs.Orders.{IsOrderOf, IsOrderOf-prop};
 ghost use Rattle.mq_refs.specs.Sites.{site_over};
 
 use crate::cell_keys::CellKeys;
+use crate::lenders::aggregate_lent;
+use crate::lent_places::OwnPlaces;
 use crate::names::tests_named;
 use crate::order::RefsOrder;
 use crate::reading::leaf_value;
 use crate::standpoint::Standpoint;
 use mq_cells::{IndexedCells, LentStore};
-use mq_dim_index::PlaceRun;
 use mq_ir::{Leaf, Test};
-use mq_reads::Aggregation;
 use mq_scalar::Env;
-use mq_values::{Agg, DimTest, Fail, Memory, Value, ValueFault};
+use mq_values::{Agg, DimTest, Fail, Value, ValueFault};
 use std::alloc::Global;
 
 /// The place of a right side over the cells of one store: the values of a range stand at the places of its keys, so no key is
@@ -88,11 +83,11 @@ fn range_lent(
     ensures { Gives result (spec.range_value (site_over at.now (keys_in store.now)) (value_in store.now) agg measure places.now) }
 {
     let tests = tests_named(alloc, at, at.model.part.dims.as_slice(), places)?;
-    aggregate_lent(alloc, agg, measure, tests.as_slice(), store)
+    aggregate_meeting(alloc, agg, measure, tests.as_slice(), store)
 }
 
 // An aggregate of a measure over the cells that meet every test.
-fn aggregate_lent(
+fn aggregate_meeting(
     alloc: Global,
     agg: Agg,
     measure: u32,
@@ -103,41 +98,5 @@ fn aggregate_lent(
         (filter (meets_every tests.now) (keys_in store.now)))) }
 {
     let runs = store.runs_meeting(alloc, tests)?;
-    let mut aggregation = Aggregation::new(agg);
-    for run in runs.as_slice() {
-        aggregation = with_run_lent(aggregation, *run, measure, store)?;
-    }
-    match aggregation.finish() {
-        Ok(v) => Ok(v),
-        Err(fault) => Err(Fail::Cause(fault)),
-    }
-}
-
-// The aggregate with the values of a measure at the places of a run taken.
-fn with_run_lent(
-    aggregation: Aggregation,
-    run: PlaceRun,
-    measure: u32,
-    store: &IndexedCells,
-) -> Result<Aggregation, Memory>
-    requires { run.past ≤ length (keys_in store.now) }
-    ensures { (values : List OneValue) → IfOk result (λ a. comes_to a values ≡ comes_to aggregation
-        (map (λ place. value_in store.now (cell_name (slice_index_or (keys_in store.now) place []) measure)) (numbers_in run) ++ values)) }
-{
-    let mut aggregation = aggregation;
-    for place in run.first..run.past {
-        aggregation = with_lent(aggregation, store.lent_at(place, measure))?;
-    }
-    Ok(aggregation)
-}
-
-/// The aggregate with a value taken that is lent, or null.
-pub fn with_lent(aggregation: Aggregation, lent: Option<&Value>) -> Result<Aggregation, Memory>
-    ensures { (values : List OneValue) → IfOk result (λ a. comes_to a values
-        ≡ comes_to aggregation (unwrap_or (option_copied lent.entry) Null ∷ values)) }
-{
-    match lent {
-        Some(v) => aggregation.with(v),
-        None => aggregation.with(&Value::Null),
-    }
+    aggregate_lent(agg, runs.as_slice(), &OwnPlaces { store, measure })
 }

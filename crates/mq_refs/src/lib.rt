@@ -6,7 +6,9 @@
 mod cell_keys;
 mod indexed;
 mod inside;
+mod lenders;
 mod lent;
+mod lent_places;
 mod looks;
 mod names;
 mod order;

@@ -1,10 +1,10 @@
 //! What the leaves of a right side are worth, over measures that are read one by one.
-ghost use Rattle.std.specs.Prelude.{◌≡◌, ◌≤◌, List, [], ◌++◌, length, map, slice_index_or, IfOk};
-ghost use Rattle.std.specs.List.{filter};
+ghost use Rattle.std.specs.Prelude.{◌≡◌, ◌≤◌, List, [], ◌++◌, ◌∷◌, length, map, slice_index_or, IfOk};
+ghost use Rattle.std.specs.List.{All, filter};
 ghost use Rattle.mq_values.specs.Aggregate.{aggregate};
 ghost use Rattle.mq_values.specs.Answers.{Gives};
 ghost use Rattle.mq_values.specs.declared.value.Value.{Value as OneValue};
-ghost use Rattle.mq_dim_index.specs.PlaceRuns.{numbers_in};
+ghost use Rattle.mq_dim_index.specs.PlaceRuns.{numbers_in, numbers_of};
 ghost use Rattle.mq_ir.specs.Expression as expression;
 ghost use Rattle.mq_ir.specs.Reads as spec;
 ghost use Rattle.mq_ir.specs.Targets.{meets_every};
@@ -16,6 +16,8 @@ ghost use Rattle.mq_refs.specs.Sites.{site_of, site_over};
 
 use crate::cell_keys::CellKeys;
 use crate::inside::inner_leaf;
+use crate::lenders::aggregate_lent;
+use crate::lent_places::OtherPlaces;
 use crate::names::{cell_named, index_named, tests_named};
 use crate::order::RefsOrder;
 use crate::references::{kind_in, reference_cell};
@@ -214,8 +216,35 @@ fn aggregate_of<K: CellKeys, W: Worths>(
     ensures same { W.worth worths.new ≡ W.worth worths.old }
 {
     let runs = keys.runs_meeting(alloc, tests)?;
+    match worths.lent_by() {
+        Some(store) => aggregate_lent(
+            agg,
+            runs.as_slice(),
+            &OtherPlaces {
+                keys,
+                store,
+                measure,
+            },
+        ),
+        None => aggregate_read(agg, measure, runs.as_slice(), keys, worths),
+    }
+}
+
+// An aggregate of a measure over the cells at the places of runs, each of which is read.
+fn aggregate_read<K: CellKeys, W: Worths>(
+    agg: Agg,
+    measure: u32,
+    runs: &[PlaceRun],
+    keys: &K,
+    worths: &mut W,
+) -> Result<Value, Fail<ValueFault>>
+    requires { All (λ run. run.past ≤ length (K.set keys.now)) runs.now }
+    ensures exact { Gives result (aggregate agg (map (λ place. W.worth worths.old
+        (cell_name (slice_index_or (K.set keys.now) place []) measure)) (numbers_of runs.now))) }
+    ensures same { W.worth worths.new ≡ W.worth worths.old }
+{
     let mut aggregation = Aggregation::new(agg);
-    for run in runs.as_slice() {
+    for run in runs {
         aggregation = with_run(aggregation, *run, measure, keys, worths)?;
     }
     match aggregation.finish() {
@@ -240,7 +269,23 @@ fn with_run<K: CellKeys, W: Worths>(
     let mut aggregation = aggregation;
     for place in run.first..run.past {
         let key = keys.key_at(place).as_slice();
-        aggregation = worths.take_at(aggregation, place, key, measure)?;
+        aggregation = with_value(aggregation, place, key, measure, worths)?;
     }
     Ok(aggregation)
+}
+
+// The aggregate with a measure of the cell at `key` taken, which is looked for at `place` and beside it first.
+fn with_value<W: Worths>(
+    aggregation: Aggregation,
+    place: u32,
+    key: &[Value],
+    measure: u32,
+    worths: &mut W,
+) -> Result<Aggregation, Memory>
+    ensures taken { (values : List OneValue) → IfOk result (λ a. comes_to a values
+        ≡ comes_to aggregation (W.worth worths.old (cell_name key.now measure) ∷ values)) }
+    ensures same { W.worth worths.new ≡ W.worth worths.old }
+{
+    let v = worths.value_at(place, key, measure)?;
+    aggregation.with(&v)
 }

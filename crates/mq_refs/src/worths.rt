@@ -1,14 +1,13 @@
 //! Where the measures come from that a right side reads.
-ghost use Rattle.std.specs.Prelude.{◌≡◌, ◌∷◌, List, Ok, IfOk, IfSome};
-ghost use Rattle.mq_values.specs.declared.value.Value.{Value as OneValue};
+ghost use Rattle.std.specs.Prelude.{◌≡◌, Ok, IfOk, IfSome};
 ghost use Rattle.mq_ir.specs.Reads.{Measures};
-ghost use Rattle.mq_reads.specs.Aggregation.{comes_to};
+ghost use Rattle.mq_cells.specs.IndexedStores.{value_in};
 ghost use Rattle.mq_cells.specs.Stores.{cell_name};
 ghost use Rattle.mq_refs.specs.Sites.{site_of, value_named};
 
 use crate::standpoint::Standpoint;
+use mq_cells::IndexedCells;
 use mq_ir::Expr;
-use mq_reads::Aggregation;
 use mq_values::{Memory, Value};
 
 /// Measures of cells, read one by one. It is lent to a right side, and no call changes what a measure is worth.
@@ -27,20 +26,11 @@ pub trait Worths {
         ensures exact { IfOk result (λ v. v ≡ worth self.old (cell_name key.now measure)) }
         ensures same { worth self.new ≡ worth self.old };
 
-    /// An aggregate with the same value taken.
-    fn take_at(
-        &mut self,
-        aggregation: Aggregation,
-        place: u32,
-        key: &[Value],
-        measure: u32,
-    ) -> Result<Aggregation, Memory>
-        ensures taken { (values : List OneValue) → IfOk result (λ a. comes_to a values
-            ≡ comes_to aggregation (worth self.old (cell_name key.now measure) ∷ values)) }
-        ensures same { worth self.new ≡ worth self.old }
+    /// The store that has all these measures, where there is one that lends them; `None` says nothing.
+    fn lent_by(&self) -> Option<&IndexedCells>
+        ensures { IfSome result (λ store. worth self.now ≡ value_in store.now) }
     {
-        let v = self.value_at(place, key, measure)?;
-        aggregation.with(&v)
+        None
     }
 
     /// A measure of the cell that `indices` name, where the source knows of it without the key that they name; `None` says

@@ -21,7 +21,7 @@ returns c =
     let of : Tuple → Value = λ key. now (cell_name key c.args.measure) in
     let named : tests_named (site_of at) at.model.now.part.now.dims c.args.places.now ≡ Ok c.in_ok-tests.tests = search rules in
     let tests : c.as_slice-2.result.now ≡ c.in_ok-tests.tests = search rules in
-    subst (Gives c.aggregate_lent.result)
+    subst (Gives c.aggregate_meeting.result)
     (ap (λ (ts : List DimTest). aggregate c.args.agg (map of (filter (meets_every ts) set))) tests
     ∙ range_over at set now c.args.agg c.args.measure c.args.places.now c.in_ok-tests.tests named)
-    c.aggregate_lent.ensures
+    c.aggregate_meeting.ensures

@@ -18,7 +18,7 @@ loop-place-preserved g c =
     let rest : List Value = map value (range_with_len (place + 1) (past - (place + 1))) in
     let key : c.as_slice-key.result.now ≡ slice_index_or set place [] = c.as_slice-key.ensures ∙ c.key_at.ensures [] in
     record {
-      same = c.take_at.ensures.same ∙ c.loop-place.invariant.same;
+      same = c.with_value.ensures.same ∙ c.loop-place.invariant.same;
       taken = λ values.
           c.in_ok-aggregation.ensures.taken (rest ++ values)
           ∙ ap (λ (w : Measures). comes_to c.loop-place.aggregation (w (cell_name c.as_slice-key.result.now c.args.measure) ∷ (rest ++ values))) c.loop-place.invariant.same

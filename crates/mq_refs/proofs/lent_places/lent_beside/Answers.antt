@@ -1,14 +1,10 @@
-use Rattle.std.proofs.Common.{◌≡◌, [], Some, get_or, sym, ap, ◌∙◌}
-use Rattle.std.specs.BTreeMap.{is_at}
-use Rattle.mq_values.specs.Order.{cmp_key}
-use Rattle.mq_values.specs.declared.value.Value.TheVariants.{Null}
+use Rattle.std.proofs.Common.{◌≡◌, [], Some, sym, ap, ◌∙◌}
 use Rattle.mq_ir.specs.Keys.{Tuple}
-use Rattle.mq_ir.specs.declared.query.Slot.TheVariants.{Done}
 use Rattle.mq_dim_index.specs.Places.{place_of}
 use Rattle.mq_cells.specs.IndexedStores.{keys_in, value_in}
 use Rattle.mq_cells.specs.Stores.{cell_name}
 use Rattle.mq_refs.proofs.NearLemmas.{absent, at_place, worth_nothing}
-use Rattle.mq_refs.proofs.indexed.lent_near.Goals as goal
+use Rattle.mq_refs.proofs.lent_places.lent_beside.Goals as goal
 
 pub returns-in-Some : goal.returns-in-Some
 returns-in-Some c =
