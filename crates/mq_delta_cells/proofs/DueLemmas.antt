@@ -1,6 +1,6 @@
 -- Which assignments are due for a visit: what is not due the change does not reach, by what is known.
 use Rattle.std.proofs.Common.{◌≡◌, ℕ, zero, suc, ◌+◌, ◌<◌, ◌≤◌, Bool, true, false, ◌&&◌, ◌||◌, not, List, [], ◌∷◌, ◌++◌, get_or, length, map, take, Option, Some, None, slice_get, refl, sym, ap, ◌∙◌, inl, inr}
-use Rattle.std.specs.Prelude.{if◌then◌else◌, is_some, slice_index_or}
+use Rattle.std.specs.Prelude.{is_some, slice_index_or}
 use Rattle.std.specs.List.{find, list_any}
 use Rattle.std.proofs.lemmas.Bool.{or_cases, or_left, or_parts, or_right}
 use Rattle.std.proofs.lemmas.List.{take_all, take_more}
@@ -19,11 +19,11 @@ use Rattle.mq_auto.specs.Walks.{AreOwn}
 use Rattle.mq_auto_shape.specs.Edges.{looks_by}
 use Rattle.mq_delta_cells.specs.Readers.{HasMarked, HasReadersOf, Readers, is_due, is_looked_at, may_look}
 use Rattle.mq_delta_cells.specs.Seeds.{is_moved, is_told_outside, outside_by}
-use Rattle.mq_delta_cells.specs.Tables.{NumbersBy, Table, no_numbers, number_by}
+use Rattle.mq_delta_cells.specs.Marks.{Marks, MarksBy, no_marks}
 use Rattle.mq_delta_cells.specs.Walks.{Ground, IsDue, ground_for, is_changed, is_known_in}
 use Rattle.mq_delta_cells.proofs.NodeLemmas.{named_itself, named_same}
 use Rattle.mq_delta_cells.proofs.StepLemmas.{at_place}
-use Rattle.mq_delta_cells.proofs.TableLemmas.{none_in}
+use Rattle.mq_delta_cells.proofs.MarkLemmas.{none_marked}
 use Rattle.mq_delta_cells.proofs.TargetLemmas.{target_same}
 
 or_false : (a : Bool) → (a || false) ≡ a
@@ -59,9 +59,9 @@ not_read keys readers c place looks has h = by (is_looked_at (slice_index_or loo
 
 -- one more measure changed, and its readers are due
 pub due_next : (g : Ground) (keys : List Tuple) (readers : Option Readers) → HasReadersOf keys (map (looks_by g.model g.shape) g.shape.assigned) readers
-    → (changed next : Table) (name : CellName) (number : ℕ) (before after : List Bool) → NumbersBy g.shape.cells changed next name number
+    → (changed next : Marks) (name : CellName) (before after : List Bool) → MarksBy g.shape.cells changed next name
     → HasMarked keys readers name before after → IsDue g changed before → IsDue g next after
-due_next g keys readers has changed next name number before after put marked due place a at h =
+due_next g keys readers has changed next name before after put marked due place a at h =
     let m = marked place h in
     let was = or_parts (g.told (node_of a)) (list_any (is_known_in g changed) (looks_by g.model g.shape a)) (due place a at m.0) in
     let unread : is_looked_at (looks_by g.model g.shape a) name ≡ false =
@@ -78,7 +78,19 @@ due_next g keys readers has changed next name number before after put marked due
         by true e =
             let one : name ≡ c = named_same name c e in
             absurd (let k : true ≡ false = sym l ∙ ap (is_looked_at (looks_by g.model g.shape a)) (sym one) ∙ unread in cc)
-        by false e = ap is_some (put c ∙ ap (λ b. if b then Some number else number_by g.shape.cells changed c) e)
+        by false e = put c ∙ ap (λ b. b || is_changed g changed c) e
+
+-- ---- by the rules of two shapes
+-- a measure that a rule of the new shape assigns begins nothing
+pub outside_ruled : (old new : PartShape) (moved : List CellName) (c : CellName) (was is : Option ℕ) → true ≡ is_some is → false ≡ outside_by old new moved c was is
+outside_ruled old new moved c was None e = cc
+outside_ruled old new moved c was (Some b) e = refl
+
+-- .. and of any other the old rules tell it, the inputs and what moved
+pub outside_unruled : (old new : PartShape) (moved : List CellName) (c : CellName) (was is : Option ℕ) → false ≡ is_some is
+    → outside_by old new moved c was is ≡ (is_some was || (is_in_one old.base new.base c.key || is_moved moved c))
+outside_unruled old new moved c was None e = refl
+outside_unruled old new moved c was (Some b) e = cc
 
 -- ---- at first
 pub moved_next : (keys : List Tuple) (readers : Option Readers) (moved : List CellName) (i : ℕ) (name : CellName) (before after : List Bool) → i < length moved → name ≡ get_or moved i name
@@ -108,10 +120,9 @@ pub moved_all : (keys : List Tuple) (readers : Option Readers) (moved : List Cel
     → (place : ℕ) → is_due due place ≡ false → (c : CellName) → is_moved moved c ≡ true → may_look keys readers c place ≡ false
 moved_all keys readers moved i due l so place h c m = so place h c (ap (λ (xs : List CellName). is_moved xs c) (take_all i moved l) ∙ m)
 
-module _ (model : Model) (old new : PartShape) (moved : List CellName) (keys : List Tuple) (readers : Option Readers) (own : AreOwn new)
-    (has : HasReadersOf keys (map (looks_by model new) new.assigned) readers) (law : (xs ys : List Look) → SameLooksAreOne xs ys) (same : old ≡ new) where
+module _ (old new : PartShape) (moved : List CellName) (same : old ≡ new) where
   -- of one shape a look that did not move begins nothing
-  outside_none : (c : CellName) → is_moved moved c ≡ false → is_told_outside old new moved (Measure c) ≡ false
+  pub outside_none : (c : CellName) → is_moved moved c ≡ false → is_told_outside old new moved (Measure c) ≡ false
   outside_none c h =
       ap (λ (s : PartShape). is_told_outside s new moved (Measure c)) same
       ∙ ap (λ b. b || outside_by new new moved c (rule_at new (Measure c)) (rule_at new (Measure c))) (in_none (is_among new.cells c.key))
@@ -125,24 +136,49 @@ module _ (model : Model) (old new : PartShape) (moved : List CellName) (keys : L
       by (Some n) = refl
       by None = ap (λ b. b || is_moved moved c) (in_none (is_among new.base c.key)) ∙ h
 
-  presence_none : (key : Tuple) → is_told_outside old new moved (Presence key) ≡ false
+  -- one that moved begins the change where no rule assigns it
+  pub outside_moved : (c : CellName) (ruled : Bool) → is_moved moved c ≡ true → ruled ≡ is_some (rule_at new (Measure c))
+      → not ruled ≡ is_told_outside old new moved (Measure c)
+  outside_moved c ruled h r =
+      ap not r
+      ∙ sym (
+      ap (λ (s : PartShape). is_told_outside s new moved (Measure c)) same
+      ∙ ap (λ b. b || outside_by new new moved c (rule_at new (Measure c)) (rule_at new (Measure c))) (in_none (is_among new.cells c.key))
+      ∙ by (rule_at new (Measure c))
+      )
+    where
+      in_none : (b : Bool) → ((b && not b) || (b && not b)) ≡ false
+      in_none true = refl
+      in_none false = refl
+
+      or_true : (b : Bool) → (b || true) ≡ true
+      or_true true = refl
+      or_true false = refl
+
+      by : (o : Option ℕ) → outside_by new new moved c o o ≡ not (is_some o)
+      by (Some n) = refl
+      by None = ap (λ b. is_in_one new.base new.base c.key || b) h ∙ or_true (is_in_one new.base new.base c.key)
+
+  pub presence_none : (key : Tuple) → is_told_outside old new moved (Presence key) ≡ false
   presence_none key = ap (λ (s : PartShape). is_in_one s.base new.base key) same ∙ by (is_among new.base key)
     where
       by : (b : Bool) → ((b && not b) || (b && not b)) ≡ false
       by true = refl
       by false = refl
 
+module _ (model : Model) (old new : PartShape) (moved : List CellName) (keys : List Tuple) (readers : Option Readers) (own : AreOwn new)
+    (has : HasReadersOf keys (map (looks_by model new) new.assigned) readers) (law : (xs ys : List Look) → SameLooksAreOne xs ys) (same : old ≡ new) where
   pub first_due : (due : List Bool) → ((place : ℕ) → is_due due place ≡ false → (c : CellName) → is_moved moved c ≡ true → may_look keys readers c place ≡ false)
-      → IsDue (ground_for model old new moved) no_numbers due
+      → IsDue (ground_for model old new moved) no_marks due
   first_due due so place a at h =
       let g = ground_for model old new moved in
       let mine = at_place (λ (b : Assignment). find (assigns b.1 b.0) new.assigned ≡ Some b) new.assigned place a at own in
       let its : slice_index_or (map (looks_by model new) new.assigned) place [] ≡ looks_by model new a = mapped_at (looks_by model new) new.assigned place a at in
-      let none : list_any (is_known_in g no_numbers) (looks_by model new a) ≡ false =
-      any_looked (is_known_in g no_numbers) (λ u. false) presence_none (looks_by model new a)
-      (λ c l. ap (λ b. b || g.outside (Measure c)) (none_in new.cells c) ∙ outside_none c (unmoved c (ap (λ (xs : List Look). is_looked_at xs c) its ∙ l)))
+      let none : list_any (is_known_in g no_marks) (looks_by model new a) ≡ false =
+      any_looked (is_known_in g no_marks) (λ u. false) (presence_none old new moved same) (looks_by model new a)
+      (λ c l. ap (λ b. b || g.outside (Measure c)) (none_marked new.cells c) ∙ outside_none old new moved same c (unmoved c (ap (λ (xs : List Look). is_looked_at xs c) its ∙ l)))
       ∙ none_any (looks_by model new a) in
-      ap (λ b. b || list_any (is_known_in g no_numbers) (looks_by model new a)) (sym (target_same model old new moved a mine law same)) ∙ none
+      ap (λ b. b || list_any (is_known_in g no_marks) (looks_by model new a)) (sym (target_same model old new moved a mine law same)) ∙ none
     where
       unmoved : (c : CellName) → is_looked_at (slice_index_or (map (looks_by model new) new.assigned) place []) c ≡ true → is_moved moved c ≡ false
       unmoved c l = by (is_moved moved c) refl

@@ -3,7 +3,9 @@ mod CourseLemmas
 mod DueLemmas
 mod GroundLemmas
 mod ListLemmas
+mod MarkLemmas
 mod NodeLemmas
+mod PartLemmas
 mod PropagateLemmas
 mod ReaderLemmas
 mod RoundLemmas

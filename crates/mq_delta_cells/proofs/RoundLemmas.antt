@@ -8,7 +8,7 @@ use Rattle.mq_cells.specs.Stores.{CellInput, Results}
 use Rattle.mq_change_laws.specs.NodeLaws.{StepsRead}
 use Rattle.mq_auto_shape.specs.Found.{place_comes_in, round_of}
 use Rattle.mq_delta_cells.specs.Bounds.{most_reads, total}
-use Rattle.mq_delta_cells.specs.Tables.{Table}
+use Rattle.mq_delta_cells.specs.Marks.{Marks}
 use Rattle.mq_delta_cells.specs.Walks.{Ground, IsVisited, IsWalked, reached_on, reads_at, reads_of_hit}
 use Rattle.mq_delta_cells.proofs.GroundLemmas.{IsSolid}
 use Rattle.mq_delta_cells.proofs.StepLemmas.{reads_is, walk_next}
@@ -30,7 +30,7 @@ one_more round i place lt is = take_more round i place lt ∙ ap (λ (p : ℕ). 
 
 module _ (g : Ground) (solid : IsSolid g) (given given' : CellInput) (first : Results) (n : ℕ) (round : List ℕ) (i place : ℕ)
     (lt : i < length round) (is : place ≡ get_or round i place) (within : place < length g.shape.assigned) (same : given' ≡ given)
-    (comes : All (λ place. place_comes_in g.model g.shape n place ≡ true) round) (changed next : Table) (results after : Results)
+    (comes : All (λ place. place_comes_in g.model g.shape n place ≡ true) round) (changed next : Marks) (results after : Results)
     (walked : IsWalked g given first n (take i round) changed results) where
   there : (a : Assignment) × (slice_get g.shape.assigned place ≡ Some a)
   there = item_at g.shape.assigned place within
@@ -66,11 +66,11 @@ round_front g round i start now h = omega (arith, h, total_front (reads_at g) i 
 
 -- ---- one round more
 module _ (g : Ground) (solid : IsSolid g) (given given' : CellInput) (first : Results) (n : ℕ) (round : List ℕ) (same : given' ≡ given)
-    (is : round ≡ round_of g.model g.shape n) (changed : Table) (results : Results) (walked : IsWalked g given first n [] changed results) where
+    (is : round ≡ round_of g.model g.shape n) (changed : Marks) (results : Results) (walked : IsWalked g given first n [] changed results) where
   before : IsWalked g given' first n [] changed results
   before = subst (λ (input : CellInput). IsWalked g input first n [] changed results) (sym same) walked
 
-  pub rounds_next : (next : Table) (after : Results)
+  pub rounds_next : (next : Marks) (after : Results)
       → ((first : Results) (n : ℕ) → All (λ place. place_comes_in g.model g.shape n place ≡ true) round
       → IsWalked g given' first n [] changed results → IsWalked g given' first n round next after)
       → IsWalked g given first (n + 1) [] next after

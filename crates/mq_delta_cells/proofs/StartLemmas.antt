@@ -1,6 +1,6 @@
 -- What is gathered before a walk, item by item.
 use Rattle.std.proofs.Common.{◌≡◌, ℕ, ◌+◌, ◌<◌, ◌≤◌, Bool, true, false, ◌&&◌, ◌||◌, not, cond, List, [], ◌∷◌, drop, length, get_or, Option, Some, None, refl, sym, ap, ◌∙◌, eqb}
-use Rattle.std.specs.Prelude.{if◌then◌else◌, is_some}
+use Rattle.std.specs.Prelude.{if◌then◌else◌}
 use Rattle.std.specs.BTreeMap.{is_at}
 use Rattle.std.specs.BTreeSet.{insert_key}
 use Rattle.std.specs.List.{find, list_any, position_from}
@@ -20,10 +20,12 @@ use Rattle.mq_ir.specs.Shape.{Assignment, assigns}
 use Rattle.mq_dim_index.specs.Places.{place_of, with_key}
 use Rattle.mq_cells.specs.Stores.{Results, cell_name, is_named, name_assigned}
 use Rattle.mq_change_laws.specs.SoundLaws.{same_is}
-use Rattle.mq_delta_cells.specs.Tables.{NumbersBy, Table, is_in_table, no_numbers, number_by}
+use Rattle.mq_delta_cells.specs.Marks.{Marks, MarksBy, is_marked, no_marks}
+use Rattle.mq_delta_cells.specs.Tables.{NumbersBy, Table, no_numbers, number_by}
 use Rattle.mq_delta_cells.specs.Seeds.{is_gone, is_gone_at, is_missing, is_missing_at, is_moved}
 use Rattle.mq_delta_cells.proofs.NodeLemmas.{named_turned}
-use Rattle.mq_delta_cells.proofs.TableLemmas.{none_by, none_in}
+use Rattle.mq_delta_cells.proofs.MarkLemmas.{none_marked}
+use Rattle.mq_delta_cells.proofs.TableLemmas.{none_by}
 
 swapped : (a b c : Bool) → ((a || b) || c) ≡ (b || (a || c))
 swapped true true c = refl
@@ -35,36 +37,26 @@ or_false true = refl
 or_false false = refl
 
 -- ---- names
-is_in_next : (keys : List Tuple) (before after : Table) (name c : CellName) (number : ℕ) → NumbersBy keys before after name number
-    → is_in_table keys after c ≡ (is_named name c || is_in_table keys before c)
-is_in_next keys before after name c number h = ap is_some (h c) ∙ by (is_named name c)
-  where
-    by : (b : Bool) → is_some (if b then Some number else number_by keys before c) ≡ (b || is_in_table keys before c)
-    by true = refl
-    by false = refl
-
-pub names_start : (keys : List Tuple) (names : Table) (moved : List CellName) → names ≡ no_numbers → (c : CellName)
-    → (is_in_table keys names c || is_moved (drop 0 moved) c) ≡ is_moved moved c
+pub names_start : (keys : List Tuple) (names : Marks) (moved : List CellName) → names ≡ no_marks → (c : CellName)
+    → (is_marked keys names c || is_moved (drop 0 moved) c) ≡ is_moved moved c
 names_start keys names moved e c =
-    ap (λ (n : Table). is_in_table keys n c || is_moved moved c) e ∙ ap (λ b. b || is_moved moved c) (none_in keys c)
+    ap (λ (n : Marks). is_marked keys n c || is_moved moved c) e ∙ ap (λ b. b || is_moved moved c) (none_marked keys c)
 
-pub names_next : (keys : List Tuple) (moved : List CellName) (i : ℕ) (name : CellName) (before after : Table) → i < length moved → name ≡ get_or moved i name
-    → NumbersBy keys before after (cell_name name.key name.measure) 0
-    → ((c : CellName) → (is_in_table keys before c || is_moved (drop i moved) c) ≡ is_moved moved c)
-    → (c : CellName) → (is_in_table keys after c || is_moved (drop (i + 1) moved) c) ≡ is_moved moved c
+pub names_next : (keys : List Tuple) (moved : List CellName) (i : ℕ) (name : CellName) (before after : Marks) → i < length moved → name ≡ get_or moved i name
+    → MarksBy keys before after (cell_name name.key name.measure)
+    → ((c : CellName) → (is_marked keys before c || is_moved (drop i moved) c) ≡ is_moved moved c)
+    → (c : CellName) → (is_marked keys after c || is_moved (drop (i + 1) moved) c) ≡ is_moved moved c
 names_next keys moved i name before after l at put h c =
-    ap (λ b. b || is_moved (drop (i + 1) moved) c)
-    (is_in_next keys before after (cell_name name.key name.measure) c 0 put
-    ∙ ap (λ b. b || is_in_table keys before c) (named_turned name c))
-    ∙ swapped (is_named c name) (is_in_table keys before c) (is_moved (drop (i + 1) moved) c)
-    ∙ ap (λ (l : List CellName). is_in_table keys before c || is_moved l c) (sym (next_item moved i name l at))
+    ap (λ b. b || is_moved (drop (i + 1) moved) c) (put c ∙ ap (λ b. b || is_marked keys before c) (named_turned name c))
+    ∙ swapped (is_named c name) (is_marked keys before c) (is_moved (drop (i + 1) moved) c)
+    ∙ ap (λ (l : List CellName). is_marked keys before c || is_moved l c) (sym (next_item moved i name l at))
     ∙ h c
 
-pub names_end : (keys : List Tuple) (moved : List CellName) (i : ℕ) (names : Table) → length moved ≤ i
-    → ((c : CellName) → (is_in_table keys names c || is_moved (drop i moved) c) ≡ is_moved moved c)
-    → (c : CellName) → is_in_table keys names c ≡ is_moved moved c
+pub names_end : (keys : List Tuple) (moved : List CellName) (i : ℕ) (names : Marks) → length moved ≤ i
+    → ((c : CellName) → (is_marked keys names c || is_moved (drop i moved) c) ≡ is_moved moved c)
+    → (c : CellName) → is_marked keys names c ≡ is_moved moved c
 names_end keys moved i names l h c =
-    sym (or_false (is_in_table keys names c)) ∙ ap (λ (m : List CellName). is_in_table keys names c || is_moved m c) (sym (drop_all i moved l)) ∙ h c
+    sym (or_false (is_marked keys names c)) ∙ ap (λ (m : List CellName). is_marked keys names c || is_moved m c) (sym (drop_all i moved l)) ∙ h c
 
 -- ---- rules
 pub rules_start : (keys : List Tuple) (assigned : List Assignment) (at : ℕ) (rules : Table) → rules ≡ no_numbers → length assigned ≤ at → (c : CellName)

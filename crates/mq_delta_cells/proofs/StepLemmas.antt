@@ -1,6 +1,6 @@
 -- A visit to an assignment: what is known of it is right then, and so is what stands there.
 use Rattle.std.proofs.Common.{◌≡◌, ℕ, suc, ◌+◌, ◌-◌, ◌<◌, ◌≤◌, Bool, true, false, ◌||◌, not, cond, List, [], ◌∷◌, ◌++◌, length, Option, Some, None, IsSome, slice_get, get_or, refl, sym, ap, subst, ◌∙◌}
-use Rattle.std.specs.Prelude.{is_some, if◌then◌else◌, unwrap_or}
+use Rattle.std.specs.Prelude.{if◌then◌else◌, unwrap_or}
 use Rattle.std.specs.List.{All, list_all}
 use Rattle.std.specs.Option.{option_and_then, option_map, option_map_or}
 use Rattle.std.proofs.lemmas.Bool.{and_parts, or_parts}
@@ -33,7 +33,7 @@ use Rattle.mq_ir.specs.Keys.{Tuple}
 use Rattle.mq_refs.specs.Sightings.{measures_in}
 use Rattle.mq_refs.specs.Sites.{site_with}
 use Rattle.mq_refs.specs.SlotsOver.{cell_slot_over}
-use Rattle.mq_delta_cells.specs.Tables.{Table, number_by}
+use Rattle.mq_delta_cells.specs.Marks.{Marks}
 use Rattle.mq_delta_cells.specs.Walks.{BeginsRight, Ground, IsAssigned, IsRight, IsRightAt, IsVisited, IsWalked, is_changed, is_hit, is_known_in, reached_on, reads_at, reads_of_hit}
 use Rattle.mq_delta_cells.proofs.GroundLemmas.{IsSolid, goes, outside_reached, ruled_looks, told_reached}
 use Rattle.mq_delta_cells.proofs.NodeLemmas.{named_itself, named_same}
@@ -67,7 +67,7 @@ module _ (g : Ground) (solid : IsSolid g) (given : CellInput) (first : Results) 
   abbrev level : ℕ → Look → Bool
   level = levelled (node_looks g.model g.shape)
 
-  module _ (met : List ℕ) (changed : Table) (results : Results) (walked : IsWalked g given first n met changed results) where
+  module _ (met : List ℕ) (changed : Marks) (results : Results) (walked : IsWalked g given first n met changed results) where
     -- what is known to be reached is
     known_reached : (c : CellName) → is_known_in g changed (Measure c) ≡ true → reached_on g (Measure c) ≡ true
     known_reached c h = by (is_changed g changed c) refl h
@@ -133,14 +133,14 @@ module _ (g : Ground) (solid : IsSolid g) (given : CellInput) (first : Results) 
       rule_there None h = cc
       rule_there (Some rule) h = (rule, refl)
 
-      module _ (law : StepsRead) (next : Table) (after : Results) where
+      module _ (law : StepsRead) (next : Marks) (after : Results) where
         -- the change does not reach it
         missed : is_hit g changed a ≡ false → next ≡ changed → after ≡ results → IsRight g given first next after name
         missed spared same kept =
             let unreached : reached_on g (Measure name) ≡ false = sym hit_is ∙ spared in
             let unknown = unreached_unknown name unreached in
             record {
-              known = ap (λ (table : Table). is_known_in g table (Measure name)) same ∙ unknown ∙ sym unreached;
+              known = ap (λ (marks : Marks). is_known_in g marks (Measure name)) same ∙ unknown ∙ sym unreached;
               result = λ input from begins. ap (λ (r : Results). r name) kept ∙ unreached_kept name unreached ∙ begins.unreached name unreached;
             }
 
@@ -174,7 +174,7 @@ module _ (g : Ground) (solid : IsSolid g) (given : CellInput) (first : Results) 
             let r = rule_there (slice_get g.model.part.rules (a.2 - 1)) ruled.1 in
             record {
               known =
-                  ap (λ o. is_some o || g.outside (Measure name)) (done.noted name ∙ ap (λ b. if b then Some a.2 else number_by g.shape.cells changed name) (named_itself name))
+                  ap (λ b. b || g.outside (Measure name)) (done.noted name ∙ ap (λ b. b || is_changed g changed name) (named_itself name))
                   ∙ sym (sym hit_is ∙ met_it);
               result =
                   λ input from begins.
@@ -186,7 +186,7 @@ module _ (g : Ground) (solid : IsSolid g) (given : CellInput) (first : Results) 
 
         -- elsewhere all is as before
         other_known : IsAssigned g given results after changed next a → (c : CellName) → is_named name c ≡ false → is_changed g next c ≡ is_changed g changed c
-        other_known done c e = ap is_some (done.noted c) ∙ ap (λ b. is_some (if b then Some a.2 else number_by g.shape.cells changed c)) e
+        other_known done c e = done.noted c ∙ ap (λ b. b || is_changed g changed c) e
 
         other_result : IsAssigned g given results after changed next a → (c : CellName) → is_named name c ≡ false → after c ≡ results c
         other_result done c e =
@@ -224,14 +224,14 @@ module _ (g : Ground) (solid : IsSolid g) (given : CellInput) (first : Results) 
 
             kept_by : (c : CellName) (b : Bool) → is_named name c ≡ b → is_changed g next c ≡ false → after c ≡ first c
             kept_by c true e h =
-                absurd (let k : false ≡ true = sym h ∙ ap is_some (done.noted c) ∙ ap (λ b. is_some (if b then Some a.2 else number_by g.shape.cells changed c)) e in cc)
+                absurd (let k : false ≡ true = sym h ∙ done.noted c ∙ ap (λ b. b || is_changed g changed c) e in cc)
             kept_by c false e h = other_result done c e ∙ walked.kept c (sym (other_known done c e) ∙ h)
 
         walk_missed : is_hit g changed a ≡ false → next ≡ changed → after ≡ results → IsWalked g given first n (met ++ place ∷ []) next after
         walk_missed spared same kept =
             let here = here_is (missed spared same kept) in record {
-              sound = λ c h. walked.sound c (ap (λ (table : Table). is_changed g table c) (sym same) ∙ h);
-              kept = λ c h. ap (λ (r : Results). r c) kept ∙ walked.kept c (ap (λ (table : Table). is_changed g table c) (sym same) ∙ h);
+              sound = λ c h. walked.sound c (ap (λ (marks : Marks). is_changed g marks c) (sym same) ∙ h);
+              kept = λ c h. ap (λ (r : Results). r c) kept ∙ walked.kept c (ap (λ (marks : Marks). is_changed g marks c) (sym same) ∙ h);
               below = λ c l. moved c (walked.below c l);
               met =
                   All-push (IsRightAt g given first next after) met place
@@ -241,7 +241,7 @@ module _ (g : Ground) (solid : IsSolid g) (given : CellInput) (first : Results) 
           where
             moved : (c : CellName) → IsRight g given first changed results c → IsRight g given first next after c
             moved c was = record {
-              known = ap (λ (table : Table). is_known_in g table (Measure c)) same ∙ was.known;
+              known = ap (λ (marks : Marks). is_known_in g marks (Measure c)) same ∙ was.known;
               result = λ input from begins. ap (λ (r : Results). r c) kept ∙ was.result input from begins;
             }
 
@@ -276,15 +276,15 @@ reads_over model shape cells a r now later set there h =
     ∙ ap (λ (o : Option Rule). option_map_or (λ rule. looks_of (site_in model shape 0 a.0) rule.right) o []) there) h
 
 -- a visit by what it found
-pub visited_hit : (g : Ground) (given : CellInput) (before after : Results) (changed next : Table) (a : Assignment) → is_hit g changed a ≡ true
+pub visited_hit : (g : Ground) (given : CellInput) (before after : Results) (changed next : Marks) (a : Assignment) → is_hit g changed a ≡ true
     → IsAssigned g given before after changed next a → IsVisited g given before after changed next a
 visited_hit g given before after changed next a e done = record { hit = λ _. done; missed = λ f. absurd (let k : true ≡ false = sym e ∙ f in cc) }
 
-pub visited_missed : (g : Ground) (given : CellInput) (before after : Results) (changed next : Table) (a : Assignment) → is_hit g changed a ≡ false
+pub visited_missed : (g : Ground) (given : CellInput) (before after : Results) (changed next : Marks) (a : Assignment) → is_hit g changed a ≡ false
     → next ≡ changed → after ≡ before → IsVisited g given before after changed next a
 visited_missed g given before after changed next a e n r = record { hit = λ f. absurd (let k : true ≡ false = sym f ∙ e in cc); missed = λ _. (n, r) }
 
-pub reads_hit : (g : Ground) (changed : Table) (a : Assignment) (now later : ℕ) → is_hit g changed a ≡ true
+pub reads_hit : (g : Ground) (changed : Marks) (a : Assignment) (now later : ℕ) → is_hit g changed a ≡ true
     → later ≤ now + measures_in (looks_by g.model g.shape a) → later ≤ now + reads_of_hit g changed a
 reads_hit g changed a now later e h =
     subst (λ k. later ≤ now + k) (sym (ap (λ b. if b then measures_in (looks_by g.model g.shape a) else 0) e)) h

@@ -1,6 +1,5 @@
 -- Numbers at measures of cells, once one is put.
 use Rattle.std.proofs.Common.{◌≡◌, ℕ, ◌==◌, ◌&&◌, Bool, true, false, List, [], get_or, Option, Some, None, if◌then◌else◌, refl, sym, ap, ◌∙◌}
-use Rattle.std.specs.Prelude.{is_some}
 use Rattle.std.specs.BTreeMap.{is_at}
 use Rattle.std.specs.Cmp.{unsigned_Decides}
 use Rattle.std.specs.Option.{option_map_or}
@@ -15,7 +14,7 @@ use Rattle.mq_cells.specs.LaneItems.{LaneDiffers, Lanes, lane_item}
 use Rattle.mq_cells.specs.Stores.{cell_name, is_named}
 use Rattle.mq_change_laws.specs.SoundLaws.{same_is}
 use Rattle.mq_delta_cells.specs.Nodes.{Nodes, Numbers, number_in}
-use Rattle.mq_delta_cells.specs.Tables.{NumbersBy, Table, is_in_table, no_numbers, number_by}
+use Rattle.mq_delta_cells.specs.Tables.{NumbersBy, Table, no_numbers, number_by}
 
 -- where no measure has a number
 pub none_by : (keys : List Tuple) (c : CellName) → number_by keys no_numbers c ≡ None
@@ -25,11 +24,8 @@ none_by keys c = by (place_of keys c.key)
     by None = refl
     by (Some p) = refl
 
-pub none_in : (keys : List Tuple) (c : CellName) → is_in_table keys no_numbers c ≡ false
-none_in keys c = ap is_some (none_by keys c)
-
 -- one place has one key
-one_key : (keys : List Tuple) (a b : Tuple) (at : ℕ) → place_of keys a ≡ Some at → place_of keys b ≡ Some at → is_same a b ≡ true
+pub one_key : (keys : List Tuple) (a b : Tuple) (at : ℕ) → place_of keys a ≡ Some at → place_of keys b ≡ Some at → is_same a b ≡ true
 one_key keys a b at f g =
     let x = same_is a (get_or keys at a) (position-Some (is_at (cmp_key a)) keys at a f).1 in
     let y = same_is b (get_or keys at a) (position-Some (is_at (cmp_key b)) keys at a g).1 in

@@ -20,12 +20,12 @@ use Rattle.mq_change_laws.specs.NodeLaws.{unassigned_levelled}
 use Rattle.mq_auto.specs.Meaning.{result_at}
 use Rattle.mq_auto_shape.specs.Found.{AreRoundsOf, comes_in, place_comes_in, round_of}
 use Rattle.mq_delta_cells.specs.Bounds.{most_reads, reads_for, total}
-use Rattle.mq_delta_cells.specs.Tables.{Table, no_numbers}
+use Rattle.mq_delta_cells.specs.Marks.{Marks, no_marks}
 use Rattle.mq_delta_cells.specs.Walks.{BeginsRight, Ground, IsRight, IsRightAt, IsWalked, is_changed, reached_on, reads_at}
 use Rattle.mq_delta_cells.proofs.GroundLemmas.{IsSolid, outside_reached, rounds_level}
 use Rattle.mq_delta_cells.proofs.NodeLemmas.{named_same}
 use Rattle.mq_delta_cells.proofs.StepLemmas.{unreached_kept}
-use Rattle.mq_delta_cells.proofs.TableLemmas.{none_in}
+use Rattle.mq_delta_cells.proofs.MarkLemmas.{none_marked}
 use Rattle.mq_delta_cells.proofs.TotalLemmas.{total_places, total_round, total_within, where_it}
 
 -- what holds of each that passes
@@ -117,7 +117,7 @@ module _ (model : Model) (shape : PartShape) where
 
 module _ (g : Ground) (solid : IsSolid g) (given : CellInput) (first : Results) where
   -- before the first round
-  pub walk_start : (changed : Table) → changed ≡ no_numbers → IsWalked g given first 0 [] changed first
+  pub walk_start : (changed : Marks) → changed ≡ no_marks → IsWalked g given first 0 [] changed first
   walk_start changed none = record {
     sound = λ c h. absurd (let k : false ≡ true = sym (unchanged c) ∙ h in cc);
     kept = λ c h. refl;
@@ -126,7 +126,7 @@ module _ (g : Ground) (solid : IsSolid g) (given : CellInput) (first : Results) 
   }
     where
       unchanged : (c : CellName) → is_changed g changed c ≡ false
-      unchanged c = ap (λ (table : Table). is_changed g table c) none ∙ none_in g.shape.cells c
+      unchanged c = ap (λ (marks : Marks). is_changed g marks c) none ∙ none_marked g.shape.cells c
 
       begins : (c : CellName) (o : Option (List Look)) → node_looks g.model g.shape (Measure c) ≡ o → levelled (node_looks g.model g.shape) 0 (Measure c) ≡ true
           → IsRight g given first changed first c
@@ -140,7 +140,7 @@ module _ (g : Ground) (solid : IsSolid g) (given : CellInput) (first : Results) 
           nothing input = rw e refl
 
   -- a round is done
-  pub walk_round : (n : ℕ) (round : List ℕ) (changed : Table) (results : Results) → round ≡ round_of g.model g.shape n
+  pub walk_round : (n : ℕ) (round : List ℕ) (changed : Marks) (results : Results) → round ≡ round_of g.model g.shape n
       → IsWalked g given first n round changed results → IsWalked g given first (suc n) [] changed results
   walk_round n round changed results same walked = record {
     sound = walked.sound;
@@ -152,7 +152,7 @@ module _ (g : Ground) (solid : IsSolid g) (given : CellInput) (first : Results) 
   }
 
   -- behind the last round
-  module _ (rounds : List (List ℕ)) (n : ℕ) (changed : Table) (results : Results) (are : AreRoundsOf g.model g.shape rounds) (past : length rounds ≤ n)
+  module _ (rounds : List (List ℕ)) (n : ℕ) (changed : Marks) (results : Results) (are : AreRoundsOf g.model g.shape rounds) (past : length rounds ≤ n)
       (walked : IsWalked g given first n [] changed results) where
     pub walk_values : (input : Cells) → given ≡ cell_at input → BeginsRight g input first → (c : CellName) → results c ≡ result_at g.model g.shape input c
     walk_values input from begins c =

@@ -1,6 +1,7 @@
 pub mod Bounds
 pub mod Changes
 pub mod Courses
+pub mod Marks
 pub mod Nodes
 pub mod Readers
 pub mod Seeds

@@ -33,7 +33,8 @@ is_reader keys readers c place = is_linked readers.links (length readers.links) 
 
 -- the readers after are those before, or more
 abbrev pub HasMore : List Tuple → Readers → Readers → Type 0
-HasMore keys before after = (c : CellName) (place : ℕ) → is_reader keys before c place ≡ true → is_reader keys after c place ≡ true
+HasMore keys before after =
+    (c : CellName) (place : ℕ) → is_reader keys before c place ≡ true → is_reader keys after c place ≡ true
 
 -- who may look at a measure: its readers, or, where these are not gathered, all
 abbrev pub may_look : List Tuple → Option Readers → CellName → ℕ → Bool

@@ -13,6 +13,7 @@ use Rattle.mq_ir.specs.Shape.{Assignment}
 use Rattle.mq_cells.specs.Stores.{is_named, name_assigned}
 use Rattle.mq_delta_cells.specs.declared.seeds.Differences.{Differences}
 use Rattle.mq_delta_cells.specs.declared.seeds.Seeds.{Seeds}
+use Rattle.mq_delta_cells.specs.Marks.{is_marked}
 use Rattle.mq_delta_cells.specs.Tables.{HasRulesOf, Table, is_in_table}
 
 -- a measure is among those that moved
@@ -74,7 +75,7 @@ Differ old new keys (Some d) = AreDifferences old new keys d
 
 -- what is kept of a change to a shape with these keys
 pub record AreSeeds (new : PartShape) (keys : List Tuple) (seeds : Seeds) : Type 0 where
-  pub moved : (c : CellName) → is_in_table keys seeds.names c ≡ is_moved seeds.moved.now c
+  pub moved : (c : CellName) → is_marked keys seeds.names c ≡ is_moved seeds.moved.now c
   pub differ : Differ seeds.old.now new keys seeds.differ
 
 -- what this assigns, where rules, by the places of keys, do not, is this measure

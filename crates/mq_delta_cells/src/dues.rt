@@ -4,7 +4,7 @@ ghost use Rattle.mq_ir.specs.declared.query.CellName.{CellName};
 ghost use Rattle.mq_delta_cells.specs.Courses.{IsCourse};
 ghost use Rattle.mq_delta_cells.specs.Readers.{is_due, may_look};
 ghost use Rattle.mq_delta_cells.specs.Seeds.{AreSeeds, is_moved};
-ghost use Rattle.mq_delta_cells.specs.Tables.{no_numbers};
+ghost use Rattle.mq_delta_cells.specs.Marks.{no_marks};
 ghost use Rattle.mq_delta_cells.specs.Walks.{IsDue, ground_of, model_at};
 
 use crate::reader_table::mark_readers;
@@ -17,7 +17,7 @@ use std::alloc::Global;
 pub fn due_at_first(alloc: Global, work: &Work<'_>) -> Result<Vec<bool>, Memory>
     requires course { IsCourse (model_at work.now) work.now.shape.now work.now.course.now }
     requires seeds { AreSeeds work.now.shape.now work.now.course.now.cells work.now.seeds.now }
-    ensures { IfOk result (λ due. IsDue (ground_of work.now) no_numbers due.items) }
+    ensures { IfOk result (λ due. IsDue (ground_of work.now) no_marks due.items) }
 {
     same_looks_are_one();
     match work.seeds.differ {

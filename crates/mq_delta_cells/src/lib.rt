@@ -3,8 +3,12 @@
 
 mod course;
 mod dues;
+mod flags;
+mod known;
+mod mark_table;
 mod node_map;
 mod number_table;
+mod parts;
 mod propagating;
 mod reader_table;
 mod seeds;

@@ -166,7 +166,8 @@ fn note_all(
     readers: &mut ReaderTable,
 ) -> Result<(), Memory>
     ensures more { OnOk result (HasMore cells.now readers.old readers.new) }
-    ensures noted { OnOk result ((c : CellName) → is_looked_at looks.now c ≡ true → is_reader cells.now readers.new c place ≡ true) }
+    ensures noted { OnOk result ((c : CellName) → is_looked_at looks.now c ≡ true
+        → is_reader cells.now readers.new c place ≡ true) }
 {
     'noting: for look in looks {
         note_look(cells, look, place, near, readers)?;

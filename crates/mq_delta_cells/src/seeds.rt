@@ -1,18 +1,19 @@
 //! Where a change begins.
 ghost use Rattle.std.specs.Prelude.{◌≡◌, Some, IfOk};
 ghost use Rattle.std.specs.List.{find};
-ghost use Rattle.mq_ir.specs.declared.query.Look.TheVariants.{Measure};
+ghost use Rattle.mq_ir.specs.declared.query.Look.TheVariants.{Measure, Presence};
 ghost use Rattle.mq_ir.specs.Affected as affected;
 ghost use Rattle.mq_ir.specs.Automatic.{node_of, rule_at};
 ghost use Rattle.mq_ir.specs.Shape.{assigns};
 ghost use Rattle.mq_ir.specs.Unfolding.{model_of};
 ghost use Rattle.mq_auto_shape.specs.Edges.{looks_by};
-ghost use Rattle.mq_cells.specs.Stores.{name_assigned};
+ghost use Rattle.mq_cells.specs.Stores.{cell_name, name_assigned};
 ghost use Rattle.mq_delta_cells.specs.Tables.{HasRulesOf, is_in_table};
 ghost use Rattle.mq_delta_cells.specs.Seeds as spec;
 ghost use Rattle.mq_delta_cells.specs.Seeds.{AreDifferences, AreSeeds};
 
 use crate::course::looks_at;
+use crate::mark_table::MarkTable;
 use crate::number_table::NumberTable;
 use crate::work::Work;
 use mq_change_laws::same_looks_are_one;
@@ -39,36 +40,34 @@ pub struct Differences {
 pub struct Seeds<'a> {
     pub old: &'a PartShape,
     pub moved: &'a [CellName],
-    pub names: NumberTable,
+    pub names: MarkTable,
     pub differ: Option<Differences>,
 }
 
-/// Whether the change begins at a look that no rule assigns; at one that a rule does, whether its cell comes or goes.
-pub fn begins_at_look(work: &Work<'_>, look: &Look, near: &mut u32) -> Result<bool, Memory>
+/// Whether the change begins at measure `m` of the cell at `key` where no rule assigns it; where a rule does, whether its cell comes
+/// or goes.
+pub fn begins_at_measure(work: &Work<'_>, key: &Key, m: u32, near: &mut u32) -> Result<bool, Memory>
     requires rules { HasRulesOf work.now.shape.now work.now.course.now.cells work.now.course.now.rules }
     requires seeds { AreSeeds work.now.shape.now work.now.course.now.cells work.now.seeds.now }
-    ensures { IfOk result (λ begins. begins
-        ≡ spec.is_told_outside work.now.seeds.now.old.now work.now.shape.now work.now.seeds.now.moved.now look.now) }
+    ensures { IfOk result (λ begins. begins ≡ spec.is_told_outside work.now.seeds.now.old.now work.now.shape.now
+        work.now.seeds.now.moved.now (Measure (cell_name key.now m))) }
 {
     match &work.seeds.differ {
-        None => moves_at(work, look, near),
-        Some(differences) => differs_at(work, differences, look, near),
+        None => moves_at(work, key, m, near),
+        Some(differences) => differs_at(work, differences, key, m, near),
     }
 }
 
 // The same where the shapes are one.
-fn moves_at(work: &Work<'_>, look: &Look, near: &mut u32) -> Result<bool, Memory>
+fn moves_at(work: &Work<'_>, key: &Key, m: u32, near: &mut u32) -> Result<bool, Memory>
     requires rules { HasRulesOf work.now.shape.now work.now.course.now.cells work.now.course.now.rules }
     requires seeds { AreSeeds work.now.shape.now work.now.course.now.cells work.now.seeds.now }
     requires same { work.now.seeds.now.old.now ≡ work.now.shape.now }
-    ensures { IfOk result (λ begins. begins
-        ≡ spec.is_told_outside work.now.seeds.now.old.now work.now.shape.now work.now.seeds.now.moved.now look.now) }
+    ensures { IfOk result (λ begins. begins ≡ spec.is_told_outside work.now.seeds.now.old.now work.now.shape.now
+        work.now.seeds.now.moved.now (Measure (cell_name key.now m))) }
 {
-    let Look::Measure(name) = look else {
-        return Ok(false);
-    };
-    if has(work, &work.seeds.names, name, near)? {
-        Ok(!has(work, &work.course.rules, name, near)?)
+    if work.seeds.names.has(&work.course.cells, key, m, near)? {
+        Ok(!is_ruled(work, &work.course.rules, key, m, near)?)
     } else {
         Ok(false)
     }
@@ -78,62 +77,72 @@ fn moves_at(work: &Work<'_>, look: &Look, near: &mut u32) -> Result<bool, Memory
 fn differs_at(
     work: &Work<'_>,
     differences: &Differences,
-    look: &Look,
+    key: &Key,
+    m: u32,
     near: &mut u32,
 ) -> Result<bool, Memory>
     requires rules { HasRulesOf work.now.shape.now work.now.course.now.cells work.now.course.now.rules }
     requires seeds { AreSeeds work.now.shape.now work.now.course.now.cells work.now.seeds.now }
     requires differ { AreDifferences work.now.seeds.now.old.now work.now.shape.now work.now.course.now.cells differences.now }
-    ensures { IfOk result (λ begins. begins
-        ≡ spec.is_told_outside work.now.seeds.now.old.now work.now.shape.now work.now.seeds.now.moved.now look.now) }
+    ensures { IfOk result (λ begins. begins ≡ spec.is_told_outside work.now.seeds.now.old.now work.now.shape.now
+        work.now.seeds.now.moved.now (Measure (cell_name key.now m))) }
 {
-    match look {
-        Look::Presence(key) => Ok(differences.base.has(key)),
-        Look::Measure(name) => {
-            if differences.cells.has(&name.key) {
-                return Ok(true);
-            }
-            differs_by_rules(work, differences, name, near)
-        }
+    if differences.cells.has(key) {
+        return Ok(true);
     }
+    differs_by_rules(work, differences, key, m, near)
 }
 
 // Whether a change begins at a measure whose cell is in both shapes or in neither, and that no rule of the new one assigns.
 fn differs_by_rules(
     work: &Work<'_>,
     differences: &Differences,
-    name: &CellName,
+    key: &Key,
+    m: u32,
     near: &mut u32,
 ) -> Result<bool, Memory>
     requires rules { HasRulesOf work.now.shape.now work.now.course.now.cells work.now.course.now.rules }
     requires seeds { AreSeeds work.now.shape.now work.now.course.now.cells work.now.seeds.now }
     requires differ { AreDifferences work.now.seeds.now.old.now work.now.shape.now work.now.course.now.cells differences.now }
-    ensures { IfOk result (λ begins. begins
-        ≡ spec.outside_by work.now.seeds.now.old.now work.now.shape.now work.now.seeds.now.moved.now name.now
-        (rule_at work.now.seeds.now.old.now (Measure name.now)) (rule_at work.now.shape.now (Measure name.now))) }
+    ensures { IfOk result (λ begins. begins ≡ spec.outside_by work.now.seeds.now.old.now work.now.shape.now
+        work.now.seeds.now.moved.now (cell_name key.now m)
+        (rule_at work.now.seeds.now.old.now (Measure (cell_name key.now m))) (rule_at work.now.shape.now (Measure (cell_name key.now m)))) }
 {
-    if has(work, &work.course.rules, name, near)? {
+    if is_ruled(work, &work.course.rules, key, m, near)? {
         return Ok(false);
     }
-    if has(work, &differences.rules, name, near)? {
+    if is_ruled(work, &differences.rules, key, m, near)? {
         return Ok(true);
     }
-    if differences.base.has(&name.key) {
+    if differences.base.has(key) {
         return Ok(true);
     }
-    has(work, &work.seeds.names, name, near)
+    work.seeds.names.has(&work.course.cells, key, m, near)
 }
 
-/// Whether a measure has a number in a table, by the cells of the course.
-pub fn has(
+/// Whether the change begins at a presence.
+pub fn begins_at_presence(work: &Work<'_>, key: &Key) -> bool
+    requires { AreSeeds work.now.shape.now work.now.course.now.cells work.now.seeds.now }
+    ensures { result ≡ spec.is_told_outside work.now.seeds.now.old.now work.now.shape.now work.now.seeds.now.moved.now
+        (Presence key.now) }
+{
+    match &work.seeds.differ {
+        None => false,
+        Some(differences) => differences.base.has(key),
+    }
+}
+
+// Whether one of these rules, by the cells of the course, assigns measure `m` of the cell at `key`.
+fn is_ruled(
     work: &Work<'_>,
-    table: &NumberTable,
-    name: &CellName,
+    rules: &NumberTable,
+    key: &Key,
+    m: u32,
     near: &mut u32,
 ) -> Result<bool, Memory>
-    ensures { IfOk result (λ has. has ≡ is_in_table work.now.course.now.cells table.now name.now) }
+    ensures { IfOk result (λ ruled. ruled ≡ is_in_table work.now.course.now.cells rules.now (cell_name key.now m)) }
 {
-    let number = table.get(&work.course.cells, &name.key, name.measure, near)?;
+    let number = rules.get(&work.course.cells, key, m, near)?;
     Ok(number.is_some())
 }
 

@@ -2,11 +2,13 @@
 ghost use Rattle.std.specs.Prelude.{◌≡◌, ◌||◌, ◌&&◌, not, None, true, if◌then◌else◌, IfOk, IfSome, OnOk};
 ghost use Rattle.mq_ir.specs.Keys.{Tuple, is_among};
 ghost use Rattle.mq_ir.specs.declared.query.CellName.{CellName};
-ghost use Rattle.mq_delta_cells.specs.Tables.{HasRulesOf, is_in_table};
+ghost use Rattle.mq_delta_cells.specs.Marks.{is_marked};
+ghost use Rattle.mq_delta_cells.specs.Tables.{HasRulesOf};
 ghost use Rattle.mq_values.specs.KeySets.{HasKeysOf};
 ghost use Rattle.mq_delta_cells.specs.Seeds.{AreDifferences, AreSeeds, HasOddKeysOf, has_vanished, is_gone, is_gone_at, is_missing, is_missing_at, is_moved};
 
 use crate::course::rules_of;
+use crate::mark_table::MarkTable;
 use crate::number_table::NumberTable;
 use crate::seeds::{Differences, Seeds};
 use mq_cells::{Cells, keys_ascend};
@@ -68,13 +70,13 @@ pub fn moved_alone<'a>(
 }
 
 // These measures, to be looked up by the places of cells.
-fn names_of(alloc: Global, cells: &DimIndex, moved: &[CellName]) -> Result<NumberTable, Memory>
-    ensures { IfOk result (λ names. (c : CellName) → is_in_table cells.now names c ≡ is_moved moved.now c) }
+fn names_of(alloc: Global, cells: &DimIndex, moved: &[CellName]) -> Result<MarkTable, Memory>
+    ensures { IfOk result (λ names. (c : CellName) → is_marked cells.now names c ≡ is_moved moved.now c) }
 {
-    let mut names = NumberTable::new(alloc);
+    let mut names = MarkTable::new(alloc);
     let mut near = 0;
     'putting: for name in moved {
-        names.put(cells, &name.key, name.measure, 0, &mut near)?;
+        names.put(cells, &name.key, name.measure, &mut near)?;
     }
     Ok(names)
 }

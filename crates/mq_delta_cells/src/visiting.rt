@@ -1,6 +1,6 @@
 //! An assignment that a change may reach.
 ghost use Rattle.std.specs.Prelude.{◌≡◌, ◌+◌, ◌-◌, ◌≤◌, ◌<◌, Some, length, slice_get, if◌then◌else◌, IfOk, OnOk};
-ghost use Rattle.std.specs.List.{find, list_any};
+ghost use Rattle.std.specs.List.{find};
 ghost use Rattle.mq_ir.specs.declared.query.Rule.{Rule};
 ghost use Rattle.mq_ir.specs.Shape.{Assignment, assigns};
 ghost use Rattle.mq_ir.specs.Slots.{cell_slot};
@@ -13,12 +13,14 @@ ghost use Rattle.mq_delta_cells.specs.Readers as readers;
 ghost use Rattle.mq_delta_cells.specs.Readers.{HasMarked};
 ghost use Rattle.mq_delta_cells.specs.Seeds.{AreSeeds};
 ghost use Rattle.mq_delta_cells.specs.Walks as spec;
-ghost use Rattle.mq_delta_cells.specs.Walks.{IsAssigned, IsDue, IsVisited, ground_of, is_known_in, model_at};
+ghost use Rattle.mq_delta_cells.specs.Walks.{IsAssigned, IsDue, IsVisited, ground_of, model_at};
 
 use crate::course::{looks_by_cells, rule_of};
-use crate::number_table::NumberTable;
+use crate::known::is_some_known;
+use crate::mark_table::MarkTable;
+use crate::parts::is_hit_by_parts;
 use crate::reader_table::mark_readers;
-use crate::seeds::{begins_at_look, begins_at_target, has};
+use crate::seeds::begins_at_target;
 use crate::work::Work;
 use mq_cells::Cells;
 use mq_ir::{Look, Slot};
@@ -32,7 +34,7 @@ pub fn visit<C: Cells>(
     alloc: Global,
     work: &Work<'_>,
     place: u32,
-    changed: &mut NumberTable,
+    changed: &mut MarkTable,
     due: &mut Vec<bool>,
     near: &mut u32,
     cells: &mut C,
@@ -61,7 +63,7 @@ fn is_hit_at(
     work: &Work<'_>,
     place: u32,
     a: &(Key, u32, u32),
-    changed: &NumberTable,
+    changed: &MarkTable,
     due: &[bool],
     near: &mut u32,
 ) -> Result<bool, Memory>
@@ -98,7 +100,26 @@ fn is_hit_by_rule(
     alloc: Global,
     work: &Work<'_>,
     a: &(Key, u32, u32),
-    changed: &NumberTable,
+    changed: &MarkTable,
+    near: &mut u32,
+) -> Result<bool, Memory>
+    requires course { IsCourse (model_at work.now) work.now.shape.now work.now.course.now }
+    requires seeds { AreSeeds work.now.shape.now work.now.course.now.cells work.now.seeds.now }
+    requires own { find (assigns a.now.1 a.now.0) work.now.shape.now.assigned ≡ Some a.now }
+    ensures { IfOk result (λ hit. hit ≡ spec.is_hit (ground_of work.now) changed.now a.now) }
+{
+    match work.seeds.differ {
+        Some(_) => is_hit_by_looks(alloc, work, a, changed, near),
+        None => is_hit_by_parts(alloc, work, a, changed, near),
+    }
+}
+
+// The same by all that its rule looks at.
+fn is_hit_by_looks(
+    alloc: Global,
+    work: &Work<'_>,
+    a: &(Key, u32, u32),
+    changed: &MarkTable,
     near: &mut u32,
 ) -> Result<bool, Memory>
     requires course { IsCourse (model_at work.now) work.now.shape.now work.now.course.now }
@@ -116,7 +137,7 @@ fn is_hit(
     work: &Work<'_>,
     a: &(Key, u32, u32),
     looks: &[Look],
-    changed: &NumberTable,
+    changed: &MarkTable,
     near: &mut u32,
 ) -> Result<bool, Memory>
     requires course { IsCourse (model_at work.now) work.now.shape.now work.now.course.now }
@@ -131,50 +152,12 @@ fn is_hit(
     is_some_known(work, looks, changed, near)
 }
 
-// Whether one of these looks is known to be reached.
-fn is_some_known(
-    work: &Work<'_>,
-    looks: &[Look],
-    changed: &NumberTable,
-    near: &mut u32,
-) -> Result<bool, Memory>
-    requires course { IsCourse (model_at work.now) work.now.shape.now work.now.course.now }
-    requires seeds { AreSeeds work.now.shape.now work.now.course.now.cells work.now.seeds.now }
-    ensures { IfOk result (λ some. some ≡ list_any (is_known_in (ground_of work.now) changed.now) looks.now) }
-{
-    for look in looks {
-        if is_known(work, look, changed, near)? {
-            return Ok(true);
-        }
-    }
-    Ok(false)
-}
-
-// Whether a look is known to be reached.
-fn is_known(
-    work: &Work<'_>,
-    look: &Look,
-    changed: &NumberTable,
-    near: &mut u32,
-) -> Result<bool, Memory>
-    requires course { IsCourse (model_at work.now) work.now.shape.now work.now.course.now }
-    requires seeds { AreSeeds work.now.shape.now work.now.course.now.cells work.now.seeds.now }
-    ensures { IfOk result (λ known. known ≡ is_known_in (ground_of work.now) changed.now look.now) }
-{
-    if let Look::Measure(name) = look {
-        if has(work, changed, name, near)? {
-            return Ok(true);
-        }
-    }
-    begins_at_look(work, look, near)
-}
-
 // Puts at the measure of an assignment what its rule makes of the cell, and marks what looks at it.
 fn assign<C: Cells>(
     alloc: Global,
     work: &Work<'_>,
     a: &(Key, u32, u32),
-    changed: &mut NumberTable,
+    changed: &mut MarkTable,
     due: &mut Vec<bool>,
     near: &mut u32,
     cells: &mut C,
@@ -191,7 +174,7 @@ fn assign<C: Cells>(
     let slot = slot_for(alloc, work, a, cells)?;
     cells.put(&a.0, a.1, slot)?;
     let course = work.course;
-    changed.put(&course.cells, &a.0, a.1, a.2, near)?;
+    changed.put(&course.cells, &a.0, a.1, near)?;
     mark_readers(&course.readers, &course.cells, &a.0, a.1, near, due)
 }
 

@@ -13,7 +13,7 @@ ghost use Rattle.mq_delta_cells.specs.Seeds.{AreSeeds};
 ghost use Rattle.mq_delta_cells.specs.Walks.{BeginsRight, IsDue, IsWalked, ground_of, model_at, reached_on, reads_at};
 
 use crate::dues::due_at_first;
-use crate::number_table::NumberTable;
+use crate::mark_table::MarkTable;
 use crate::visiting::visit;
 use crate::work::Work;
 use mq_cells::Cells;
@@ -36,7 +36,7 @@ pub fn walk_rounds<C: Cells>(alloc: Global, work: &Work<'_>, cells: &mut C) -> R
     ensures same_input { C.input cells.new ≡ C.input cells.old }
 {
     steps_read_their_looks();
-    let mut changed = NumberTable::new(alloc);
+    let mut changed = MarkTable::new(alloc);
     let mut near = 0;
     let mut due = due_at_first(alloc, work)?;
     'rounds: for round in work.course.rounds.as_slice() {
@@ -58,7 +58,7 @@ fn walk_round<C: Cells>(
     alloc: Global,
     work: &Work<'_>,
     round: &[u32],
-    changed: &mut NumberTable,
+    changed: &mut MarkTable,
     due: &mut Vec<bool>,
     near: &mut u32,
     cells: &mut C,

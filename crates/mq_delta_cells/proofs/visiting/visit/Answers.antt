@@ -63,7 +63,7 @@ returns-in_ok-assign-clause-due g c =
     let it = c.index-as_slice-place.result in
     let done = c.in_ok-assign.ensures.assigned in
     due_next (ground_of work) work.course.now.cells work.course.now.readers c.requires.course.readers c.args.changed.now c.assign.new.changed
-    (name_assigned it) it.2 c.args.due.now.items c.assign.new.due.items done.noted c.in_ok-assign.ensures.marked c.requires.due
+    (name_assigned it) c.args.due.now.items c.assign.new.due.items done.noted c.in_ok-assign.ensures.marked c.requires.due
 
 pub assign-requires-clause-ruled : goal.assign-requires-clause-ruled
 assign-requires-clause-ruled g c =

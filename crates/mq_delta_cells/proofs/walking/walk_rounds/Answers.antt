@@ -1,6 +1,6 @@
 use Rattle.std.proofs.Common.{◌+◌, refl, sym, subst, ◌∙◌, arith}
 use Rattle.mq_auto_shape.specs.Found.{AreRoundsOf}
-use Rattle.mq_delta_cells.specs.Tables.{Table}
+use Rattle.mq_delta_cells.specs.Marks.{Marks}
 use Rattle.mq_delta_cells.specs.Walks.{IsDue, ground_of, model_at}
 use Rattle.mq_delta_cells.proofs.GroundLemmas.{solid}
 use Rattle.mq_delta_cells.proofs.RoundLemmas.{rounds_next, rounds_reads, rounds_within}
@@ -14,7 +14,7 @@ rounds-init g c =
     record {
       walked = walk_start (ground_of work) firm (g.C.Cells.input c.args.cells.now) (g.C.Cells.results c.args.cells.now) c.new-changed.result c.new-changed.ensures;
       reads = omega arith;
-      due = subst (λ (changed : Table). IsDue (ground_of work) changed c.in_ok-due.due.items) (sym c.new-changed.ensures) c.in_ok-due.ensures;
+      due = subst (λ (changed : Marks). IsDue (ground_of work) changed c.in_ok-due.due.items) (sym c.new-changed.ensures) c.in_ok-due.ensures;
       same = refl;
     }
 

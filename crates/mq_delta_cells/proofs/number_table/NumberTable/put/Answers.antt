@@ -26,4 +26,4 @@ returns-in_ok-copy-in-None c =
     (λ put. put_seen c.args.cells.now c.args.self.now (record { lanes = inside.lanes; elsewhere = inside.elsewhere }) (record { lanes = inside.lanes; elsewhere = c.put-in-None.new.self })
     (cell_name key c.args.m) c.args.number c.self.view_is
     (put_named c.args.cells.now key c.args.m c.args.number inside.lanes inside.elsewhere c.put-in-None.new.self none
-    (subst (λ (k : Tuple). Numbers inside.elsewhere c.put-in-None.new.self (cell_name k c.args.m) c.args.number) c.in_ok-copy-in-None.ensures put))) c.put-in-None.ensures
+    (subst (λ (k : Tuple). Numbers inside.elsewhere c.put-in-None.new.self (cell_name k c.args.m) c.args.number) c.in_ok-copy-in-None.ensures put))) c.put-in-None.ensures.ok
