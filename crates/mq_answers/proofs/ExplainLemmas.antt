@@ -1,5 +1,5 @@
 -- Explaining a measure of a cell, once what its query reads is there, or has a fault.
-use Rattle.std.proofs.Common.{◌≡◌, List, [], Bool, true, Result, Ok, Err, refl, sym, ap, ◌∙◌}
+use Rattle.std.proofs.Common.{◌≡◌, List, [], Bool, true, false, Result, Ok, Err, refl, sym, ap, ◌∙◌}
 use Rattle.std.specs.Prelude.{if◌then◌else◌}
 use Rattle.std.specs.List.{enumerate_from}
 use Rattle.mq_values.specs.Answers.{Gives}
@@ -101,16 +101,20 @@ found_done model p shape h = by (shape_found model p) refl h
     by (Ok s) e g = let is : shape ≡ s = cc in e ∙ ap Ok (sym is)
     by (Err fault) e g = absurd (cc)
 
-pub steps_told : (model : Model) (p : PartInput) (shape : PartShape) (c : CellName) (d : Derivation) → shape_found model p ≡ Ok shape
-    → is_among shape.cells c.key ≡ true → d.steps ≡ derivation model shape p.cells c → explained.Steps d ≡ explained_in model c p
-steps_told model p shape c d found there steps =
-    ap (λ steps. explained.Steps (record { steps = steps })) steps
-    ∙ sym (ap (λ (b : Bool). if b then explained.Steps (record { steps = derivation model shape p.cells c }) else explained.NoCell) there)
-    ∙ sym (ap told found)
-  where
-    told : Result PartShape Placed → Explained
-    told r =
-        elim r [
-          | Err fault ↦ explained.Fault (at_partition p.key fault)
-          | Ok s ↦ if is_among s.cells c.key then explained.Steps (record { steps = derivation model s p.cells c }) else explained.NoCell
-        ]
+module _ (model : Model) (p : PartInput) (shape : PartShape) (c : CellName) (found : shape_found model p ≡ Ok shape) where
+  abbrev answer_where : Bool → Explained
+  answer_where b = if b then explained.Steps (record { steps = derivation model shape p.cells c }) else explained.NoCell
+
+  abbrev told : Result PartShape Placed → Explained
+  told r =
+      elim r [
+        | Err fault ↦ explained.Fault (at_partition p.key fault)
+        | Ok s ↦ if is_among s.cells c.key then explained.Steps (record { steps = derivation model s p.cells c }) else explained.NoCell
+      ]
+
+  pub steps_told : (d : Derivation) → is_among shape.cells c.key ≡ true → d.steps ≡ derivation model shape p.cells c
+      → explained.Steps d ≡ explained_in model c p
+  steps_told d is steps = ap (λ steps. explained.Steps (record { steps = steps })) steps ∙ sym (ap answer_where is) ∙ sym (ap told found)
+
+  pub no_cell_told : is_among shape.cells c.key ≡ false → explained.NoCell ≡ explained_in model c p
+  no_cell_told is = sym (ap answer_where is) ∙ sym (ap told found)

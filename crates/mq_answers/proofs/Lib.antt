@@ -3,6 +3,7 @@ pub mod ColumnLemmas
 pub mod CrossLemmas
 pub mod CutLemmas
 pub mod ExplainLemmas
+pub mod KeptExplainLemmas
 pub mod KeptLemmas
 pub mod MarkLemmas
 pub mod NumberLemmas

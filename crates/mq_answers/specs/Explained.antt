@@ -1,7 +1,10 @@
--- What explaining a measure of a cell comes to, with a fault of what its query reads set apart.
-use Rattle.std.specs.Prelude.{List, Result, Ok}
+-- What explaining a measure of a cell comes to, with a fault of what its query reads set apart; and kept partitions by their keys.
+use Rattle.std.specs.Prelude.{Bool, List, Result, Ok}
 use Rattle.std.specs.List.{find}
+use Rattle.std.specs.List.Sorted.{IsStrictlySortedBy}
 use Rattle.std.specs.Option.{option_map_or}
+use Rattle.std.specs.Ordering.{on}
+use Rattle.mq_values.specs.Order.{cmp_key}
 use Rattle.mq_values.specs.declared.faults.QueryFault.{QueryFault}
 use Rattle.mq_ir.specs.declared.query.BoundQuery.{BoundQuery}
 use Rattle.mq_ir.specs.declared.query.CellName.{CellName}
@@ -16,6 +19,7 @@ use Rattle.mq_ir.specs.Partitions.{Tuple, partitions}
 use Rattle.mq_ir.specs.Results.{◌>>=◌}
 use Rattle.mq_ir.specs.Tables.{Tables}
 use Rattle.mq_ir.specs.Unfolding.{Model}
+use Rattle.mq_kept.specs.declared.kept_view.KeptPart.{KeptPart}
 
 -- in the partition with this key among these, where there is one
 abbrev pub explained_among : Model → List PartInput → Tuple → CellName → Explained
@@ -28,3 +32,14 @@ explained_items tables items part key c = model_over tables part >>= (λ model. 
 abbrev pub explained_with : Tables → BoundQuery → ModelPart → Tuple → CellName → Result Explained QueryFault
 explained_with tables q part key c =
     model_with_items tables q part >>= (λ found. Ok (explained_among found.1 (partitions part found.0) key c))
+
+-- ---- partitions that are kept
+abbrev pub key_of : KeptPart → Tuple
+key_of kept = kept.input.key
+
+abbrev pub has_key : Tuple → KeptPart → Bool
+has_key key kept = is_same key kept.input.key
+
+-- they ascend by their keys, each once
+abbrev pub PartsAscend : List KeptPart → Type 0
+PartsAscend parts = IsStrictlySortedBy (on key_of cmp_key) parts

@@ -1,10 +1,10 @@
 //! Where the value of a measure of a cell of a query comes from.
-ghost use Rattle.std.specs.Prelude.{◌≡◌, Ok, Some, IfOk};
+ghost use Rattle.std.specs.Prelude.{◌≡◌, [], Ok, Some, IfOk};
 ghost use Rattle.std.specs.List.{All, find};
 ghost use Rattle.std.specs.Option.{option_copied};
 ghost use Rattle.mq_values.specs.Answers.{Gives};
 ghost use Rattle.mq_ir.specs.Automatic.{shape_found};
-ghost use Rattle.mq_ir.specs.Derivations.{derivation};
+ghost use Rattle.mq_ir.specs.Derivations.{AreAccepted, derivation};
 ghost use Rattle.mq_ir.specs.Explaining as spec;
 ghost use Rattle.mq_ir.specs.Keys.{is_among, is_same};
 ghost use Rattle.mq_ir.specs.Ready.{IsReady, QueryIsReady};
@@ -111,8 +111,8 @@ fn partition_at<'a>(inputs: &'a [PartInput], key: &Key) -> Option<&'a PartInput>
     inputs.iter().find(|p| key.cmp(&p.key).is_eq())
 }
 
-// In one partition: faults of others play no part.
-fn explained_in(
+/// The same in one partition, which is computed: faults of others play no part.
+pub fn explained_in(
     alloc: Global,
     m: &Lent<'_>,
     p: &PartInput,
@@ -134,7 +134,8 @@ fn explained_in(
     }
 }
 
-fn is_cell(shape: &PartShape, key: &Key) -> bool
+/// Whether a cell is there in the end.
+pub fn is_cell(shape: &PartShape, key: &Key) -> bool
     ensures { result ≡ is_among shape.now.cells key.now }
 {
     shape
@@ -144,7 +145,7 @@ fn is_cell(shape: &PartShape, key: &Key) -> bool
         .any(|other| key.cmp(other).is_eq())
 }
 
-// The steps, which are handed out only where they are accepted.
+// The steps that come of what was computed.
 fn steps_of<C: Cells>(
     alloc: Global,
     m: &Lent<'_>,
@@ -159,6 +160,20 @@ fn steps_of<C: Cells>(
     ensures { IfOk result (λ d. d.steps ≡ derivation (model_of m.now) shape.now p.now.cells cell.now) }
 {
     let steps = derive(alloc, m, shape, cells, cell)?;
+    accepted(alloc, m, p, shape, steps)
+}
+
+/// These steps of a partition, of which `check` is asked once more before they are handed out.
+pub fn accepted(
+    alloc: Global,
+    m: &Lent<'_>,
+    p: &PartInput,
+    shape: &PartShape,
+    steps: Derivation,
+) -> Result<Derivation, Memory>
+    requires { AreAccepted (model_of m.now) shape.now p.now.cells [] steps.steps }
+    ensures { IfOk result (λ d. d ≡ steps) }
+{
     if check(alloc, m, p, shape, &steps)? {
         Ok(steps)
     } else {

@@ -29,8 +29,8 @@ use std::thread::Threads;
 
 /// What a query with MODEL answers over these tables, as `answer_over` has it. What was kept of it before follows the tables, where it
 /// is not fresh, and only what the change of the tables reached is run again, by the crew. Out comes what is kept of it now, beside the
-/// answer: nothing where the query has a fault before its partitions (docs/MEANING.md, "Kept views"). `Memory` is the only error, and
-/// then nothing is kept.
+/// answer: nothing where the query has a fault before its partitions (docs/MEANING.md, "Kept views"). What is read of the stores of
+/// partitions that are kept is added to `reads`. `Memory` is the only error, and then nothing is kept.
 pub fn kept_answer<R: Threads + Sync, T: TableSet, G: Gate>(
     crew: &Crew<'_, '_, R, G>,
     alloc: Global,
@@ -38,6 +38,7 @@ pub fn kept_answer<R: Threads + Sync, T: TableSet, G: Gate>(
     q: &BoundQuery,
     part: &ModelPart,
     old: Option<StandingView>,
+    reads: &mut u64,
 ) -> Result<(Option<StandingView>, Answer), Memory>
     requires ready { QueryIsReady q.now }
     requires model { q.now.model ≡ Some part.now }
@@ -45,8 +46,8 @@ pub fn kept_answer<R: Threads + Sync, T: TableSet, G: Gate>(
     ensures exact { IfOk result (λ r. r.1 ≡ spec.answer_of (T.tables tables.now) q.now) }
     ensures standing { IfOk result (λ r. IfSome r.0 (IsStanding (T.tables tables.now) q.now part.now)) }
 {
-    match view_now(alloc, tables, q, part, old) {
-        Ok(view) => answer_of_view(crew, alloc, q, part, view),
+    match view_now(alloc, tables, q, part, old, reads) {
+        Ok(view) => answer_of_view(crew, alloc, q, part, view, reads),
         Err(Fail::Cause(fault)) => Ok((None, Answer::Fault(fault))),
         Err(Fail::Memory) => Err(Memory),
     }
@@ -59,6 +60,7 @@ fn view_now<T: TableSet>(
     q: &BoundQuery,
     part: &ModelPart,
     old: Option<StandingView>,
+    reads: &mut u64,
 ) -> Result<KeptView, Fail<QueryFault>>
     requires ready { QueryIsReady q.now }
     requires model { q.now.model ≡ Some part.now }
@@ -71,7 +73,7 @@ fn view_now<T: TableSet>(
     if old.fresh {
         return Ok(old.view);
     }
-    match followed(alloc, tables, q, part, old.view)? {
+    match followed(alloc, tables, q, part, old.view, reads)? {
         Some(view) => Ok(view),
         None => begun(alloc, tables, q, part),
     }
@@ -84,6 +86,7 @@ fn answer_of_view<R: Threads + Sync, G: Gate>(
     q: &BoundQuery,
     part: &ModelPart,
     view: KeptView,
+    reads: &mut u64,
 ) -> Result<(Option<StandingView>, Answer), Memory>
     requires model { q.now.model ≡ Some part.now }
     requires right { AllRight part.now view }
@@ -102,7 +105,7 @@ fn answer_of_view<R: Threads + Sync, G: Gate>(
         lists: lists.as_slice(),
         refs: refs.as_slice(),
     };
-    let (parts, answer) = answer_of_parts(crew, alloc, q, &model, parts)?;
+    let (parts, answer) = answer_of_parts(crew, alloc, q, &model, parts, reads)?;
     let view = KeptView {
         lists,
         refs,
@@ -119,6 +122,7 @@ fn answer_of_parts<R: Threads + Sync, G: Gate>(
     q: &BoundQuery,
     m: &Lent<'_>,
     parts: Items<KeptPart>,
+    reads: &mut u64,
 ) -> Result<(Items<KeptPart>, Answer), Memory>
     requires right { All (IsRight (model_of m.now)) parts }
     ensures exact { IfOk result (λ r. r.1 ≡ shown_of (result_map (printing.printed_rows q.now) (gathered_rows (model_of m.now) (inputs_of parts)))) }
@@ -126,7 +130,7 @@ fn answer_of_parts<R: Threads + Sync, G: Gate>(
     ensures same { IfOk result (λ r. inputs_of r.0 ≡ inputs_of parts) }
 {
     let mut parts = settled(crew, alloc, m, parts)?;
-    match shown_parts(alloc, q, m, parts.as_mut_slice()) {
+    match shown_parts(alloc, q, m, parts.as_mut_slice(), reads) {
         Ok(rows) => Ok((Items::from_vec(parts), Answer::Rows(rows))),
         Err(Fail::Cause(fault)) => Ok((Items::from_vec(parts), Answer::Fault(fault))),
         Err(Fail::Memory) => Err(Memory),
@@ -139,13 +143,14 @@ fn shown_parts(
     q: &BoundQuery,
     m: &Lent<'_>,
     parts: &mut [KeptPart],
+    reads: &mut u64,
 ) -> Result<Items<Key>, Fail<QueryFault>>
     requires right { All (IsRight (model_of m.now)) parts.old }
     ensures exact { Gives result (result_map (printing.printed_rows q.now) (gathered_rows (model_of m.now) (inputs_of parts.old))) }
     ensures right { All (IsRight (model_of m.now)) parts.new }
     ensures same { inputs_of parts.new ≡ inputs_of parts.old }
 {
-    let gathered = gathered_parts(alloc, m, parts)?;
+    let gathered = gathered_parts(alloc, m, parts, reads)?;
     Ok(printed_keys(alloc, q, gathered.rows)?)
 }
 
@@ -154,6 +159,7 @@ fn gathered_parts(
     alloc: Global,
     m: &Lent<'_>,
     parts: &mut [KeptPart],
+    reads: &mut u64,
 ) -> Result<KeptRows, Fail<QueryFault>>
     requires right { All (IsRight (model_of m.now)) parts.old }
     ensures exact { Gives result (each_in_turn (spec.partition_step (model_of m.now)) (inputs_of parts.old) (0, [])) }
@@ -162,7 +168,7 @@ fn gathered_parts(
 {
     let mut gathered = KeptRows::new(alloc);
     for part in parts.iter_mut() {
-        gathered = with_part(alloc, m, part, gathered)?;
+        gathered = with_part(alloc, m, part, gathered, reads)?;
     }
     Ok(gathered)
 }
@@ -173,13 +179,14 @@ fn with_part(
     m: &Lent<'_>,
     part: &mut KeptPart,
     gathered: KeptRows,
+    reads: &mut u64,
 ) -> Result<KeptRows, Fail<QueryFault>>
     requires right { IsRight (model_of m.now) part.old }
     ensures exact { Gives result (spec.partition_step (model_of m.now) part.old.input gathered) }
     ensures right { IsRight (model_of m.now) part.new }
     ensures same_input { part.new.input ≡ part.old.input }
 {
-    show(alloc, m, part)?;
+    show(alloc, m, part, reads)?;
     match &part.shown {
         Some(shown) => with_shown(&part.input.key, gathered, shown),
         None => unreachable!(),

@@ -6,6 +6,7 @@
 mod columns;
 mod cuts;
 mod explaining;
+mod explaining_kept;
 mod gathering;
 mod kept_answers;
 mod kept_stretches;
@@ -18,6 +19,7 @@ mod stretches;
 mod workers;
 
 pub use explaining::explained_over;
+pub use explaining_kept::explained_kept;
 pub use kept_answers::kept_answer;
 pub use queries::answer_over;
 pub use workers::{Crew, MAX_WORKERS, Workers};

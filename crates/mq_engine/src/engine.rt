@@ -17,7 +17,7 @@ use crate::kept_views::KeptViews;
 use crate::open_block::OpenBlock;
 use crate::uses::{table_of, user_of};
 use crate::views::NoView;
-use mq_answers::{Crew, Workers, answer_over, explained_over};
+use mq_answers::{Crew, Workers, answer_over};
 use mq_io::Gate;
 use mq_ir::{Answer, BoundQuery, ByName, Catalog, CellName, Change, Explained, TableDef, View};
 use mq_tables::Tables;
@@ -214,6 +214,21 @@ impl Engine {
         }
     }
 
+    /// How many partitions of the view of this name are kept: in automatic order those that have their shape and their store, in
+    /// sequential order those that have their result; 0 where there is no such view, or where it has no MODEL. It takes no memory.
+    pub fn kept(&self, view: &str) -> u32 {
+        match self.catalog.views.get(view) {
+            Some(found) => self.kept.count(view, is_automatic(&found.query)),
+            None => 0,
+        }
+    }
+
+    /// How many slots were read of the stores of kept partitions so far, since they are kept, up to 2^64 - 1. No call lowers it. It
+    /// takes no memory.
+    pub fn reads(&self) -> u64 {
+        self.kept.reads()
+    }
+
     /// What a query that is ready (mq_ir's `specs/Ready`) answers over the tables as they stand (docs/MEANING.md, "Answers").
     /// `Memory` is the only error.
     pub fn query<R: Threads + Sync, G: Gate>(
@@ -244,18 +259,30 @@ impl Engine {
     {
         match self.catalog.views.get(view) {
             Some(found) => match &found.query.model {
-                Some(model) => Ok(explained_over(
-                    alloc,
-                    &self.tables,
-                    &found.query,
-                    model,
-                    part,
-                    cell,
-                )?),
+                Some(model) => Ok(
+                    self.kept.explained(
+                        alloc,
+                        &self.tables,
+                        &self.catalog.views,
+                        view,
+                        found,
+                        model,
+                        part,
+                        cell,
+                    )?,
+                ),
                 None => Err(no_view(alloc, view)?),
             },
             None => Err(no_view(alloc, view)?),
         }
+    }
+}
+
+// Whether a query has a model in automatic order.
+fn is_automatic(query: &BoundQuery) -> bool {
+    match &query.model {
+        Some(part) => part.auto,
+        None => false,
     }
 }
 

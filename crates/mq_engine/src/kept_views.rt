@@ -21,10 +21,11 @@ use std::mem;
 use std::thread::Threads;
 
 /// What is kept of views, each by the name of its view: it is right for the model of that view, and where it is fresh it is what the
-/// query of the view reads of the tables as they stand.
+/// query of the view reads of the tables as they stand. Beside it stands how much was read of the stores of its partitions so far.
 #[derive(Drop)]
 pub struct KeptViews {
     pub views: IndexMap<String, StandingView>,
+    reads: u64,
 }
 
 impl KeptViews {
@@ -34,7 +35,21 @@ impl KeptViews {
     {
         KeptViews {
             views: IndexMap::new(alloc),
+            reads: 0,
         }
+    }
+
+    /// How many partitions are kept of the view of this name, in automatic order or not (`kept_count` of mq_kept).
+    pub fn count(&self, name: &str, automatic: bool) -> u32 {
+        match self.views.get(name) {
+            Some(standing) => standing.view.kept_count(automatic),
+            None => 0,
+        }
+    }
+
+    /// How much was read so far of the stores of partitions that are kept.
+    pub fn reads(&self) -> u64 {
+        self.reads
     }
 
     /// Takes out what is kept of the view of this name, which stands where all does.
@@ -84,7 +99,7 @@ impl KeptViews {
             return answer_over(crew, alloc, tables, query);
         };
         let old = self.take(name);
-        let (now, answer) = kept_answer(crew, alloc, tables, query, part, old)?;
+        let (now, answer) = kept_answer(crew, alloc, tables, query, part, old, &mut self.reads)?;
         behind(self.put(alloc, name, now), answer)
     }
 
@@ -104,7 +119,8 @@ impl KeptViews {
     {
         let mut old = mem::replace(&mut self.views, IndexMap::new(alloc));
         'views: while let Some((name, standing)) = old.pop() {
-            let now = standing_after(alloc, tables, views, &name, standing, table, touched);
+            let reads = &mut self.reads;
+            let now = standing_after(alloc, tables, views, &name, standing, table, touched, reads);
             keep(&mut self.views, name, now);
         }
     }
@@ -152,6 +168,7 @@ fn standing_after(
     old: StandingView,
     table: &str,
     touched: &Touched,
+    reads: &mut u64,
 ) -> Option<StandingView>
     requires ready { All (λ v. QueryIsReady v.query) views.now }
     requires stood { StoodAt touched.now table.now tables.now views.now (name.now, old) }
@@ -159,7 +176,7 @@ fn standing_after(
 {
     let view = views.get(name.as_str())?;
     let part = view.query.model.as_ref()?;
-    kept_or_not(carried(alloc, tables, &view.query, part, table, touched, old))
+    kept_or_not(carried(alloc, tables, &view.query, part, table, touched, old, reads))
 }
 
 // What is kept, where there was memory for it.

@@ -7,6 +7,7 @@ mod blocks;
 mod catalogs;
 mod change_copies;
 mod engine;
+mod explaining;
 mod expression_copies;
 mod kept_views;
 mod open_block;

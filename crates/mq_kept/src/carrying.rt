@@ -31,7 +31,7 @@ pub const MOST_FOLLOWED: usize = 1000;
 /// What is kept of a view after a change of the table of this name: `tables` are the tables as they stand now, `touched` is what the
 /// change touched (docs/MEANING.md, "Kept views"). A view that doesn't read the table stays as it is. One whose query takes the rows
 /// of that table one by one follows by the touched rows: their items, the inputs of their partitions, the cells that depend on them.
-/// Any other is no longer fresh. `Memory` is the only error.
+/// Any other is no longer fresh. What is read of the stores of partitions is added to `reads`. `Memory` is the only error.
 pub fn carried<T: TableSet>(
     alloc: Global,
     tables: &T,
@@ -40,6 +40,7 @@ pub fn carried<T: TableSet>(
     table: &str,
     touched: &Touched,
     old: StandingView,
+    reads: &mut u64,
 ) -> Result<StandingView, Memory>
     requires ready { QueryIsReady q.now }
     requires model { q.now.model ≡ Some part.now }
@@ -58,7 +59,7 @@ pub fn carried<T: TableSet>(
     if touched.count() > MOST_FOLLOWED {
         return Ok(passed_over(old.view));
     }
-    carried_by_row(alloc, tables, q, part, table, touched, old.view)
+    carried_by_row(alloc, tables, q, part, table, touched, old.view, reads)
 }
 
 // A view that is to be brought to the tables when it is asked for.
@@ -77,6 +78,7 @@ fn carried_by_row<T: TableSet>(
     table: &str,
     touched: &Touched,
     old: KeptView,
+    reads: &mut u64,
 ) -> Result<StandingView, Memory>
     requires ready { QueryIsReady q.now }
     requires model { q.now.model ≡ Some part.now }
@@ -113,7 +115,7 @@ fn carried_by_row<T: TableSet>(
         lists: lists.as_slice(),
         refs: refs.as_slice(),
     };
-    let (parts, fresh) = renewed(alloc, &model, &change, parts)?;
+    let (parts, fresh) = renewed(alloc, &model, &change, parts, reads)?;
     Ok(StandingView {
         view: KeptView {
             lists,
@@ -131,6 +133,7 @@ fn renewed(
     m: &Lent<'_>,
     change: &ItemChange,
     parts: Items<KeptPart>,
+    reads: &mut u64,
 ) -> Result<(Items<KeptPart>, bool), Memory>
     requires right { All (IsRight (model_of m.now)) parts }
     requires may { MayRenew m.now.part.now change.now (inputs_of parts) }
@@ -140,7 +143,7 @@ fn renewed(
     ensures right { IfOk result (λ r. All (IsRight (model_of m.now)) r.0) }
 {
     let mut parts = parts.into_vec();
-    let fresh = renew_parts(alloc, m, change, parts.as_mut_slice())?;
+    let fresh = renew_parts(alloc, m, change, parts.as_mut_slice(), reads)?;
     Ok((Items::from_vec(parts), fresh))
 }
 

@@ -19,13 +19,15 @@ use std::alloc::Global;
 
 /// What is kept of a view over these tables, by what was kept of it before they changed. Where its FOR subqueries and references are
 /// as they were, each partition that still is there keeps what was found of it, or is refreshed; else nothing was found of any. `None`
-/// comes exactly where its query has a fault before its partitions. `Memory` is the only error.
+/// comes exactly where its query has a fault before its partitions. What is read of the stores of partitions is added to `reads`.
+/// `Memory` is the only error.
 pub fn followed<T: TableSet>(
     alloc: Global,
     tables: &T,
     q: &BoundQuery,
     part: &ModelPart,
     old: KeptView,
+    reads: &mut u64,
 ) -> Result<Option<KeptView>, Memory>
     requires ready { QueryIsReady q.now }
     requires model { q.now.model ≡ Some part.now }
@@ -33,7 +35,7 @@ pub fn followed<T: TableSet>(
     ensures { IfOk result (IsFollowed (T.tables tables.now) q.now part.now) }
 {
     match sources_over(alloc, tables, q, part) {
-        Ok(found) => Ok(Some(brought(alloc, part, old, found)?)),
+        Ok(found) => Ok(Some(brought(alloc, part, old, found, reads)?)),
         Err(Fail::Cause(_fault)) => Ok(None),
         Err(Fail::Memory) => Err(Memory),
     }
@@ -45,6 +47,7 @@ fn brought(
     part: &ModelPart,
     old: KeptView,
     found: Sources,
+    reads: &mut u64,
 ) -> Result<KeptView, Memory>
     requires right { AllRight part.now old }
     requires ready { All (IsReady part.now) found.inputs }
@@ -53,7 +56,7 @@ fn brought(
     ensures lines { IfOk result (λ view. view.lines ≡ found.lines) }
 {
     if has_same_model(&old, &found) {
-        brought_on(alloc, part, old.parts, found)
+        brought_on(alloc, part, old.parts, found, reads)
     } else {
         unsettled(alloc, found)
     }
@@ -74,6 +77,7 @@ fn brought_on(
     part: &ModelPart,
     parts: Items<KeptPart>,
     found: Sources,
+    reads: &mut u64,
 ) -> Result<KeptView, Memory>
     requires right { All (IsRight (model_with part.now found.lists (cells_of_arrays found.refs))) parts }
     requires ready { All (IsReady part.now) found.inputs }
@@ -92,7 +96,7 @@ fn brought_on(
         lists: lists.as_slice(),
         refs: refs.as_slice(),
     };
-    let parts = parts_after(alloc, &model, parts, inputs)?;
+    let parts = parts_after(alloc, &model, parts, inputs, reads)?;
     Ok(KeptView {
         lists,
         refs,
@@ -107,6 +111,7 @@ fn parts_after(
     m: &Lent<'_>,
     old: Items<KeptPart>,
     inputs: Items<PartInput>,
+    reads: &mut u64,
 ) -> Result<Items<KeptPart>, Memory>
     requires right { All (IsRight (model_of m.now)) old }
     requires ready { All (IsReady m.now.part.now) inputs }
@@ -116,7 +121,7 @@ fn parts_after(
     let mut left = reversed(old);
     let mut parts = Items::with_room(alloc, inputs.len());
     for input in inputs.into_vec() {
-        let part = part_after(alloc, m, &mut left, input)?;
+        let part = part_after(alloc, m, &mut left, input, reads)?;
         parts.push(part)?;
     }
     Ok(parts)
@@ -137,6 +142,7 @@ fn part_after(
     m: &Lent<'_>,
     left: &mut Vec<KeptPart>,
     input: PartInput,
+    reads: &mut u64,
 ) -> Result<KeptPart, Memory>
     requires right { All (IsRight (model_of m.now)) left.old.items }
     requires ready { IsReady m.now.part.now input }
@@ -145,7 +151,7 @@ fn part_after(
     ensures right { IfOk result (IsRight (model_of m.now)) }
 {
     match taken_at(left, &input.key) {
-        Some(part) => refreshed(alloc, m, part, input),
+        Some(part) => refreshed(alloc, m, part, input, reads),
         None => Ok(KeptPart::new(input)),
     }
 }

@@ -7,6 +7,7 @@ mod beginning;
 mod carrying;
 mod comparing;
 mod copying;
+mod counting;
 mod following;
 mod kept_view;
 mod moving;

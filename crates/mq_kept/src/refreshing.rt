@@ -12,10 +12,12 @@ ghost use Rattle.mq_ir.specs.Unfolding.{model_of};
 ghost use Rattle.mq_cells.specs.IndexedStores.{input_in, results_of};
 ghost use Rattle.mq_auto.specs.Findings.{IsLevelled};
 ghost use Rattle.mq_delta_cells.specs.Changes.{has_moved};
+ghost use Rattle.mq_delta_cells.specs.Courses.{IsCourse};
 ghost use Rattle.mq_delta_cells.specs.Seeds.{is_moved};
 ghost use Rattle.mq_kept.specs.Kept.{HasValues, IsFound, IsRight, IsShared};
 ghost use Rattle.mq_kept.specs.Refreshed.{IsWalked};
 
+use crate::counting::add_reads;
 use crate::kept_view::{KeptPart, PartState, ShapedCells, SharedShape};
 use crate::moving::moved_between;
 use crate::renewing::renew;
@@ -32,12 +34,13 @@ use std::alloc::Global;
 
 /// The partition with this new input. Where the input is as it was, what was found stays; where it has a shape, the change is
 /// propagated (docs/MEANING.md, "Affected cells"), over that shape where its keys are those of the new input; all else is run when it
-/// is asked for. `Memory` is the only error.
+/// is asked for. What is read of the store is added to `reads`. `Memory` is the only error.
 pub fn refreshed(
     alloc: Global,
     m: &Model<'_>,
     part: KeptPart,
     input: PartInput,
+    reads: &mut u64,
 ) -> Result<KeptPart, Memory>
     requires right { IsRight (model_of m.now) part }
     requires ready { IsReady m.now.part.now input }
@@ -45,17 +48,18 @@ pub fn refreshed(
     ensures right { IfOk result (IsRight (model_of m.now)) }
 {
     let mut part = part;
-    renew(alloc, m, &mut part, input)?;
+    renew(alloc, m, &mut part, input, reads)?;
     Ok(part)
 }
 
-/// What is found of the new input by what was found of the old one.
+/// What is found of the new input by what was found of the old one. What is read of the store is added to `reads`.
 pub fn state_after(
     alloc: Global,
     m: &Model<'_>,
     old: &PartInput,
     new: &PartInput,
     state: PartState,
+    reads: &mut u64,
 ) -> Result<PartState, Memory>
     requires old { IsReady m.now.part.now old.now }
     requires new { IsReady m.now.part.now new.now }
@@ -63,7 +67,7 @@ pub fn state_after(
     ensures { IfOk result (IsFound (model_of m.now) new.now) }
 {
     match state {
-        PartState::Automatic(kept) => values_after(alloc, m, old, new, kept),
+        PartState::Automatic(kept) => values_after(alloc, m, old, new, kept, reads),
         _ => Ok(PartState::NotKept),
     }
 }
@@ -75,6 +79,7 @@ fn values_after(
     old: &PartInput,
     new: &PartInput,
     kept: ShapedCells,
+    reads: &mut u64,
 ) -> Result<PartState, Memory>
     requires old { IsReady m.now.part.now old.now }
     requires new { IsReady m.now.part.now new.now }
@@ -82,9 +87,9 @@ fn values_after(
     ensures { IfOk result (IsFound (model_of m.now) new.now) }
 {
     if is_over(new, &kept.shape) {
-        moved(alloc, m, old, new, kept)
+        moved(alloc, m, old, new, kept, reads)
     } else {
-        propagated(alloc, m, old, new, kept)
+        propagated(alloc, m, old, new, kept, reads)
     }
 }
 
@@ -104,6 +109,7 @@ fn moved(
     old: &PartInput,
     new: &PartInput,
     kept: ShapedCells,
+    reads: &mut u64,
 ) -> Result<PartState, Memory>
     requires old { IsReady m.now.part.now old.now }
     requires new { IsReady m.now.part.now new.now }
@@ -115,7 +121,7 @@ fn moved(
 {
     let ShapedCells { shape, mut cells } = kept;
     let moved = moved_to(alloc, old, new, &mut cells)?;
-    walk_values(alloc, m, &shape, moved.as_slice(), &mut cells)?;
+    walk_values(alloc, m, &shape, moved.as_slice(), &mut cells, reads)?;
     Ok(PartState::Automatic(ShapedCells { shape, cells }))
 }
 
@@ -146,6 +152,25 @@ fn walk_values(
     shape: &SharedShape,
     moved: &[CellName],
     cells: &mut IndexedCells,
+    reads: &mut u64,
+) -> Result<(), Memory>
+    requires shared { IsShared (model_of m.now) shape.now }
+    requires course { is_some shape.now.course ≡ true }
+    ensures { OnOk result (IsWalked (model_of m.now) shape.now.found.shape shape.now.found.shape moved.now cells.old cells.new) }
+{
+    let looks = cells.looks();
+    let walked = walk_course(alloc, m, shape, moved, cells);
+    add_reads(looks, cells, reads);
+    walked
+}
+
+// The same, uncounted.
+fn walk_course(
+    alloc: Global,
+    m: &Model<'_>,
+    shape: &SharedShape,
+    moved: &[CellName],
+    cells: &mut IndexedCells,
 ) -> Result<(), Memory>
     requires shared { IsShared (model_of m.now) shape.now }
     requires course { is_some shape.now.course ≡ true }
@@ -164,6 +189,7 @@ fn propagated(
     old: &PartInput,
     new: &PartInput,
     kept: ShapedCells,
+    reads: &mut u64,
 ) -> Result<PartState, Memory>
     requires old { IsReady m.now.part.now old.now }
     requires new { IsReady m.now.part.now new.now }
@@ -172,7 +198,7 @@ fn propagated(
 {
     let judged = judge(alloc, m, new)?;
     match judged {
-        Ok(found) => carried_over(alloc, m, old, new, kept, found),
+        Ok(found) => carried_over(alloc, m, old, new, kept, found, reads),
         Err(fault) => Ok(PartState::Made(PartResult::Fault(fault))),
     }
 }
@@ -185,6 +211,7 @@ fn carried_over(
     new: &PartInput,
     kept: ShapedCells,
     found: IndexedShape,
+    reads: &mut u64,
 ) -> Result<PartState, Memory>
     requires old { IsReady m.now.part.now old.now }
     requires new { IsReady m.now.part.now new.now }
@@ -198,7 +225,7 @@ fn carried_over(
     let ShapedCells { shape, mut cells } = kept;
     let moved = moved_to(alloc, old, new, &mut cells)?;
     let before = &shape.found.shape;
-    let found = walked_over(alloc, m, before, found, moved.as_slice(), &mut cells)?;
+    let found = walked_over(alloc, m, before, found, moved.as_slice(), &mut cells, reads)?;
     let shape = shared(alloc, m, found, true)?;
     Ok(PartState::Automatic(ShapedCells { shape, cells }))
 }
@@ -211,6 +238,7 @@ fn walked_over(
     found: IndexedShape,
     moved: &[CellName],
     cells: &mut IndexedCells,
+    reads: &mut u64,
 ) -> Result<IndexedShape, Memory>
     requires { IsLevelled (model_of m.now) found }
     ensures same { IfOk result (λ it. it.shape ≡ found.shape) }
@@ -225,8 +253,28 @@ fn walked_over(
     } = found;
     let Leveled { rounds, rest } = leveled;
     let course = course_for_walk(alloc, m, &shape, rounds, base, index)?;
-    propagate_over(alloc, m, old, &shape, &course, moved, cells)?;
+    walk_shapes(alloc, m, old, &shape, &course, moved, cells, reads)?;
     Ok(indexed_by(shape, course, rest))
+}
+
+// Propagates a change from one shape to another by the course of that one.
+fn walk_shapes(
+    alloc: Global,
+    m: &Model<'_>,
+    old: &PartShape,
+    new: &PartShape,
+    course: &Course,
+    moved: &[CellName],
+    cells: &mut IndexedCells,
+    reads: &mut u64,
+) -> Result<(), Memory>
+    requires { IsCourse (model_of m.now) new.now course.now }
+    ensures { OnOk result (IsWalked (model_of m.now) old.now new.now moved.now cells.old cells.new) }
+{
+    let looks = cells.looks();
+    let walked = propagate_over(alloc, m, old, new, course, moved, cells);
+    add_reads(looks, cells, reads);
+    walked
 }
 
 // A shape with the rounds and the indexes of its course.

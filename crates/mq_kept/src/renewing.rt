@@ -20,13 +20,14 @@ use mq_values::{Key, Memory};
 use std::alloc::Global;
 use std::mem::replace;
 
-/// Gives a partition another input, as `refreshed` does. `Memory` is the only error; what was found of the partition is right after it
-/// too, of one of the two inputs.
+/// Gives a partition another input, as `refreshed` does, and counts what is read as it does. `Memory` is the only error; what was found
+/// of the partition is right after it too, of one of the two inputs.
 pub fn renew(
     alloc: Global,
     m: &Model<'_>,
     part: &mut KeptPart,
     input: PartInput,
+    reads: &mut u64,
 ) -> Result<(), Memory>
     requires right { IsRight (model_of m.now) part.old }
     requires ready { IsReady m.now.part.now input }
@@ -38,20 +39,21 @@ pub fn renew(
     }
     part.shown = None;
     let state = replace(&mut part.state, PartState::NotKept);
-    part.state = state_after(alloc, m, &part.input, &input, state)?;
+    part.state = state_after(alloc, m, &part.input, &input, state, reads)?;
     part.input = input;
     Ok(())
 }
 
 /// Gives the partitions of a view the inputs that they have after a change of the item rows of its query, by the rows that went and
 /// came. `true`: they have these inputs. `false`: a partition came or went, is a long one (`LONGEST_WITH_COURSE`), or has a dimension
-/// tuple twice; then some partitions may have theirs and others not. What was found of each is right for the input that it has, whatever the answer is. `Memory` is the only
-/// error.
+/// tuple twice; then some partitions may have theirs and others not. What was found of each is right for the input that it has, whatever
+/// the answer is. What is read of their stores is added to `reads`. `Memory` is the only error.
 pub fn renew_parts(
     alloc: Global,
     m: &Model<'_>,
     change: &ItemChange,
     parts: &mut [KeptPart],
+    reads: &mut u64,
 ) -> Result<bool, Memory>
     requires right { All (IsRight (model_of m.now)) parts.old }
     requires may { MayRenew m.now.part.now change.now (inputs_of parts.old) }
@@ -66,7 +68,7 @@ pub fn renew_parts(
     let touched = touched_keys(alloc, m.part, gone, come)?;
     let groups = touched.as_slice();
     'groups: for group in groups {
-        if !renew_group(alloc, m, group, parts)? {
+        if !renew_group(alloc, m, group, parts, reads)? {
             return Ok(false);
         }
     }
@@ -79,6 +81,7 @@ fn renew_group(
     m: &Model<'_>,
     group: &PartChange,
     parts: &mut [KeptPart],
+    reads: &mut u64,
 ) -> Result<bool, Memory>
     requires right { All (IsRight (model_of m.now)) parts.old }
     requires may { OneMayFollow m.now.part.now group.now parts.old }
@@ -86,7 +89,7 @@ fn renew_group(
     ensures right { All (IsRight (model_of m.now)) parts.new }
 {
     match place_of(parts, &group.key) {
-        Some(at) => renew_one(alloc, m, group, &mut parts[at]),
+        Some(at) => renew_one(alloc, m, group, &mut parts[at], reads),
         None => Ok(false),
     }
 }
@@ -107,6 +110,7 @@ fn renew_one(
     m: &Model<'_>,
     group: &PartChange,
     part: &mut KeptPart,
+    reads: &mut u64,
 ) -> Result<bool, Memory>
     requires right { IsRight (model_of m.now) part.old }
     requires may { MayFollow m.now.part.now group.now part.old.input }
@@ -119,7 +123,7 @@ fn renew_one(
     let gone = group.gone.as_slice();
     let come = group.come.as_slice();
     match input_after(alloc, m.part, &part.input, gone, come)? {
-        Some(input) => renew_there(alloc, m, part, input),
+        Some(input) => renew_there(alloc, m, part, input, reads),
         None => Ok(false),
     }
 }
@@ -136,6 +140,7 @@ fn renew_there(
     m: &Model<'_>,
     part: &mut KeptPart,
     input: PartInput,
+    reads: &mut u64,
 ) -> Result<bool, Memory>
     requires right { IsRight (model_of m.now) part.old }
     requires ready { IsReady m.now.part.now input }
@@ -146,7 +151,7 @@ fn renew_there(
     if !is_there(m.part, &input) {
         return Ok(false);
     }
-    renew(alloc, m, part, input)?;
+    renew(alloc, m, part, input, reads)?;
     Ok(true)
 }
 

@@ -10,6 +10,7 @@ ghost use Rattle.mq_kept.specs.Kept.{HasValues, IsFound, IsRight, is_settled};
 ghost use Rattle.mq_kept.specs.Shown as spec;
 
 use crate::copying::copy_of_fault;
+use crate::counting::add_reads;
 use crate::kept_view::{KeptPart, PartState, ShapedCells, ShownRows};
 use crate::settling::settle;
 use mq_auto::stored_result;
@@ -18,8 +19,14 @@ use mq_values::{Fail, Items, Key, Memory, QueryFault, Value};
 use std::alloc::Global;
 
 /// Makes the rows that a partition adds to the answer of its view, where that was not done yet: it is run first where that was not
-/// done. Or says to which fault its rules come. What was found of it stays right, also after `Memory`.
-pub fn show(alloc: Global, m: &Lent<'_>, part: &mut KeptPart) -> Result<(), Fail<QueryFault>>
+/// done. Or says to which fault its rules come. What is read then of a store that is kept is added to `reads`. What was found of it stays
+/// right, also after `Memory`.
+pub fn show(
+    alloc: Global,
+    m: &Lent<'_>,
+    part: &mut KeptPart,
+    reads: &mut u64,
+) -> Result<(), Fail<QueryFault>>
     requires right { IsRight (model_of m.now) part.old }
     ensures shown { OnOk result (is_some part.new.shown ≡ true) }
     ensures fault { (fault : Seen) → result ≡ Err (fail.Cause fault) → result_in (model_of m.now) part.old.input ≡ result_of.Fault fault }
@@ -30,7 +37,7 @@ pub fn show(alloc: Global, m: &Lent<'_>, part: &mut KeptPart) -> Result<(), Fail
         return Ok(());
     }
     settle(alloc, m, part)?;
-    let rows = rows_of_settled(alloc, m, &part.input, &mut part.state)?;
+    let rows = rows_of_settled(alloc, m, &part.input, &mut part.state, reads)?;
     part.shown = Some(rows);
     Ok(())
 }
@@ -41,6 +48,7 @@ fn rows_of_settled(
     m: &Lent<'_>,
     p: &PartInput,
     state: &mut PartState,
+    reads: &mut u64,
 ) -> Result<ShownRows, Fail<QueryFault>>
     requires settled { is_settled state.old ≡ true }
     requires found { IsFound (model_of m.now) p.now state.old }
@@ -49,7 +57,7 @@ fn rows_of_settled(
 {
     match state {
         PartState::NotKept => unreachable!(),
-        PartState::Automatic(kept) => rows_of_values(alloc, m, p, kept),
+        PartState::Automatic(kept) => rows_of_values(alloc, m, p, kept, reads),
         PartState::Made(made) => rows_of_result(alloc, m.part, &p.key, made),
     }
 }
@@ -60,12 +68,13 @@ fn rows_of_values(
     m: &Lent<'_>,
     p: &PartInput,
     kept: &mut ShapedCells,
+    reads: &mut u64,
 ) -> Result<ShownRows, Fail<QueryFault>>
     requires { HasValues (model_of m.now) p.now kept.old }
     ensures exact { Gives result (spec.rows_of_input (model_of m.now) p.now) }
     ensures same { HasValues (model_of m.now) p.now kept.new }
 {
-    let made = made_of_values(alloc, m, p, kept)?;
+    let made = made_of_values(alloc, m, p, kept, reads)?;
     rows_of_result(alloc, m.part, &p.key, &made)
 }
 
@@ -75,12 +84,16 @@ fn made_of_values(
     m: &Lent<'_>,
     p: &PartInput,
     kept: &mut ShapedCells,
+    reads: &mut u64,
 ) -> Result<PartResult, Memory>
     requires { HasValues (model_of m.now) p.now kept.old }
     ensures exact { IfOk result (λ r. r ≡ result_in (model_of m.now) p.now) }
     ensures same { HasValues (model_of m.now) p.now kept.new }
 {
-    stored_result(alloc, m, p, &kept.shape.found.shape, &mut kept.cells)
+    let looks = kept.cells.looks();
+    let made = stored_result(alloc, m, p, &kept.shape.found.shape, &mut kept.cells);
+    add_reads(looks, &kept.cells, reads);
+    made
 }
 
 // The rows of what was made, or its fault.

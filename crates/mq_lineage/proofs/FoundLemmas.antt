@@ -23,7 +23,9 @@ use Rattle.mq_ir.specs.SortLaws.{rising_ascending}
 use Rattle.mq_ir.specs.Partitions.{ascending}
 use Rattle.mq_ir.specs.Unfolding.{Model}
 use Rattle.mq_auto.specs.declared.verdict.Verdict.TheVariants.{Done}
+use Rattle.mq_auto.specs.Findings.{IsLevelled}
 use Rattle.mq_auto.specs.Meaning.{judged, verdict_on}
+use Rattle.mq_auto_shape.specs.declared.indexed.IndexedShape.{IndexedShape}
 use Rattle.mq_auto_shape.specs.Conditions.{AreReady}
 use Rattle.mq_auto_shape.specs.Found.{IsRuled, IsShapeOf, shape_meant}
 use Rattle.mq_lineage.specs.Found.{IsFound, MayBeDerived}
@@ -94,6 +96,12 @@ module _ (model : Model) where
         ascend = (over_parts keys shape parts.0).0;
         ruled = subst (λ (s : PartShape). All (IsRuled model) s.assigned) same of.ruled;
       }
+
+  -- .. as is one that is kept with its rounds
+  pub levelled_is_found : (found : IndexedShape) → IsLevelled model found → IsFound model found.shape
+  levelled_is_found found is =
+      let parts = levelled_parts found.shape.base found.shape (sym is.exact) in
+      record { levelled = parts.1; ascend = (over_parts found.shape.base found.shape parts.0).0; ruled = is.ruled }
 
   -- the shape of a partition on which the rules may run
   module _ (p : PartInput) (shape : PartShape) (ready : IsReady model.part p) where

@@ -1,12 +1,12 @@
 -- The assigned measures of a shape, in the order in which a derivation tells them.
-use Rattle.std.specs.Prelude.{ℕ, ◌<◌, List, Option, length, slice_get}
+use Rattle.std.specs.Prelude.{ℕ, ◌<◌, List, ◌++◌, Option, length, slice_get}
 use Rattle.std.specs.List.{All, filter_map, flat_map}
 use Rattle.std.specs.Option.{option_map}
 use Rattle.std.specs.Ordering.{nat_cmp, on, then_cmp}
 use Rattle.std.specs.declared.cmp.Ordering.{Ordering}
 use Rattle.mq_ir.specs.declared.query.CellName.{CellName}
 use Rattle.mq_ir.specs.declared.query.PartShape.{PartShape}
-use Rattle.mq_ir.specs.Derivations.{assigned_names, cmp_name, round_of}
+use Rattle.mq_ir.specs.Derivations.{assigned_names, cmp_name, derived_sources, given_sources, round_of}
 use Rattle.mq_ir.specs.Partitions.{ascending}
 use Rattle.mq_ir.specs.Shape.{Assignment}
 use Rattle.mq_ir.specs.Unfolding.{Model}
@@ -34,3 +34,7 @@ names_in assigned rounds = flat_map (names_at assigned) rounds
 -- each place of these rounds is that of an assignment
 abbrev pub AreWithin : List Assignment → List (List ℕ) → Type 0
 AreWithin assigned rounds = All (λ round. All (λ place. place < length assigned) round) rounds
+
+-- the measures that a derivation tells, in order
+abbrev pub step_names : Model → PartShape → CellName → List CellName
+step_names model shape target = given_sources model shape target ++ derived_sources model shape target

@@ -5,18 +5,23 @@ ghost use Rattle.mq_ir.specs.Automatic.{levelled_shape, shape_found};
 ghost use Rattle.mq_ir.specs.Derivations.{AreAccepted, derivation};
 ghost use Rattle.mq_ir.specs.Partitions.{Cells as Input};
 ghost use Rattle.mq_ir.specs.Unfolding.{model_of};
+ghost use Rattle.mq_cells.specs.IndexedStores.{input_in, results_of};
+ghost use Rattle.mq_auto.specs.Findings.{IsLevelled};
 ghost use Rattle.mq_auto.specs.Meaning.{HoldsValues};
 ghost use Rattle.mq_auto_shape.specs.Conditions.{AreReady};
 ghost use Rattle.mq_auto_shape.specs.Found.{AreRoundsOf};
 ghost use Rattle.mq_lineage.specs.Found.{IsFound};
+ghost use Rattle.mq_lineage.specs.Nodes.{HasRulesOf};
+ghost use Rattle.mq_lineage.specs.Ordered.{step_names};
 
 use crate::naming::names_told;
+use crate::node_map::NodeMap;
 use crate::ordering::names_by_rounds;
 use crate::rules::rules_of;
 use crate::sources::sources_of;
-use crate::steps::steps_of;
+use crate::steps::{lent_steps_of, steps_of};
 use mq_auto_shape::{IndexedShape, indexed_shape_of};
-use mq_cells::Cells;
+use mq_cells::{Cells, IndexedCells};
 use mq_derivation_laws::{derivations_are_accepted, derivations_have_the_sources};
 use mq_ir::{CellName, Derivation, Model, PartShape};
 use mq_refs::{CellKeys, ShapeKeys};
@@ -88,11 +93,60 @@ fn derive_over<K: CellKeys, C: Cells>(
     ensures same_input { C.input cells.new ≡ C.input cells.old }
     ensures same_results { C.results cells.new ≡ C.results cells.old }
 {
-    derivations_have_the_sources();
     let rules = rules_of(alloc, s)?;
-    let ordered = names_by_rounds(alloc, s.assigned.as_slice(), rounds)?;
-    let sources = sources_of(alloc, m, s, keys, &rules, ordered.as_slice(), target)?;
-    let names = names_told(alloc, s, &rules, &sources, ordered.as_slice())?;
+    let names = names_over(alloc, m, s, keys, rounds, &rules, target)?;
     let steps = steps_of(alloc, s, &rules, names.as_slice(), cells)?;
     Ok(Derivation { steps })
+}
+
+/// The same as `derive`, over a store that is lent, by a shape with its rounds and its indexes, as `judge` of mq_auto finds it: no
+/// shape is made.
+pub fn derive_lent(
+    alloc: Global,
+    m: &Model<'_>,
+    found: &IndexedShape,
+    cells: &IndexedCells,
+    target: &CellName,
+) -> Result<Derivation, Memory>
+    requires { IsLevelled (model_of m.now) found.now }
+    ensures exact { (input : Input) → HoldsValues (model_of m.now) found.now.shape input (input_in cells.now) (results_of cells.now)
+        → IfOk result (λ d. d.steps ≡ derivation (model_of m.now) found.now.shape input target.now) }
+    ensures accepted { (p : PartInput)
+        → HoldsValues (model_of m.now) found.now.shape p.cells (input_in cells.now) (results_of cells.now)
+        → shape_found (model_of m.now) p ≡ Ok found.now.shape
+        → IfOk result (λ d. AreAccepted (model_of m.now) found.now.shape p.cells [] d.steps) }
+{
+    derivations_are_accepted();
+    let s = &found.shape;
+    let keys = ShapeKeys {
+        base: &found.base,
+        cells: &found.cells,
+    };
+    let rounds = found.leveled.rounds.as_slice();
+    let rules = rules_of(alloc, s)?;
+    let names = names_over(alloc, m, s, &keys, rounds, &rules, target)?;
+    let steps = lent_steps_of(alloc, s, &rules, names.as_slice(), cells)?;
+    Ok(Derivation { steps })
+}
+
+// The measures that a derivation tells, in order. `rules` has the rules of the shape.
+fn names_over<K: CellKeys>(
+    alloc: Global,
+    m: &Model<'_>,
+    s: &PartShape,
+    keys: &K,
+    rounds: &[Items<u32>],
+    rules: &NodeMap,
+    target: &CellName,
+) -> Result<Items<CellName>, Memory>
+    requires keys { K.set keys.now ≡ s.now.cells }
+    requires found { IsFound (model_of m.now) s.now }
+    requires rounds { AreRoundsOf (model_of m.now) s.now rounds.now }
+    requires rules { HasRulesOf s.now rules.now }
+    ensures { IfOk result (λ names. names ≡ step_names (model_of m.now) s.now target.now) }
+{
+    derivations_have_the_sources();
+    let ordered = names_by_rounds(alloc, s.assigned.as_slice(), rounds)?;
+    let sources = sources_of(alloc, m, s, keys, rules, ordered.as_slice(), target)?;
+    names_told(alloc, s, rules, &sources, ordered.as_slice())
 }

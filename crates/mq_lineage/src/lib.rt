@@ -21,5 +21,5 @@ mod telling;
 mod tests;
 
 pub use checking::check;
-pub use derivations::derive;
+pub use derivations::{derive, derive_lent};
 pub use found::what_is_computed_may_be_derived;

@@ -7,6 +7,5 @@ pub returns-in-Done : goal.returns-in-Done
 returns-in-Done c =
     let model = model_of c.args.m.now in
     let p = c.args.p.now in
-    steps_told model p c.in-Done.shape c.args.cell.now c.in_ok-steps-in-Done.steps
-    (found_done model p c.in-Done.shape (sym c.in-Done.is ∙ c.in_ok-shape.ensures.verdict))
-    (sym c.is_cell.ensures ∙ c.if-not-is_cell.false) c.in_ok-steps-in-Done.ensures
+    steps_told model p c.in-Done.shape c.args.cell.now (found_done model p c.in-Done.shape (sym c.in-Done.is ∙ c.in_ok-shape.ensures.verdict))
+    c.in_ok-steps-in-Done.steps (sym c.is_cell.ensures ∙ c.if-not-is_cell.false) c.in_ok-steps-in-Done.ensures

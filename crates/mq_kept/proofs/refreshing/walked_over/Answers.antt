@@ -25,4 +25,4 @@ returns-clause-levelled c =
     })
 
 pub returns-clause-walked : goal.returns-clause-walked
-returns-clause-walked c = c.in_ok-propagate_over.ensures.values
+returns-clause-walked c = c.in_ok-walk_shapes.ensures

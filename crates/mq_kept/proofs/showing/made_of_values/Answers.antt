@@ -10,8 +10,8 @@ use Rattle.mq_kept.specs.Kept.{IsShared}
 use Rattle.mq_kept.proofs.FoundLemmas.{values_made}
 use Rattle.mq_kept.proofs.showing.made_of_values.Goals as goal
 
-pub stored_result-requires : goal.stored_result-requires
-stored_result-requires c =
+pub stored_result-made-requires : goal.stored_result-made-requires
+stored_result-made-requires c =
     let model = model_of c.args.m.now in
     let kept = c.args.kept.now in
     record {
@@ -27,15 +27,15 @@ returns c =
     let has = c.requires in
     record {
       exact =
-          IfOk-weaker c.stored_result.result _ _
+          IfOk-weaker c.stored_result-made.result _ _
           (λ r h. values_made model p c.args.kept.now r has (h ∙ ap (λ (s : SharedShape). result_with model p.key s.found.shape (slots_in model s.found.shape p.cells)) c.deref.ensures))
-          c.stored_result.ensures.exact;
+          c.stored_result-made.ensures.exact;
       same = record {
         automatic = has.automatic;
         shape = has.shape;
         values = record {
-          given_is = c.stored_result.ensures.same_input ∙ has.values.given_is;
-          results_are = λ name. ap (λ (f : Results). f name) c.stored_result.ensures.same_results ∙ has.values.results_are name;
+          given_is = c.stored_result-made.ensures.same_input ∙ has.values.given_is;
+          results_are = λ name. ap (λ (f : Results). f name) c.stored_result-made.ensures.same_results ∙ has.values.results_are name;
         };
       };
     }
