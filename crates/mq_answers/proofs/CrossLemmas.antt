@@ -194,8 +194,8 @@ model_sync κ = declared_sync (model.the_type κ) (search (held, key.the_sync, m
 -- what a stretch owns may be handed to a thread
 pub ruleset handed = (results.the_send, items.the_send, part_input.the_send, found.the_send, kept_part.the_send, memory.the_send, model_sync, crosses, sendable)
 
-pub stretch_send : (κ : NamedLft) → IsSend (stretch.the_row κ)
-stretch_send κ = search handed depth 30 fits 20000
+pub stretch_send : (κ : NamedLft) (R : RattleType) → IsSync R → IsSend (stretch.the_row κ R)
+stretch_send κ R sync = search handed depth 30 fits 20000
 
-pub kept_stretch_send : (κ : NamedLft) → IsSend (kept_stretch.the_row κ)
-kept_stretch_send κ = search handed depth 30 fits 20000
+pub kept_stretch_send : (κ : NamedLft) (R : RattleType) → IsSync R → IsSend (kept_stretch.the_row κ R)
+kept_stretch_send κ R sync = search handed depth 30 fits 20000

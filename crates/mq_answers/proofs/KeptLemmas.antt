@@ -52,12 +52,12 @@ module _ (tables : Tables) (q : BoundQuery) (part : ModelPart) where
       ap (λ (r : Result (List Tuple) QueryFault). shown_of (result_map (printed_rows q) r)) (sym rows) ∙ shown_is tables q
 
 -- ---- stretches that were run have the partitions that they had, and what was found of each is right
-module _ (m : Lent) where
-  pub all_settleable : (handed : List KeptStretch) → All (MaySettle m) handed → All AreRight handed
+module _ {R : Type 0} (m : Lent) where
+  pub all_settleable : (handed : List (KeptStretch R)) → All (MaySettle m) handed → All AreRight handed
   all_settleable [] can = All-nil AreRight
   all_settleable (s ∷ ss) can = All-cons AreRight s ss (All-head (MaySettle m) s ss can).1 (all_settleable ss (All-tail (MaySettle m) s ss can))
 
-  pub all_right : (handed after : List KeptStretch) → All (MaySettle m) handed → AllZip IsSettledOf handed after
+  pub all_right : (handed after : List (KeptStretch R)) → All (MaySettle m) handed → AllZip IsSettledOf handed after
       → All (IsRight (model_of m)) (parts_in after)
   all_right [] [] can ran = All-nil (IsRight (model_of m))
   all_right [] (a ∷ after) can ran = absurd ran
@@ -67,7 +67,7 @@ module _ (m : Lent) where
       (subst (λ (m : Lent). All (IsRight (model_of m)) a.parts.items) (All-head (MaySettle m) b handed can).0 ran.0.1)
       (all_right handed after (All-tail (MaySettle m) b handed can) ran.1)
 
-pub same_parts : (handed after : List KeptStretch) → AllZip IsSettledOf handed after → inputs_of (parts_in after) ≡ inputs_of (parts_in handed)
+pub same_parts : {R : Type 0} (handed after : List (KeptStretch R)) → AllZip IsSettledOf handed after → inputs_of (parts_in after) ≡ inputs_of (parts_in handed)
 same_parts [] [] ran = refl
 same_parts [] (a ∷ after) ran = absurd ran
 same_parts (b ∷ handed) [] ran = absurd ran

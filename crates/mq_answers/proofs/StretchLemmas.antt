@@ -165,7 +165,7 @@ module _ (model : Model) where
   }
 
   -- ---- all stretches
-  pub by_stretches : (stretches : List Stretch) (before : Gathered) → each_in_turn (with_stretch model) stretches before ≡ each_in_turn step (inputs_in stretches) before
+  pub by_stretches : {R : Type 0} (stretches : List (Stretch R)) (before : Gathered) → each_in_turn (with_stretch model) stretches before ≡ each_in_turn step (inputs_in stretches) before
   by_stretches [] before = refl
   by_stretches (s ∷ ss) before = by (with_stretch model s before) (by_stretches ss) ∙ sym (turn_both step s.inputs (inputs_in ss) before)
     where
@@ -175,31 +175,31 @@ module _ (model : Model) where
       by (Err e) rest = refl
 
 -- stretches that were run have the partitions that they had, each with what was found
-module _ (m : Lent) where
-  one_run : (before after : Stretch) → CanRun m before → IsRunOf before after → HasRun m after
+module _ {R : Type 0} (m : Lent) where
+  one_run : (before after : Stretch R) → CanRun m before → IsRunOf before after → HasRun m after
   one_run before after can ran =
       subst (λ (inputs : List PartInput). IfOk after.found (ComesTo (model_of m) inputs)) (sym ran.1)
       (subst (λ (m : Lent). IfOk after.found (ComesTo (model_of m) before.inputs)) can.0 ran.2)
 
-  pub all_runnable : (handed : List Stretch) → All (CanRun m) handed → All IsRunnable handed
+  pub all_runnable : (handed : List (Stretch R)) → All (CanRun m) handed → All IsRunnable handed
   all_runnable [] can = All-nil IsRunnable
   all_runnable (s ∷ ss) can = All-cons IsRunnable s ss (All-head (CanRun m) s ss can).1 (all_runnable ss (All-tail (CanRun m) s ss can))
 
-  pub all_run : (handed after : List Stretch) → All (CanRun m) handed → AllZip IsRunOf handed after → All (HasRun m) after
+  pub all_run : (handed after : List (Stretch R)) → All (CanRun m) handed → AllZip IsRunOf handed after → All (HasRun m) after
   all_run [] [] can ran = All-nil (HasRun m)
   all_run [] (a ∷ after) can ran = absurd ran
   all_run (b ∷ handed) [] can ran = absurd ran
   all_run (b ∷ handed) (a ∷ after) can ran =
       All-cons (HasRun m) a after (one_run b a (All-head (CanRun m) b handed can) ran.0) (all_run handed after (All-tail (CanRun m) b handed can) ran.1)
 
-pub same_inputs : (handed after : List Stretch) → AllZip IsRunOf handed after → inputs_in after ≡ inputs_in handed
+pub same_inputs : {R : Type 0} (handed after : List (Stretch R)) → AllZip IsRunOf handed after → inputs_in after ≡ inputs_in handed
 same_inputs [] [] ran = refl
 same_inputs [] (a ∷ after) ran = absurd ran
 same_inputs (b ∷ handed) [] ran = absurd ran
 same_inputs (b ∷ handed) (a ∷ after) ran = λ i. ran.0.1 i ++ same_inputs handed after ran.1 i
 
 -- what stretches that were run make is what their partitions make
-pub wave_is : (model : Model) (inputs : List PartInput) (handed after : List Stretch) (before : Gathered) → AllZip IsRunOf handed after → inputs_in handed ≡ inputs
+pub wave_is : {R : Type 0} (model : Model) (inputs : List PartInput) (handed after : List (Stretch R)) (before : Gathered) → AllZip IsRunOf handed after → inputs_in handed ≡ inputs
     → each_in_turn (with_stretch model) after before ≡ each_in_turn (partition_step model) inputs before
 wave_is model inputs handed after before ran same =
     by_stretches model after before ∙ ap (λ (ps : List PartInput). each_in_turn (partition_step model) ps before) (same_inputs handed after ran ∙ same)

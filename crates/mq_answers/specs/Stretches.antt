@@ -28,27 +28,27 @@ pub record ComesTo (model : Model) (inputs : List PartInput) (found : List Found
   pub is : (before : Gathered) → each_in_turn (with_found model) found before ≡ each_in_turn (partition_step model) inputs before
 
 -- the partitions of a stretch are ready for the rules of its model
-abbrev pub IsRunnable : Stretch → Type 0
+abbrev pub IsRunnable : {R : Type 0} → Stretch R → Type 0
 IsRunnable stretch = All (IsReady stretch.model.now.part.now) stretch.inputs
 
 -- this model is put to work over partitions that are ready for it
-abbrev pub CanRun : Lent → Stretch → Type 0
+abbrev pub CanRun : {R : Type 0} → Lent → Stretch R → Type 0
 CanRun m stretch = (stretch.model.now ≡ m) × IsRunnable stretch
 
 -- one stretch is what a run makes of the other: it has what was found, unless memory ran out
-abbrev pub IsRunOf : Stretch → Stretch → Type 0
+abbrev pub IsRunOf : {R : Type 0} → Stretch R → Stretch R → Type 0
 IsRunOf before after =
     (after.model.now ≡ before.model.now) × (after.inputs ≡ before.inputs)
     × IfOk after.found (ComesTo (model_of before.model.now) before.inputs)
 
 -- what a stretch makes of what is gathered so far
-abbrev pub with_stretch : Model → Stretch → Gathered → Result Gathered QueryFault
+abbrev pub with_stretch : {R : Type 0} → Model → Stretch R → Gathered → Result Gathered QueryFault
 with_stretch model stretch gathered = each_in_turn (partition_step model) stretch.inputs gathered
 
 -- a stretch over which this model was put to work
-abbrev pub HasRun : Lent → Stretch → Type 0
+abbrev pub HasRun : {R : Type 0} → Lent → Stretch R → Type 0
 HasRun m stretch = IfOk stretch.found (ComesTo (model_of m) stretch.inputs)
 
 -- the partitions of these stretches
-abbrev pub inputs_in : List Stretch → List PartInput
-inputs_in = flat_map (λ (stretch : Stretch). stretch.inputs)
+abbrev pub inputs_in : {R : Type 0} → List (Stretch R) → List PartInput
+inputs_in stretches = flat_map (λ stretch. stretch.inputs) stretches

@@ -207,7 +207,7 @@ fn settled<R: Threads + Sync, G: Gate>(
     if are_settled(parts.as_slice()) {
         return Ok(parts.into_vec());
     }
-    let stretches = kept_stretches_of(alloc, m, parts, crew.workers)?;
+    let stretches = kept_stretches_of(crew.rt, alloc, m, parts, crew.workers)?;
     let done = run_pieces(crew.rt, alloc, stretches, crew.workers.count(), crew.gate)?;
     parts_of(alloc, done)
 }
@@ -230,7 +230,7 @@ fn is_new(state: &PartState) -> bool {
 }
 
 // The partitions of stretches that were run, in order.
-fn parts_of(alloc: Global, done: Vec<KeptStretch<'_>>) -> Result<Vec<KeptPart>, Memory>
+fn parts_of<R>(alloc: Global, done: Vec<KeptStretch<'_, R>>) -> Result<Vec<KeptPart>, Memory>
     ensures { IfOk result (λ parts. parts.items ≡ parts_in done.entry.items) }
 {
     let mut parts = Vec::new(alloc);
@@ -241,7 +241,7 @@ fn parts_of(alloc: Global, done: Vec<KeptStretch<'_>>) -> Result<Vec<KeptPart>, 
 }
 
 // The partitions of a stretch behind others.
-fn add_parts(stretch: KeptStretch<'_>, parts: &mut Vec<KeptPart>) -> Result<(), Memory>
+fn add_parts<R>(stretch: KeptStretch<'_, R>, parts: &mut Vec<KeptPart>) -> Result<(), Memory>
     ensures { OnOk result (parts.new.items ≡ parts.old.items ++ stretch.entry.parts.items) }
 {
     let KeptStretch {

@@ -131,15 +131,15 @@ fn with_wave<R: Threads + Sync, G: Gate>(
     requires ready { All (IsReady m.now.part.now) inputs }
     ensures { Gives result (each_in_turn (spec.partition_step (model_of m.now)) inputs gathered) }
 {
-    let stretches = stretches_of(alloc, m, inputs, crew.workers)?.into_vec();
+    let stretches = stretches_of(crew.rt, alloc, m, inputs, crew.workers)?.into_vec();
     let done = run_pieces(crew.rt, alloc, stretches, crew.workers.count(), crew.gate)?;
     with_done(m, done, gathered)
 }
 
 // What stretches that were run make of what is gathered so far, one after another.
-fn with_done(
+fn with_done<R>(
     m: &Lent<'_>,
-    done: Vec<Stretch<'_>>,
+    done: Vec<Stretch<'_, R>>,
     gathered: Gathered,
 ) -> Result<Gathered, Fail<QueryFault>>
     requires { All (HasRun m.now) done.items }
@@ -153,9 +153,9 @@ fn with_done(
 }
 
 // What a stretch makes of what is gathered so far.
-fn with_stretch(
+fn with_stretch<R>(
     m: &Lent<'_>,
-    stretch: Stretch<'_>,
+    stretch: Stretch<'_, R>,
     gathered: Gathered,
 ) -> Result<Gathered, Fail<QueryFault>>
     requires { HasRun m.now stretch }

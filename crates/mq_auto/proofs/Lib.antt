@@ -1,7 +1,9 @@
+pub mod CrossLemmas
 mod FaultLemmas
 mod JudgeLemmas
 mod LentLemmas
 mod ListedLemmas
+mod MappingLemmas
 mod NodeLemmas
 mod RowLemmas
 mod SettledLemmas

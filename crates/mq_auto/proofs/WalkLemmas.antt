@@ -1,10 +1,10 @@
 -- Round by round the right slots come to stand at the measures that are assigned.
-use Rattle.std.proofs.Common.{◌≡◌, ℕ, zero, suc, ◌+◌, ◌-◌, ◌<◌, ◌≤◌, Bool, true, false, ◌&&◌, not, List, [], ◌∷◌, length, get_or, Option, Some, None, cond, refl, sym, ap, subst, ◌∙◌, arith}
+use Rattle.std.proofs.Common.{◌≡◌, ℕ, zero, suc, ◌+◌, ◌-◌, ◌<◌, ◌≤◌, Bool, true, false, ◌&&◌, not, List, [], ◌∷◌, ◌++◌, map, length, get_or, Option, Some, None, cond, refl, sym, ap, subst, ◌∙◌, arith}
 use Rattle.std.specs.Prelude.{slice_get, unwrap_or}
 use Rattle.std.specs.List.{All, AllWithin, filter, find, range_with_len}
 use Rattle.std.specs.Option.{option_and_then, option_map, option_map_or}
 use Rattle.std.proofs.lemmas.Bool.{and_parts}
-use Rattle.std.proofs.lemmas.List.Elements.{All-cons, All-filter, All-weaker, All-from_all_within, All-get_or, All-head, All-nil, All-tail, AllWithin-more, AllWithin-none, AllWithin-upto, at_read, filter_passes}
+use Rattle.std.proofs.lemmas.List.Elements.{All-cons, All-filter, All-weaker, All-from_all_within, All-get_or, All-head, All-nil, All-push, All-tail, AllWithin-more, AllWithin-none, AllWithin-upto, at_read, filter_passes}
 use Rattle.std.proofs.lemmas.List.FromFn.{get_or-range_with_len, length-range_with_len}
 use Rattle.std.proofs.lemmas.Option.{get_or_from_slice_get, slice_get_within}
 use Rattle.mq_ir.specs.declared.query.CellName.{CellName}
@@ -24,7 +24,7 @@ use Rattle.mq_cells.specs.Columns.{no_results}
 use Rattle.mq_cells.specs.Stores.{CellInput, DiffersAt, Results, is_named, name_assigned, slot_at}
 use Rattle.mq_auto_shape.specs.Found.{AreRoundsOf, comes_in, is_levelled, place_comes_in, round_of}
 use Rattle.mq_auto.specs.Meaning.{result_at}
-use Rattle.mq_auto.specs.Walks.{AreFoundAt, AreOwn, AreRightWithin, IsFoundAt, IsPut, IsRight, IsRightAt, StayRight}
+use Rattle.mq_auto.specs.Walks.{AreFoundAt, AreOwn, AreRightWithin, AreSlotsOver, IsFoundAt, IsPut, IsPutAt, IsRight, IsRightAt, IsSlotOver, StayRight}
 use Rattle.mq_auto.proofs.NodeLemmas.{StepsRead, found_slot, named_same, put_right, result_is}
 
 -- what holds of each holds of the one at a place
@@ -49,6 +49,12 @@ found_place test (x ∷ xs) a h = by (test x) refl h (found_place test xs a)
         → (k : ℕ) × (slice_get (x ∷ xs) k ≡ Some a) × (test a ≡ true)
     by true e h rest = (zero, h, (let s : x ≡ a = cc in ap test (sym s) ∙ e))
     by false e h rest = let p = rest h in (suc p.0, p.1, p.2)
+
+-- what stands at a place within a list
+item_at : {X : Type 0} (xs : List X) (k : ℕ) → k < length xs → (x : X) × (slice_get xs k ≡ Some x)
+item_at [] k h = absurd (omega (arith, h))
+item_at (x ∷ xs) zero h = (x, refl)
+item_at (x ∷ xs) (suc k) h = item_at xs k (omega (arith, h))
 
 none_more : (n : ℕ) → 0 + n ≡ n
 none_more n = omega arith
@@ -87,10 +93,18 @@ module _ (model : Model) (shape : PartShape) where
   has_rule n c None e h = absurd (let f : true ≡ false = sym (unruled_level n c (unruled_looks c e)) ∙ h in cc)
   has_rule n c (Some rule) e h = (rule, refl)
 
+  -- Where n rounds are done, and an assignment comes in the next one: its slot, found over what stood before, is put over what
+  -- stands in the middle. So it is right, and what was right stays so.
+  abbrev pub IsFoundOver : CellInput → Results → Results → Results → ℕ → Type 0
+  IsFoundOver given before mid after place =
+      (input : Cells) (n : ℕ) → given ≡ cell_at input → place_comes_in model shape n place ≡ true → AreRightWithin model shape input n before
+      → StayRight model shape input mid after × IsRightAt model shape input after place
+
   -- an assignment that comes in the next round gets its slot
-  pub found_at : StepsRead → AreOwn shape → (given : CellInput) (before after : Results) (place : ℕ) (a : Assignment) → slice_get shape.assigned place ≡ Some a
-      → ((rule : Rule) → slice_get model.part.rules (a.2 - 1) ≡ Some rule → IsPut model shape given before after a rule) → IsFoundAt model shape given before after place
-  found_at law own given before after place a at put input n from comes right =
+  pub found_over : StepsRead → AreOwn shape → (given : CellInput) (before mid after : Results) (place : ℕ) (a : Assignment) → slice_get shape.assigned place ≡ Some a
+      → ((rule : Rule) → slice_get model.part.rules (a.2 - 1) ≡ Some rule → DiffersAt mid after (name_assigned a) (Some (cell_slot model shape 0 rule a.0 (slot_at given before))))
+      → IsFoundOver given before mid after place
+  found_over law own given before mid after place a at put input n from comes right =
       let c : CellName = name_assigned a in
       let level = comes_parts n place a at comes in
       let same = own_rule own place a at in
@@ -98,8 +112,53 @@ module _ (model : Model) (shape : PartShape) where
       let differs = put r.0 (sym same ∙ r.1) in
       let slot : cell_slot model shape 0 r.0 a.0 (slot_at given before) ≡ _ =
       ap (λ g. cell_slot model shape 0 r.0 a.0 (slot_at g before)) from ∙ found_slot law model shape input before c r.0 n r.1 level.0 right in
-      let done = put_right model shape input before after c (cell_slot model shape 0 r.0 a.0 (slot_at given before)) differs (ap Some slot ∙ sym (result_is model shape input c r.0 r.1)) in
+      let done = put_right model shape input mid after c (cell_slot model shape 0 r.0 a.0 (slot_at given before)) differs (ap Some slot ∙ sym (result_is model shape input c r.0 r.1)) in
       (done.0, λ b e. let s : a ≡ b = (let g : Some a ≡ Some b = sym at ∙ e in cc) in subst (λ (x : Assignment). IsRight model shape input after (name_assigned x)) s done.1)
+
+  -- .. where it is found over what stands
+  pub found_at : StepsRead → AreOwn shape → (given : CellInput) (before after : Results) (place : ℕ) (a : Assignment) → slice_get shape.assigned place ≡ Some a
+      → ((rule : Rule) → slice_get model.part.rules (a.2 - 1) ≡ Some rule → IsPut model shape given before after a rule) → IsFoundAt model shape given before after place
+  found_at law own given before after place a at put = found_over law own given before before after place a at put
+
+  -- the slots of a round, each behind its place, are put one after another
+  abbrev pub ArePut : CellInput → Results → Results → List (ℕ × Slot) → Type 0
+  ArePut given before mid found = AreFoundAt model shape given before mid (map (λ f. f.0) found)
+
+  pub put_start : (given : CellInput) (before : Results) → ArePut given before before []
+  put_start given before input n from comes right = (λ c h. h, All-nil (IsRightAt model shape input before))
+
+  places_push : (found : List (ℕ × Slot)) (f : ℕ × Slot) → map (λ f. f.0) (found ++ f ∷ []) ≡ map (λ f. f.0) found ++ f.0 ∷ []
+  places_push [] f = refl
+  places_push (g ∷ found) f = ap (λ l. g.0 ∷ l) (places_push found f)
+
+  -- what holds of each of these places holds of those before the last, and of the last
+  last_apart : (P : ℕ → Type 0) (places : List ℕ) (place : ℕ) → All P (places ++ place ∷ []) → All P places × P place
+  last_apart P [] place h = (All-nil P, All-head P place [] h)
+  last_apart P (x ∷ places) place h =
+      let rest = last_apart P places place (All-tail P x (places ++ place ∷ []) h) in
+      (All-cons P x places (All-head P x (places ++ place ∷ []) h) rest.0, rest.1)
+
+  pub put_next : (given : CellInput) (before mid after : Results) (found : List (ℕ × Slot)) (f : ℕ × Slot) → IsFoundOver given before mid after f.0
+      → ArePut given before mid found → ArePut given before after (found ++ f ∷ [])
+  put_next given before mid after found f now some input n from comes right =
+      let Comes : ℕ → Type 0 = λ place. place_comes_in model shape n place ≡ true in
+      let Right : ℕ → Type 0 = IsRightAt model shape input after in
+      let places = map (λ f. f.0) found in
+      let parts = last_apart Comes places f.0 (subst (All Comes) (places_push found f) comes) in
+      let so = some input n from parts.0 right in
+      let next = now input n from parts.1 right in (
+        λ c h. next.0 c (so.0 c h),
+        subst (All Right) (sym (places_push found f))
+            (All-push Right places f.0 (All-weaker (IsRightAt model shape input mid) Right (λ place h a e. next.0 (name_assigned a) (h a e)) places so.1) next.1),
+      )
+
+  -- the slot of an assignment was found over what stood before the round, and is put now
+  pub put_over : StepsRead → AreOwn shape → (given : CellInput) (before mid after : Results) (place : ℕ) (slot : Slot) → place < length shape.assigned
+      → IsSlotOver model shape (slot_at given before) (place, slot) → IsPutAt shape mid after place slot → IsFoundOver given before mid after place
+  put_over law own given before mid after place slot there over put =
+      let a = item_at shape.assigned place there in
+      found_over law own given before mid after place a.0 a.1
+      (λ rule is. subst (λ s. DiffersAt mid after (name_assigned a.0) (Some s)) (over a.0 rule a.1 is) (put a.0 a.1))
 
   -- the first i of some places that come in the next round have their slots
   abbrev pub FoundSome : CellInput → Results → Results → List ℕ → ℕ → Type 0
@@ -200,6 +259,14 @@ module _ (model : Model) (shape : PartShape) where
             let same : c ≡ name_assigned a = named_same c (name_assigned a) p.2 in
             let last : n ≡ length rounds = omega (arith, past, within) in
             rw (same, last) (at_place (λ a. is_levelled model shape (length rounds) a ≡ true) shape.assigned p.0 a p.1 are.complete)
+
+-- the places of the slots of a round are those of assignments
+pub places_there : (P : ℕ → Type 0) (places : List ℕ) (found : List (ℕ × Slot)) → map (λ f. f.0) found ≡ places → All P places → All (λ f. P f.0) found
+places_there P places found same h = of found (subst (All P) (sym same) h)
+  where
+    of : (found : List (ℕ × Slot)) → All P (map (λ f. f.0) found) → All (λ f. P f.0) found
+    of [] h = All-nil (λ f. P f.0)
+    of (f ∷ found) h = All-cons (λ f. P f.0) f found (All-head P f.0 (map (λ f. f.0) found) h) (of found (All-tail P f.0 (map (λ f. f.0) found) h))
 
 -- what is put at the measure of an assignment is what its rule makes of the cell
 pub put_is : (model : Model) (shape : PartShape) (given : CellInput) (before mid after : Results) (a : Assignment) (r rule : Rule) (slot : Slot) → mid ≡ before → Some r ≡ slice_get model.part.rules (a.2 - 1)

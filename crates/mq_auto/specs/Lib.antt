@@ -1,3 +1,4 @@
 pub mod Findings
+pub mod Mapped
 pub mod Meaning
 pub mod Walks

@@ -1,16 +1,19 @@
 -- What stands in a store of cells while the values of assignments are found round by round.
-use Rattle.std.specs.Prelude.{◌≡◌, ℕ, true, List, Some, slice_get}
+use Rattle.std.specs.Prelude.{◌≡◌, ℕ, ◌-◌, true, List, Some, map, slice_get}
 use Rattle.std.specs.List.{All, find}
 use Rattle.mq_ir.specs.declared.query.CellName.{CellName}
 use Rattle.mq_ir.specs.declared.query.Look.TheVariants.{Measure}
 use Rattle.mq_ir.specs.declared.query.PartShape.{PartShape}
 use Rattle.mq_ir.specs.declared.query.Rule.{Rule}
+use Rattle.mq_ir.specs.declared.query.Slot.{Slot}
+use Rattle.mq_ir.specs.declared.query.Slot.TheVariants.{Done}
 use Rattle.mq_ir.specs.Automatic.{node_looks}
-use Rattle.mq_ir.specs.Partitions.{Cells, cell_at}
+use Rattle.mq_ir.specs.Partitions.{Cells, Tuple, cell_at}
 use Rattle.mq_ir.specs.Rounds.{levelled}
 use Rattle.mq_ir.specs.Shape.{Assignment, assigns}
-use Rattle.mq_ir.specs.Slots.{cell_slot}
+use Rattle.mq_ir.specs.Slots.{Slots, cell_slot}
 use Rattle.mq_ir.specs.Unfolding.{Model, model_of}
+use Rattle.mq_cells.specs.IndexedStores.{IndexedStore, slots_in, value_in}
 use Rattle.mq_cells.specs.Stores.{CellInput, DiffersAt, Results, name_assigned, slot_at}
 use Rattle.mq_auto_shape.specs.Found.{IsRuled, place_comes_in}
 use Rattle.mq_refs.specs.Orders.{IsOrderOf}
@@ -39,6 +42,31 @@ pub record IsAtWork (work : Work) : Type 0 where
 abbrev pub IsPut : Model → PartShape → CellInput → Results → Results → Assignment → Rule → Type 0
 IsPut model shape given before after a rule =
     DiffersAt before after (name_assigned a) (Some (cell_slot model shape 0 rule a.0 (slot_at given before)))
+
+-- the assignment at a place is of this cell, by this rule
+abbrev pub IsAssignedAt : Model → PartShape → ℕ → Tuple → Rule → Type 0
+IsAssignedAt model shape place key rule =
+    (a : Assignment) → slice_get shape.assigned place ≡ Some a → (a.0 ≡ key) × (slice_get model.part.rules (a.2 - 1) ≡ Some rule)
+
+-- this stands now at the measure of the assignment at a place, and nothing else changed
+abbrev pub IsPutAt : PartShape → Results → Results → ℕ → Slot → Type 0
+IsPutAt shape before after place slot =
+    (a : Assignment) → slice_get shape.assigned place ≡ Some a → DiffersAt before after (name_assigned a) (Some slot)
+
+-- each measure of a store has a value
+abbrev pub LendsAll : IndexedStore → Type 0
+LendsAll store = (c : CellName) → slots_in store c ≡ Done (value_in store c)
+
+-- a place with what the rule of the assignment there makes of its cell over these slots
+abbrev pub IsSlotOver : Model → PartShape → Slots → ℕ × Slot → Type 0
+IsSlotOver model shape slots found =
+    (a : Assignment) (rule : Rule) → slice_get shape.assigned found.0 ≡ Some a → slice_get model.part.rules (a.2 - 1) ≡ Some rule
+    → found.1 ≡ cell_slot model shape 0 rule a.0 slots
+
+-- these places, in order, each with that
+pub record AreSlotsOver (model : Model) (shape : PartShape) (slots : Slots) (places : List ℕ) (found : List (ℕ × Slot)) : Type 0 where
+  pub same : map (λ f. f.0) found ≡ places
+  pub each : All (IsSlotOver model shape slots) found
 
 -- at a measure stands what is to stand there
 abbrev pub IsRight : Model → PartShape → Cells → Results → CellName → Type 0

@@ -7,10 +7,12 @@ ghost use Rattle.mq_refs.specs.Orders.{IsOrderOf};
 ghost use Rattle.mq_auto.specs.Findings.{IsLevelled};
 ghost use Rattle.mq_auto.specs.Meaning.{result_with};
 
+use crate::finding::Finder;
 use crate::judging::judge_after;
 use crate::stored::stored_result;
 use crate::values::values_over;
 use mq_auto_shape::IndexedShape;
+use mq_cells::IndexedCells;
 use mq_ir::{Model as Lent, PartInput, PartResult};
 use mq_refs::{RefsOrder, refs_order};
 use mq_values::Memory;
@@ -57,10 +59,16 @@ impl<'a> AutoRunner<'a> {
         }
     }
 
-    /// What the rules make of a partition: its cells, or the first fault, as `run_auto` has them. `Memory` is the only
-    /// error.
-    pub fn run(&mut self, alloc: Global, p: &PartInput) -> Result<PartResult, Memory>
+    /// What the rules make of a partition: its cells, or the first fault, as `run_auto` has them. `finder` is how the
+    /// slots of targets are found. `Memory` is the only error.
+    pub fn run<F: Finder<IndexedCells>>(
+        &mut self,
+        alloc: Global,
+        p: &PartInput,
+        finder: &F,
+    ) -> Result<PartResult, Memory>
         requires ready { IsReady self.old.part p.now }
+        requires finder { F.is_ready finder.now }
         ensures exact { IfOk result (λ r. r ≡ (automatic self.old p.now).1) }
         ensures same { self.new ≡ self.old }
     {
@@ -69,7 +77,7 @@ impl<'a> AutoRunner<'a> {
         let last = self.last.take();
         match judge_after(alloc, model, p, last)? {
             Ok(found) => {
-                let result = result_over(alloc, model, p, &found, refs)?;
+                let result = result_over(alloc, model, p, &found, refs, finder)?;
                 self.last = Some(found);
                 Ok(result)
             }
@@ -79,17 +87,19 @@ impl<'a> AutoRunner<'a> {
 }
 
 // What the rules make of a partition of this shape.
-fn result_over(
+fn result_over<F: Finder<IndexedCells>>(
     alloc: Global,
     m: &Lent<'_>,
     p: &PartInput,
     found: &IndexedShape,
     refs: RefsOrder,
+    finder: &F,
 ) -> Result<PartResult, Memory>
     requires levelled { IsLevelled (model_of m.now) found.now }
     requires refs { IsOrderOf refs m.now }
+    requires finder { F.is_ready finder.now }
     ensures { IfOk result (λ r. r ≡ result_with (model_of m.now) p.now.key found.now.shape (slots_in (model_of m.now) found.now.shape p.now.cells)) }
 {
-    let mut cells = values_over(alloc, m, p, found, refs)?;
+    let mut cells = values_over(alloc, m, p, found, refs, finder)?;
     stored_result(alloc, m, p, &found.shape, &mut cells)
 }

@@ -6,7 +6,7 @@ ghost use Rattle.mq_refs.specs.Orders.{IsOrderOf};
 ghost use Rattle.mq_auto.specs.Findings.{IsLevelled};
 ghost use Rattle.mq_auto.specs.Meaning.{HoldsValues};
 
-use crate::finding::ByLending;
+use crate::finding::Finder;
 use crate::walking::walk_rounds;
 use mq_auto_shape::IndexedShape;
 use mq_cells::IndexedCells;
@@ -18,21 +18,23 @@ use std::alloc::Global;
 
 /// A store of a partition with its automatic values, by its shape, as `judge` finds it. A shape sees no value of a cell, so one
 /// serves for every partition with cells at its keys (docs/MEANING.md, "Automatic order"). `refs` says whether the cells of the
-/// references are known to ascend. `Memory` is the only error.
-pub fn values_over(
+/// references are known to ascend, `finder` how the slots of targets are found. `Memory` is the only error.
+pub fn values_over<F: Finder<IndexedCells>>(
     alloc: Global,
     m: &Model<'_>,
     p: &PartInput,
     found: &IndexedShape,
     refs: RefsOrder,
+    finder: &F,
 ) -> Result<IndexedCells, Memory>
     requires levelled { IsLevelled (model_of m.now) found.now }
     requires refs { IsOrderOf refs m.now }
+    requires finder { F.is_ready finder.now }
     ensures { IfOk result (λ cells. HoldsValues (model_of m.now) found.now.shape p.now.cells (input_in cells) (results_of cells)) }
 {
     let mut cells = IndexedCells::new(alloc, p)?;
     add_created(found, &mut cells)?;
-    walk_rounds(alloc, m, found, refs, &ByLending, &mut cells)?;
+    walk_rounds(alloc, m, found, refs, finder, &mut cells)?;
     Ok(cells)
 }
 

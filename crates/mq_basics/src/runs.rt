@@ -5,7 +5,7 @@ use crate::answers::Reply;
 use crate::models::part_of;
 use crate::ready::is_ready;
 use crate::scene::Scene;
-use mq_auto::{AutoRunner, Verdict, compute, result_of, run_auto};
+use mq_auto::{AutoRunner, ByLending, Verdict, compute, result_of, run_auto};
 use mq_cells::{Cells, PlainCells};
 use mq_ir::{Answer, Model, OutCell, PartInput, PartResult, PartShape};
 use mq_render::answer_text;
@@ -85,9 +85,9 @@ fn run_twice(model: &Model<'_>, input: &PartInput, reply: &mut Reply)
     requires { IsReady model.now.part.now input.now }
 {
     let mut runner = AutoRunner::new(model);
-    let first = runner.run(reply.alloc, input);
+    let first = runner.run(reply.alloc, input, &ByLending);
     add_other(first, reply);
-    let second = runner.run(reply.alloc, input);
+    let second = runner.run(reply.alloc, input, &ByLending);
     add_other(second, reply);
 }
 

@@ -10,8 +10,8 @@ ghost use Rattle.mq_kept.specs.Kept as spec;
 
 use crate::kept_view::{KeptPart, PartState, ShapedCells, SharedShape};
 use crate::shapes::shape_after;
-use mq_auto::values_over;
-use mq_cells::{Cells, MAX_ASSIGNMENTS};
+use mq_auto::{ByLending, Finder, values_over};
+use mq_cells::{Cells, IndexedCells, MAX_ASSIGNMENTS};
 use mq_ir::{Model as Lent, PartInput, PartResult};
 use mq_refs::{RefsOrder, refs_order};
 use mq_seq::run_seq;
@@ -30,17 +30,24 @@ pub fn settle(alloc: Global, m: &Lent<'_>, part: &mut KeptPart) -> Result<(), Me
         return Ok(());
     }
     let refs = refs_order(m);
-    let_go(settle_after(alloc, m, refs, part, None)?);
+    let_go(settle_after(alloc, m, refs, &ByLending, part, None)?);
     Ok(())
 }
 
 // Lets an item go. Whatever its form is, the caller goes on in one way.
 fn let_go<T: Drop>(_item: T) {}
 
-/// Runs the partitions of which nothing was found yet, one after another; those with cells at the same keys share one shape. It may
+/// Runs the partitions of which nothing was found yet, one after another; those with cells at the same keys share one shape, and the
+/// finder finds the values of each that is in automatic order. It may
 /// stop behind the first that comes to a fault, since that is what the view answers. What was found of them is right before and after,
 /// also after `Memory`.
-pub fn settle_all(alloc: Global, m: &Lent<'_>, parts: &mut [KeptPart]) -> Result<(), Memory>
+pub fn settle_all<F: Finder<IndexedCells>>(
+    alloc: Global,
+    m: &Lent<'_>,
+    finder: &F,
+    parts: &mut [KeptPart],
+) -> Result<(), Memory>
+    requires finder { F.is_ready finder.now }
     requires right { All (IsRight (model_of m.now)) parts.old }
     ensures right { All (IsRight (model_of m.now)) parts.new }
     ensures same_inputs { inputs_of parts.new ≡ inputs_of parts.old }
@@ -48,7 +55,7 @@ pub fn settle_all(alloc: Global, m: &Lent<'_>, parts: &mut [KeptPart]) -> Result
     let refs = refs_order(m);
     let mut last = None;
     for part in parts.iter_mut() {
-        last = settle_after(alloc, m, refs, part, last)?;
+        last = settle_after(alloc, m, refs, finder, part, last)?;
         if comes_to_fault(&part.state) {
             return Ok(());
         }
@@ -57,15 +64,17 @@ pub fn settle_all(alloc: Global, m: &Lent<'_>, parts: &mut [KeptPart]) -> Result
 }
 
 // Runs a partition of which nothing was found yet. `last` is a shape that may serve it; out comes one that may serve the next.
-fn settle_after(
+fn settle_after<F: Finder<IndexedCells>>(
     alloc: Global,
     m: &Lent<'_>,
     refs: RefsOrder,
+    finder: &F,
     part: &mut KeptPart,
     last: Option<Arc<SharedShape>>,
 ) -> Result<Option<Arc<SharedShape>>, Memory>
     requires right { IsRight (model_of m.now) part.old }
     requires refs { IsOrderOf refs m.now }
+    requires finder { F.is_ready finder.now }
     requires last { IsServing (model_of m.now) last }
     ensures settled { OnOk result (spec.is_settled part.new.state ≡ true) }
     ensures right { IsRight (model_of m.now) part.new }
@@ -75,7 +84,7 @@ fn settle_after(
     if is_settled(&part.state) {
         return shape_in(&part.state);
     }
-    part.state = found_of(alloc, m, refs, &part.input, last)?;
+    part.state = found_of(alloc, m, refs, finder, &part.input, last)?;
     shape_in(&part.state)
 }
 
@@ -117,37 +126,41 @@ fn has_fault(kept: &ShapedCells) -> bool {
 }
 
 // What is found of an input.
-fn found_of(
+fn found_of<F: Finder<IndexedCells>>(
     alloc: Global,
     m: &Lent<'_>,
     refs: RefsOrder,
+    finder: &F,
     p: &PartInput,
     last: Option<Arc<SharedShape>>,
 ) -> Result<PartState, Memory>
     requires ready { IsReady m.now.part.now p.now }
     requires refs { IsOrderOf refs m.now }
+    requires finder { F.is_ready finder.now }
     requires last { IsServing (model_of m.now) last }
     ensures settled { IfOk result (λ state. spec.is_settled state ≡ true) }
     ensures found { IfOk result (IsFound (model_of m.now) p.now) }
 {
     if m.part.auto {
-        found_automatic(alloc, m, refs, p, last)
+        found_automatic(alloc, m, refs, finder, p, last)
     } else {
         Ok(PartState::Made(run_seq(alloc, m, p)?))
     }
 }
 
 // The same in automatic order.
-fn found_automatic(
+fn found_automatic<F: Finder<IndexedCells>>(
     alloc: Global,
     m: &Lent<'_>,
     refs: RefsOrder,
+    finder: &F,
     p: &PartInput,
     last: Option<Arc<SharedShape>>,
 ) -> Result<PartState, Memory>
     requires automatic { m.now.part.now.auto ≡ true }
     requires ready { IsReady m.now.part.now p.now }
     requires refs { IsOrderOf refs m.now }
+    requires finder { F.is_ready finder.now }
     requires last { IsServing (model_of m.now) last }
     ensures settled { IfOk result (λ state. spec.is_settled state ≡ true) }
     ensures found { IfOk result (IsFound (model_of m.now) p.now) }
@@ -155,7 +168,7 @@ fn found_automatic(
     let found = shape_after(alloc, m, p, last)?;
     match found {
         Ok(shape) => {
-            let cells = values_over(alloc, m, p, &shape.found, refs)?;
+            let cells = values_over(alloc, m, p, &shape.found, refs, finder)?;
             Ok(PartState::Automatic(ShapedCells { shape, cells }))
         }
         Err(fault) => Ok(PartState::Made(PartResult::Fault(fault))),

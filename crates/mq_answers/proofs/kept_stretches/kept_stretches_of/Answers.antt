@@ -13,7 +13,7 @@ use Rattle.mq_answers.proofs.TakenLemmas.{taken_is}
 use Rattle.mq_answers.proofs.kept_stretches.kept_stretches_of.Goals as goal
 
 pub new-requires : goal.new-requires
-new-requires c =
+new-requires g c =
     let all = c.in_ok-cuts.cuts in
     let gone = c.loop-part.yielded in
     let road = YieldsList-from_vec {s = c.into_iter-part-iterator.result} all (search rules) (search rules) in
@@ -25,6 +25,6 @@ new-requires c =
     (subst (λ (parts : List (List KeptPart)). All P (joined parts)) whole (subst (All P) (sym c.in_ok-cuts.ensures.same) c.requires))
 
 pub loop-part-preserved : goal.loop-part-preserved
-loop-part-preserved c =
-    made_next (λ (s : KeptStretch). s.parts.items) (MaySettle c.args.m.now) c.loop-part.yielded c.loop-part.stretches.items c.in-Some.part c.new.result c.push.new.self.items c.in_ok-push.ensures.items
+loop-part-preserved g c =
+    made_next (λ (s : KeptStretch _). s.parts.items) (MaySettle c.args.m.now) c.loop-part.yielded c.loop-part.stretches.items c.in-Some.part c.new.result c.push.new.self.items c.in_ok-push.ensures.items
     c.new.ensures.parts c.new.ensures.settle c.loop-part.invariant

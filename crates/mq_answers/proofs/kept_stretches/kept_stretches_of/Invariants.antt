@@ -4,4 +4,4 @@ use Rattle.mq_answers.proofs.CutLemmas.{Made}
 use Rattle.mq_answers.proofs.kept_stretches.kept_stretches_of.Given as goal
 
 abbrev pub invariant-loop-part : goal.invariant-loop-part
-invariant-loop-part l = Made (λ (s : KeptStretch). s.parts.items) (MaySettle l.m) l.yielded l.stretches.items
+invariant-loop-part g l = Made (λ (s : KeptStretch _). s.parts.items) (MaySettle l.m) l.yielded l.stretches.items

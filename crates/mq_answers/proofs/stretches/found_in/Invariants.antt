@@ -5,4 +5,4 @@ use Rattle.mq_answers.proofs.stretches.found_in.Given as goal
 
 -- the runner stays that of the model
 abbrev pub invariant-loop-p : goal.invariant-loop-p
-invariant-loop-p l = (l.runner ≡ model_of l.m) × FoundSoFar (model_of l.m) l.inputs l.p-index l.found
+invariant-loop-p g l = (l.runner ≡ model_of l.m) × FoundSoFar (model_of l.m) l.inputs l.p-index l.found

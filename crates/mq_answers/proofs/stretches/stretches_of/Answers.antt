@@ -12,7 +12,7 @@ use Rattle.mq_answers.proofs.TakenLemmas.{taken_is}
 use Rattle.mq_answers.proofs.stretches.stretches_of.Goals as goal
 
 pub new-requires : goal.new-requires
-new-requires c =
+new-requires g c =
     let all = c.in_ok-parts.parts in
     let gone = c.loop-part.yielded in
     let road = YieldsList-from_vec {s = c.into_iter-part-iterator.result} all (search rules) (search rules) in
@@ -24,6 +24,6 @@ new-requires c =
     (subst (λ (parts : List (List PartInput)). All P (joined parts)) whole (subst (All P) (sym c.in_ok-parts.ensures.same) c.requires))
 
 pub loop-part-preserved : goal.loop-part-preserved
-loop-part-preserved c =
-    made_next (λ (s : Stretch). s.inputs) (CanRun c.args.m.now) c.loop-part.yielded c.loop-part.stretches c.in-Some.part c.new.result c.push.new.self c.in_ok-push.ensures.ok
+loop-part-preserved g c =
+    made_next (λ (s : Stretch _). s.inputs) (CanRun c.args.m.now) c.loop-part.yielded c.loop-part.stretches c.in-Some.part c.new.result c.push.new.self c.in_ok-push.ensures.ok
     c.new.ensures.inputs c.new.ensures.run c.loop-part.invariant

@@ -4,4 +4,4 @@ use Rattle.mq_answers.proofs.CutLemmas.{Made}
 use Rattle.mq_answers.proofs.stretches.stretches_of.Given as goal
 
 abbrev pub invariant-loop-part : goal.invariant-loop-part
-invariant-loop-part l = Made (λ (s : Stretch). s.inputs) (CanRun l.m) l.yielded l.stretches
+invariant-loop-part g l = Made (λ (s : Stretch _). s.inputs) (CanRun l.m) l.yielded l.stretches

@@ -6,7 +6,7 @@ use Rattle.mq_auto.proofs.computing.compute.Goals as goal
 pub walk_rounds-requires : goal.walk_rounds-requires
 walk_rounds-requires g c =
     let judged = rw c.in-Ok.is at c.in_ok-judged.ensures in
-    record { levelled = judged.rounds; refs = c.refs_order.ensures }
+    record { levelled = judged.rounds; refs = c.refs_order.ensures; finder = tt }
 
 pub returns-in_ok-walk_rounds-in-Ok-clause-verdict : goal.returns-in_ok-walk_rounds-in-Ok-clause-verdict
 returns-in_ok-walk_rounds-in-Ok-clause-verdict g c =

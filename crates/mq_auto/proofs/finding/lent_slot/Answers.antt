@@ -1,17 +1,13 @@
-use Rattle.std.proofs.Common.{Ok, Err}
+use Rattle.std.proofs.Common.{ap, ◌∙◌}
+use Rattle.mq_ir.specs.Slots.{cell_slot}
+use Rattle.mq_cells.specs.IndexedStores.{IndexedStore, slots_in}
 use Rattle.mq_auto.specs.Walks.{model_in}
-use Rattle.mq_auto.proofs.LentLemmas.{lent_is}
 use Rattle.mq_auto.proofs.finding.lent_slot.Goals as goal
 
-pub returns-in-Ok : goal.returns-in-Ok
-returns-in-Ok c =
-    let work = c.args.work.now in
-    lent_is c.args.cells.now c.in-Some.lent c.in-Some.ensures.values (model_in work) work.shape.now c.args.rule.now c.args.target.now work.keys.cells.now work.keys.base.now
-    c.requires.cells c.requires.base c.in-Some.ensures.same (Ok c.in-Ok.v) c.in-Ok.ensures
+pub slot_lent-requires-clause-values : goal.slot_lent-requires-clause-values
+slot_lent-requires-clause-values c = λ name. ap (λ (s : IndexedStore). slots_in s name) c.in-Some.ensures.same ∙ c.in-Some.ensures.values name
 
-pub returns-in-Err-Cause : goal.returns-in-Err-Cause
-returns-in-Err-Cause c =
-    let work = c.args.work.now in
-    lent_is c.args.cells.now c.in-Some.lent c.in-Some.ensures.values (model_in work) work.shape.now c.args.rule.now c.args.target.now work.keys.cells.now work.keys.base.now
-    c.requires.cells c.requires.base c.in-Some.ensures.same (Err c.in-Err-Cause.fault)
-    (rw c.in-Err-Cause.field-0-is at c.in-Err-Cause.ensures)
+pub returns-in_ok-slot_lent-in-Some : goal.returns-in_ok-slot_lent-in-Some
+returns-in_ok-slot_lent-in-Some c =
+    c.in_ok-slot_lent-in-Some.ensures
+    ∙ ap (λ (s : IndexedStore). cell_slot (model_in c.args.work.now) c.args.work.now.shape.now 0 c.args.rule.now c.args.target.now (slots_in s)) c.in-Some.ensures.same

@@ -2,7 +2,7 @@ use Rattle.std.proofs.Common.{◌∙◌}
 use Rattle.mq_auto.proofs.values.values_over.Goals as goal
 
 pub returns : goal.returns
-returns c =
+returns g c =
     let made = c.in_ok-cells.ensures in
     let added = c.in_ok-add_created.ensures in
     let walked = c.in_ok-walk_rounds.ensures in

@@ -19,6 +19,7 @@ walk_round-requires g c =
     let s = c.args.found.now.shape in
     let are = subst (AreRoundsOf model s) (sym c.as_slice-rounds.ensures) c.requires.levelled.rounds in
     record {
+      finder = c.requires.finder;
       work = record { base = c.requires.levelled.indexed.base; cells = c.requires.levelled.indexed.cells; refs = c.requires.refs };
       own = c.requires.levelled.own;
       ruled = c.requires.levelled.ruled;

@@ -1,7 +1,7 @@
 use Rattle.std.proofs.Common.{◌≡◌}
 use Rattle.mq_auto.specs.Walks.{model_in}
 use Rattle.mq_auto.proofs.WalkLemmas.{FoundSome}
-use Rattle.mq_auto.proofs.walking.walk_round.Given as goal
+use Rattle.mq_auto.proofs.walking.visit_round.Given as goal
 
 abbrev pub invariant-places : goal.invariant-places
 invariant-places g l = record {
