@@ -19,5 +19,6 @@ mod shapes;
 mod wanted;
 
 pub use indexed::IndexedShape;
-pub use reads::rule_numbered;
+pub use numbers::Numbers;
+pub use reads::{places_of, rule_numbered};
 pub use shapes::{indexed_shape_of, shape_of};

@@ -50,6 +50,17 @@ impl<'a> Numbers<'a> {
         self.lanes.get(m, place).copied()
     }
 
+    /// The number at measure `m` of the cell at `key`, or `None` where there is none.
+    pub fn find(&self, key: &[Value], m: u32, near: &mut u32) -> Option<u32>
+        ensures { result ≡ number_at self.now key.now m }
+    {
+        let Some(place) = self.cells.place_near(key, *near) else {
+            return None;
+        };
+        *near = place;
+        self.at(m, place)
+    }
+
     /// The place of the cell at `key` as a run of measure `m`, or `None` where the cell is not there.
     pub fn run_at(&self, key: &[Value], m: u32, near: &mut u32) -> Option<LaneRun>
         ensures none { result ≡ None → number_at self.now key.now m ≡ None }
