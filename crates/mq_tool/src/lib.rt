@@ -23,3 +23,4 @@ pub use scripts::run_script;
 pub use statuses::{
     BAD_WORDS, DONE, FLAWED, NO_MEMORY, NOT_UTF8, READ_FAILED, TOO_LONG, WRITE_FAILED,
 };
+pub use step::do_statement;
