@@ -10,33 +10,32 @@ use Rattle.mq_ir.specs.Derivations.{AreAccepted, IsAccepted}
 use Rattle.mq_ir.specs.Partitions.{Cells}
 use Rattle.mq_ir.specs.Unfolding.{Model}
 use Rattle.mq_cells.specs.Stores.{Results}
-use Rattle.mq_lineage.specs.Nodes.{Nodes}
 use Rattle.mq_lineage.specs.Telling.{AreTold, Tells}
 use Rattle.mq_lineage.proofs.ToldLemmas.{told_more, told_none}
 
 -- the steps before place i are accepted and told, so it hangs on the others
-pub record Taken (model : Model) (shape : PartShape) (input : Cells) (steps : List DerivationStep) (i : ℕ) (names : Nodes) (results : Results) : Type 0 where
+pub record Taken (model : Model) (shape : PartShape) (input : Cells) (steps : List DerivationStep) (i : ℕ) (results : Results) : Type 0 where
   pub earlier : List DerivationStep
-  pub told : AreTold earlier names results
+  pub told : AreTold earlier results
   pub behind : AreAccepted model shape input [] steps → AreAccepted model shape input earlier (drop i steps)
   pub back : AreAccepted model shape input earlier (drop i steps) → AreAccepted model shape input [] steps
 
 module _ (model : Model) (shape : PartShape) (input : Cells) (steps : List DerivationStep) where
-  pub take_start : (names : Nodes) (results : Results) → names ≡ [] → ((c : CellName) → results c ≡ None) → Taken model shape input steps 0 names results
-  take_start names results e h = record { earlier = []; told = told_none names results e h; behind = λ a. a; back = λ a. a }
+  pub take_start : (results : Results) → ((c : CellName) → results c ≡ None) → Taken model shape input steps 0 results
+  take_start results h = record { earlier = []; told = told_none results h; behind = λ a. a; back = λ a. a }
 
-  module _ (i : ℕ) (names : Nodes) (results : Results) (step : DerivationStep) (h : i < length steps) (e : step ≡ get_or steps i step) (w : Taken model shape input steps i names results) where
+  module _ (i : ℕ) (results : Results) (step : DerivationStep) (h : i < length steps) (e : step ≡ get_or steps i step) (w : Taken model shape input steps i results) where
     here : AreAccepted model shape input [] steps → IsAccepted model shape input w.earlier step × AreAccepted model shape input (step ∷ w.earlier) (drop (i + 1) steps)
     here a = subst (AreAccepted model shape input w.earlier) (next_item steps i step h e) (w.behind a)
 
     there : IsAccepted model shape input w.earlier step → AreAccepted model shape input (step ∷ w.earlier) (drop (i + 1) steps) → AreAccepted model shape input [] steps
     there s a = w.back (subst (AreAccepted model shape input w.earlier) (sym (next_item steps i step h e)) (s, a))
 
-    pub take_next : (b : Bool) (told : Nodes) (after : Results) → Decides b (IsAccepted model shape input w.earlier step) → b ≡ true → Tells step names told results after
-        → Taken model shape input steps (i + 1) told after
-    take_next b told after d f t = record {
+    pub take_next : (b : Bool) (after : Results) → Decides b (IsAccepted model shape input w.earlier step) → b ≡ true → Tells step results after
+        → Taken model shape input steps (i + 1) after
+    take_next b after d f t = record {
       earlier = step ∷ w.earlier;
-      told = told_more w.earlier step names told results after w.told t;
+      told = told_more w.earlier step results after w.told t;
       behind = λ a. (here a).1;
       back = there (d.0 f);
     }
@@ -44,5 +43,5 @@ module _ (model : Model) (shape : PartShape) (input : Cells) (steps : List Deriv
     pub take_stop : (b : Bool) → Decides b (IsAccepted model shape input w.earlier step) → b ≡ false → Decides false (AreAccepted model shape input [] steps)
     take_stop b d f = (λ h. cc, λ a. let q : true ≡ false = sym (d.1 (here a).0) ∙ f in absurd (cc))
 
-  pub take_end : (i : ℕ) (names : Nodes) (results : Results) → length steps ≤ i → Taken model shape input steps i names results → Decides true (AreAccepted model shape input [] steps)
-  take_end i names results h w = (λ _. w.back (subst (AreAccepted model shape input w.earlier) (sym (drop_all i steps h)) tt), λ a. refl)
+  pub take_end : (i : ℕ) (results : Results) → length steps ≤ i → Taken model shape input steps i results → Decides true (AreAccepted model shape input [] steps)
+  take_end i results h w = (λ _. w.back (subst (AreAccepted model shape input w.earlier) (sym (drop_all i steps h)) tt), λ a. refl)

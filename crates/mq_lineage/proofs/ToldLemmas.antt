@@ -1,5 +1,5 @@
 -- What is known of the steps so far, a step more, and the slots that a rule sees.
-use Rattle.std.proofs.Common.{◌≡◌, ℕ, ◌-◌, Bool, true, false, ◌||◌, List, [], ◌∷◌, Option, Some, None, Result, Ok, Err, IfOk, slice_get, refl, sym, ap, ◌∙◌, subst}
+use Rattle.std.proofs.Common.{◌≡◌, ℕ, ◌-◌, Bool, true, false, ◌||◌, List, [], ◌∷◌, Option, Some, None, Result, Ok, Err, IfOk, slice_get, refl, sym, ap, ◌∙◌}
 use Rattle.std.specs.Prelude.{if◌then◌else◌, unwrap_or}
 use Rattle.std.specs.Bool.{Decides}
 use Rattle.std.specs.List.{filter_map, find, list_all}
@@ -22,19 +22,15 @@ use Rattle.mq_ir.specs.Slots.{cell_slot, site_in}
 use Rattle.mq_ir.specs.Unfolding.{Model}
 use Rattle.mq_cells.specs.Stores.{CellInput, Results, input_value, slot_at}
 use Rattle.mq_change_laws.specs.NodeLaws.{StepsRead, looked, stepped}
-use Rattle.mq_lineage.specs.Nodes.{Nodes}
 use Rattle.mq_lineage.specs.Telling.{AreTold, IsMade, Tells, look_told}
 use Rattle.mq_lineage.proofs.LookLemmas.{told_among}
 
-pub told_none : (names : Nodes) (results : Results) → names ≡ [] → ((c : CellName) → results c ≡ None) → AreTold [] names results
-told_none names results e h = subst (λ (n : Nodes). AreTold [] n results) (sym e) (record { named = λ c. refl; stand = h })
+pub told_none : (results : Results) → ((c : CellName) → results c ≡ None) → AreTold [] results
+told_none results h = record { stand = h }
 
-pub told_more : (earlier : List DerivationStep) (step : DerivationStep) (names told : Nodes) (before after : Results) → AreTold earlier names before
-    → Tells step names told before after → AreTold (step ∷ earlier) told after
-told_more earlier step names told before after t h = record {
-  named = λ c. h.0 c ∙ ap (λ b. is_same_measure c step.name || b) (t.named c);
-  stand = λ c. h.1 c ∙ by c (is_same_measure c step.name) (t.stand c);
-}
+pub told_more : (earlier : List DerivationStep) (step : DerivationStep) (before after : Results) → AreTold earlier before
+    → Tells step before after → AreTold (step ∷ earlier) after
+told_more earlier step before after t h = record { stand = λ c. h c ∙ by c (is_same_measure c step.name) (t.stand c) }
   where
     by : (c : CellName) (b : Bool) → before c ≡ option_map (λ s. s.slot) (find (λ s. is_same_measure c s.name) earlier)
         → (if b then Some step.slot else before c) ≡ option_map (λ s. s.slot) (if b then Some step else find (λ s. is_same_measure c s.name) earlier)
@@ -54,7 +50,7 @@ slot_told c other (x ∷ xs) h = by (is_same_measure c x.name) h (slot_told c ot
     by true h k = refl
     by false h k = k h
 
-module _ (earlier : List DerivationStep) (names : Nodes) (input : CellInput) (results : Results) (t : AreTold earlier names results) where
+module _ (earlier : List DerivationStep) (input : CellInput) (results : Results) (t : AreTold earlier results) where
   agree : (looks : List Look) → list_all (is_among_steps earlier) (filter_map measure_of looks) ≡ true
       → AgreeAt (slot_at input results) (λ c. slot_among earlier (Measure c)) looks
   agree [] h = tt
@@ -71,13 +67,13 @@ module _ (earlier : List DerivationStep) (names : Nodes) (input : CellInput) (re
     seen = cell_slot model shape 0 rule step.name.key (slot_at input results)
 
     -- the looks are not all told
-    pub not_made : (looks : List Look) (b : Bool) → looks ≡ rule_looks → b ≡ list_all (look_told names) looks → b ≡ false → Decides false (IsMade model shape earlier step rule)
+    pub not_made : (looks : List Look) (b : Bool) → looks ≡ rule_looks → b ≡ list_all (look_told results) looks → b ≡ false → Decides false (IsMade model shape earlier step rule)
     not_made looks b e k f = (
       λ h. cc,
-      λ made. let q : true ≡ false = sym made.0 ∙ sym (told_among earlier names results t rule_looks) ∙ ap (list_all (look_told names)) (sym e) ∙ sym k ∙ f in absurd (cc),
+      λ made. let q : true ≡ false = sym made.0 ∙ sym (told_among earlier results t rule_looks) ∙ ap (list_all (look_told results)) (sym e) ∙ sym k ∙ f in absurd (cc),
     )
 
-    pub made : (looks : List Look) (b same : Bool) (slot : Slot) → looks ≡ rule_looks → b ≡ list_all (look_told names) looks → b ≡ true → slot ≡ seen → Decides same (step.slot ≡ slot)
+    pub made : (looks : List Look) (b same : Bool) (slot : Slot) → looks ≡ rule_looks → b ≡ list_all (look_told results) looks → b ≡ true → slot ≡ seen → Decides same (step.slot ≡ slot)
         → Decides same (IsMade model shape earlier step rule)
     made looks b same slot e k f s d = (
       λ h. (all, d.0 h ∙ s ∙ is_told_slot),
@@ -85,7 +81,7 @@ module _ (earlier : List DerivationStep) (names : Nodes) (input : CellInput) (re
     )
       where
         all : list_all (is_among_steps earlier) (filter_map measure_of rule_looks) ≡ true
-        all = sym (told_among earlier names results t rule_looks) ∙ ap (list_all (look_told names)) (sym e) ∙ sym k ∙ f
+        all = sym (told_among earlier results t rule_looks) ∙ ap (list_all (look_told results)) (sym e) ∙ sym k ∙ f
 
         is_told_slot : seen ≡ cell_slot model shape 0 rule step.name.key (λ c. slot_among earlier (Measure c))
         is_told_slot = law model shape 0 rule step.name.key (slot_at input results) (λ c. slot_among earlier (Measure c)) (agree rule_looks all)

@@ -1,5 +1,5 @@
 -- What is known of the steps so far, and what is asked of the next one.
-use Rattle.std.specs.Prelude.{◌≡◌, Bool, true, ◌||◌, List, Some, if◌then◌else◌}
+use Rattle.std.specs.Prelude.{◌≡◌, Bool, true, List, Some, is_some, if◌then◌else◌}
 use Rattle.std.specs.List.{filter_map, find, list_all}
 use Rattle.std.specs.Option.{option_map}
 use Rattle.mq_ir.specs.declared.query.CellName.{CellName}
@@ -13,17 +13,15 @@ use Rattle.mq_ir.specs.Looks.{looks_of}
 use Rattle.mq_ir.specs.Slots.{cell_slot, site_in}
 use Rattle.mq_ir.specs.Unfolding.{Model}
 use Rattle.mq_cells.specs.Stores.{Results}
-use Rattle.mq_lineage.specs.Nodes.{Nodes, is_in}
 
--- these are the measures of the earlier steps, and at each stands the slot of the last step that is of it
-pub record AreTold (earlier : List DerivationStep) (names : Nodes) (results : Results) : Type 0 where
-  pub named : (c : CellName) → is_in names c ≡ is_among_steps earlier c
+-- at the measure of each earlier step stands the slot of the last step that is of it, and nothing at other measures
+pub record AreTold (earlier : List DerivationStep) (results : Results) : Type 0 where
   pub stand : (c : CellName) → results c ≡ option_map (λ s. s.slot) (find (λ s. is_same_measure c s.name) earlier)
 
 -- a look is of a measure that is told, or of a presence
-abbrev pub look_told : Nodes → Look → Bool
-look_told names (Measure c) = is_in names c
-look_told names (Presence key) = true
+abbrev pub look_told : Results → Look → Bool
+look_told results (Measure c) = is_some (results c)
+look_told results (Presence key) = true
 
 -- a step is what a rule makes of the slots of earlier steps, among which is all that the rule looks at
 abbrev pub IsMade : Model → PartShape → List DerivationStep → DerivationStep → Rule → Type 0
@@ -32,7 +30,5 @@ IsMade model shape earlier step rule =
     × (step.slot ≡ cell_slot model shape 0 rule step.name.key (λ c. slot_among earlier (Measure c)))
 
 -- a step more is told
-abbrev pub Tells : DerivationStep → Nodes → Nodes → Results → Results → Type 0
-Tells step names told before after =
-    ((c : CellName) → is_in told c ≡ (is_same_measure c step.name || is_in names c))
-    × ((c : CellName) → after c ≡ (if is_same_measure c step.name then Some step.slot else before c))
+abbrev pub Tells : DerivationStep → Results → Results → Type 0
+Tells step before after = (c : CellName) → after c ≡ (if is_same_measure c step.name then Some step.slot else before c)

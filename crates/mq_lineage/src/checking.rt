@@ -6,6 +6,7 @@ ghost use Rattle.mq_ir.specs.Derivations.{AreAccepted, IsAccepted};
 ghost use Rattle.mq_ir.specs.Unfolding.{model_of};
 ghost use Rattle.mq_cells.specs.Ascents.{CellsAscend};
 ghost use Rattle.mq_cells.specs.Columns.{no_results};
+ghost use Rattle.mq_cells.specs.IndexedStores.{results_of};
 ghost use Rattle.mq_lineage.specs.Nodes.{HasRulesOf};
 ghost use Rattle.mq_lineage.specs.Telling.{AreTold, Tells};
 
@@ -13,7 +14,7 @@ use crate::given::is_given;
 use crate::node_map::NodeMap;
 use crate::rules::rules_of;
 use crate::telling::is_derived;
-use mq_cells::{Cells, PlainCells, cells_ascend, copy_slot};
+use mq_cells::{Cells, IndexedCells, cells_ascend, copy_slot};
 use mq_ir::{Derivation, DerivationStep, Model, PartInput, PartShape};
 use mq_values::{Key, Memory};
 use std::alloc::Global;
@@ -33,7 +34,7 @@ pub fn check(
 {
     let rules = rules_of(alloc, s)?;
     let input = p.cells.as_slice();
-    let mut cells = PlainCells::new(alloc, p)?;
+    let mut cells = IndexedCells::new(alloc, p)?;
     are_accepted(
         alloc,
         m,
@@ -47,7 +48,7 @@ pub fn check(
 }
 
 // Whether these steps are accepted. No result stands in `cells` yet.
-fn are_accepted<C: Cells>(
+fn are_accepted(
     alloc: Global,
     m: &Model<'_>,
     s: &PartShape,
@@ -55,53 +56,49 @@ fn are_accepted<C: Cells>(
     input: &[(Key, Key)],
     ascend: bool,
     steps: &[DerivationStep],
-    cells: &mut C,
+    cells: &mut IndexedCells,
 ) -> Result<bool, Memory>
     requires rules { HasRulesOf s.now rules.now }
     requires ascend { ascend ≡ true → CellsAscend input.now }
-    requires empty { C.results cells.old ≡ no_results }
+    requires empty { results_of cells.old ≡ no_results }
     ensures { IfOk result (λ told. Decides told (AreAccepted (model_of m.now) s.now input.now [] steps.now)) }
 {
-    let mut names = NodeMap::new(alloc);
     'steps: for step in steps {
-        if !is_accepted(alloc, m, s, rules, input, ascend, &names, cells, step)? {
+        if !is_accepted(alloc, m, s, rules, input, ascend, cells, step)? {
             return Ok(false);
         }
-        tell(step, &mut names, cells)?;
+        tell(step, cells)?;
     }
     Ok(true)
 }
 
 // Whether a step is accepted behind those that are told.
-fn is_accepted<C: Cells>(
+fn is_accepted(
     alloc: Global,
     m: &Model<'_>,
     s: &PartShape,
     rules: &NodeMap,
     input: &[(Key, Key)],
     ascend: bool,
-    names: &NodeMap,
-    cells: &mut C,
+    cells: &mut IndexedCells,
     step: &DerivationStep,
 ) -> Result<bool, Memory>
     requires rules { HasRulesOf s.now rules.now }
     requires ascend { ascend ≡ true → CellsAscend input.now }
-    ensures exact { IfOk result (λ told. (earlier : List Seen) → AreTold earlier names.now (C.results cells.old)
+    ensures exact { IfOk result (λ told. (earlier : List Seen) → AreTold earlier (results_of cells.old)
         → Decides told (IsAccepted (model_of m.now) s.now input.now earlier step.now)) }
-    ensures same_results { C.results cells.new ≡ C.results cells.old }
+    ensures same_results { results_of cells.new ≡ results_of cells.old }
 {
     match step.rule {
-        Some(number) => is_derived(alloc, m, s, rules, names, cells, step, number),
+        Some(number) => is_derived(alloc, m, s, rules, cells, step, number),
         None => is_given(s, rules, input, ascend, step),
     }
 }
 
 // A step more is told.
-fn tell<C: Cells>(step: &DerivationStep, names: &mut NodeMap, cells: &mut C) -> Result<(), Memory>
-    ensures { OnOk result (Tells step.now names.old names.new (C.results cells.old) (C.results cells.new)) }
+fn tell(step: &DerivationStep, cells: &mut IndexedCells) -> Result<(), Memory>
+    ensures { OnOk result (Tells step.now (results_of cells.old) (results_of cells.new)) }
 {
-    let number = step.rule.unwrap_or(0);
-    names.put(step.name.key.copy()?, step.name.measure, number)?;
     cells.put(&step.name.key, step.name.measure, copy_slot(&step.slot)?)?;
     Ok(())
 }
