@@ -7,7 +7,7 @@ use Rattle.mq_ir.specs.declared.query.CellName.{CellName}
 use Rattle.mq_ir.specs.declared.query.Look.{Look}
 use Rattle.mq_ir.specs.Derivations.{is_same_measure, measure_of}
 use Rattle.mq_lineage.specs.Closing.{HasMore, HasOneMore}
-use Rattle.mq_lineage.specs.Nodes.{Nodes, is_in}
+use Rattle.mq_lineage.specs.Held.{HeldMeasures, is_held}
 
 moved_one : (s b h : Bool) → (b || ((s || false) || h)) ≡ ((s || b) || h)
 moved_one true true h = refl
@@ -16,8 +16,8 @@ moved_one false true h = refl
 moved_one false false h = refl
 
 -- one measure is a list of one
-pub one_of : (name : CellName) (before after : Nodes) → HasOneMore name before after → HasMore (name ∷ []) before after
-one_of name before after h c = h c ∙ by (is_same_measure c name) (is_in before c)
+pub one_of : (name : CellName) (before after : CellName → Bool) → HasOneMore name before after → HasMore (name ∷ []) before after
+one_of name before after h c = h c ∙ by (is_same_measure c name) (before c)
   where
     by : (s b : Bool) → (s || b) ≡ ((s || false) || b)
     by true b = refl
@@ -26,23 +26,31 @@ one_of name before after h c = h c ∙ by (is_same_measure c name) (is_in before
 abbrev named : List Look → CellName → Bool
 named looks c = list_any (is_same_measure c) (filter_map measure_of looks)
 
--- what is left and what is there are together what is wanted
-abbrev pub AreAdded : List Look → ℕ → Nodes → Nodes → Type 0
-AreAdded looks i before now = (c : CellName) → (named (drop i looks) c || is_in now c) ≡ (named looks c || is_in before c)
+-- what is left and what is there are together what is wanted, and the places stay
+pub record AreAdded (looks : List Look) (i : ℕ) (before now : HeldMeasures) : Type 0 where
+  pub more : (c : CellName) → (named (drop i looks) c || is_held now c) ≡ (named looks c || is_held before c)
+  pub places : now.places ≡ before.places
 
-module _ (looks : List Look) (i : ℕ) (x : Look) (before now after : Nodes) (lt : i < length looks) (is : x ≡ get_or looks i x)
-    (w : AreAdded looks i before now) where
-  pub added_next : HasMore (filter_map measure_of (x ∷ [])) now after → AreAdded looks (i + 1) before after
-  added_next h c =
-      ap (λ b. named (drop (i + 1) looks) c || b) (h c) ∙ by (measure_of x)
-      ∙ ap (λ l. named l c || is_in now c) (sym (next_item looks i x lt is)) ∙ w c
+module _ (looks : List Look) (before : HeldMeasures) where
+  pub added_start : AreAdded looks 0 before before
+  added_start = record { more = λ c. refl; places = refl }
+
+  pub added_next : (i : ℕ) (x : Look) (now after : HeldMeasures) → i < length looks → x ≡ get_or looks i x
+      → HasMore (filter_map measure_of (x ∷ [])) (is_held now) (is_held after) → after.places ≡ now.places
+      → AreAdded looks i before now → AreAdded looks (i + 1) before after
+  added_next i x now after lt is h places w = record {
+    more = λ c.
+        ap (λ b. named (drop (i + 1) looks) c || b) (h c) ∙ by c (measure_of x)
+        ∙ ap (λ l. named l c || is_held now c) (sym (next_item looks i x lt is)) ∙ w.more c;
+    places = places ∙ w.places;
+  }
     where
-      by : (o : Option CellName)
-          → (named (drop (i + 1) looks) c || (list_any (is_same_measure c) (cons_option o []) || is_in now c))
-          ≡ (list_any (is_same_measure c) (cons_option o (filter_map measure_of (drop (i + 1) looks))) || is_in now c)
-      by None = refl
-      by (Some d) = moved_one (is_same_measure c d) (named (drop (i + 1) looks) c) (is_in now c)
+      by : (c : CellName) (o : Option CellName)
+          → (named (drop (i + 1) looks) c || (list_any (is_same_measure c) (cons_option o []) || is_held now c))
+          ≡ (list_any (is_same_measure c) (cons_option o (filter_map measure_of (drop (i + 1) looks))) || is_held now c)
+      by c None = refl
+      by c (Some d) = moved_one (is_same_measure c d) (named (drop (i + 1) looks) c) (is_held now c)
 
-pub added_all : (looks : List Look) (i : ℕ) (before now : Nodes) → length looks ≤ i → AreAdded looks i before now
-    → HasMore (filter_map measure_of looks) before now
-added_all looks i before now h w c = ap (λ l. named l c || is_in now c) (sym (drop_all i looks h)) ∙ w c
+  pub added_all : (i : ℕ) (now : HeldMeasures) → length looks ≤ i → AreAdded looks i before now
+      → HasMore (filter_map measure_of looks) (is_held before) (is_held now)
+  added_all i now h w c = ap (λ l. named l c || is_held now c) (sym (drop_all i looks h)) ∙ w.more c

@@ -1,13 +1,15 @@
 -- What follows for the shape that is found of keys, and of a partition.
 use Rattle.std.proofs.Common.{◌≡◌, List, [], Option, Some, None, Result, Ok, Err, length, refl, sym, ap, subst, ◌∙◌}
 use Rattle.std.specs.Cmp.{IsTotalOrder, nat_cmp_total, on_total, then_total}
-use Rattle.std.specs.List.{All, enumerate_from}
+use Rattle.std.specs.List.{enumerate_from}
+use Rattle.std.specs.List.Sorted.{IsStrictlySortedBy}
 use Rattle.std.specs.Map.{keys_of}
 use Rattle.std.specs.Option.{option_map, option_map_or, option_or}
 use Rattle.std.specs.Prelude.{nat_lt, if◌then◌else◌}
 use Rattle.mq_values.specs.declared.faults.FaultKind.TheVariants as kind
 use Rattle.mq_values.specs.declared.faults.QueryFault.{QueryFault}
 use Rattle.mq_values.specs.declared.limits.TheConstants.{MAX_CELLS_OF_PARTITION}
+use Rattle.mq_values.specs.Order.{cmp_key}
 use Rattle.mq_values.specs.OrderLaws.{key_total}
 use Rattle.mq_ir.specs.declared.query.PartInput.{PartInput}
 use Rattle.mq_ir.specs.declared.query.PartShape.{PartShape}
@@ -22,12 +24,11 @@ use Rattle.mq_ir.specs.Shape.{Assignment, Growing, cmp_assignment, shape_over, s
 use Rattle.mq_ir.specs.SortLaws.{rising_ascending}
 use Rattle.mq_ir.specs.Partitions.{ascending}
 use Rattle.mq_ir.specs.Unfolding.{Model}
+use Rattle.mq_change_laws.specs.ShapeLaws.{ShapeIsSound}
 use Rattle.mq_auto.specs.declared.verdict.Verdict.TheVariants.{Done}
-use Rattle.mq_auto.specs.Findings.{IsLevelled}
 use Rattle.mq_auto.specs.Meaning.{judged, verdict_on}
-use Rattle.mq_auto_shape.specs.declared.indexed.IndexedShape.{IndexedShape}
 use Rattle.mq_auto_shape.specs.Conditions.{AreReady}
-use Rattle.mq_auto_shape.specs.Found.{IsRuled, IsShapeOf, shape_meant}
+use Rattle.mq_auto_shape.specs.Found.{shape_meant}
 use Rattle.mq_lineage.specs.Found.{IsFound, MayBeDerived}
 
 assignment_total : IsTotalOrder cmp_assignment
@@ -87,21 +88,19 @@ module _ (model : Model) where
   never_fault keys shape fault h e =
       let same : Err fault ≡ Ok shape = e ∙ ap (marked (at_partition [])) (sym h) in cc
 
-  pub is_found : (keys : List Tuple) (shape again : PartShape) → Ok shape ≡ levelled_shape model keys → again ≡ shape → IsShapeOf model keys again
-      → IsFound model shape
-  is_found keys shape again h same of =
+  -- a shape of keys that ascend, without a fault and without a cycle
+  pub is_found : (keys : List Tuple) (shape : PartShape) → ShapeIsSound model keys shape → IsStrictlySortedBy cmp_key keys
+      → Ok shape ≡ levelled_shape model keys → IsFound model shape
+  is_found keys shape law sorted h =
       let parts = levelled_parts keys shape (sym h) in
+      let sound = law sorted parts.0 in
       record {
         levelled = parts.1;
         ascend = (over_parts keys shape parts.0).0;
-        ruled = subst (λ (s : PartShape). All (IsRuled model) s.assigned) same of.ruled;
+        ruled = sound.ruled;
+        own = sound.own;
+        there = sound.placed;
       }
-
-  -- .. as is one that is kept with its rounds
-  pub levelled_is_found : (found : IndexedShape) → IsLevelled model found → IsFound model found.shape
-  levelled_is_found found is =
-      let parts = levelled_parts found.shape.base found.shape (sym is.exact) in
-      record { levelled = parts.1; ascend = (over_parts found.shape.base found.shape parts.0).0; ruled = is.ruled }
 
   -- the shape of a partition on which the rules may run
   module _ (p : PartInput) (shape : PartShape) (ready : IsReady model.part p) where

@@ -1,28 +1,31 @@
 -- What a map of the sources tells of those that no rule assigns.
-use Rattle.std.proofs.Common.{◌≡◌, Bool, true, false, not, ◌&&◌, ◌||◌, List, [], ◌∷◌, ◌++◌, cond, map, Some, refl, sym, ap, ◌∙◌}
-use Rattle.std.specs.Prelude.{is_none, is_some}
+use Rattle.std.proofs.Common.{◌≡◌, ℕ, Bool, true, false, not, ◌&&◌, ◌||◌, List, [], ◌∷◌, ◌++◌, cond, map, Option, Some, None, refl, sym, ap, ◌∙◌}
+use Rattle.std.specs.Prelude.{is_none, is_some, slice_index_or}
 use Rattle.std.specs.BTreeMap.{is_at}
-use Rattle.std.specs.List.{filter, flat_map, list_any}
+use Rattle.std.specs.List.{All, filter, flat_map, list_any}
 use Rattle.std.specs.List.Sorted.{IsStrictlySortedBy}
 use Rattle.std.specs.Map.{keys_of, lookup}
+use Rattle.std.specs.Option.{option_map_or}
 use Rattle.std.specs.Ordering.{is_eq}
 use Rattle.std.proofs.lemmas.List.Folds.{list_any-append}
-use Rattle.std.proofs.lemmas.List.Kept.{IsStrictlySortedBy-filter}
 use Rattle.mq_ir.specs.declared.query.CellName.{CellName}
 use Rattle.mq_ir.specs.declared.query.Look.TheVariants.{Measure}
 use Rattle.mq_ir.specs.declared.query.PartShape.{PartShape}
 use Rattle.mq_ir.specs.Automatic.{rule_at}
 use Rattle.mq_ir.specs.Derivations.{assigned_names, cmp_name, derived_sources, given_sources, is_among_steps, is_given, is_same_measure, is_source, measures_looked_at, step_of}
-use Rattle.mq_ir.specs.EachLaws.{each_mapped}
+use Rattle.mq_ir.specs.EachLaws.{Each, all_of, each_mapped}
 use Rattle.mq_ir.specs.Partitions.{Cells}
 use Rattle.mq_ir.specs.Unfolding.{Model}
 use Rattle.mq_change_laws.specs.KeyLaws.{any_ascending}
 use Rattle.mq_derivation_laws.specs.DerivationLaws.{DerivationHasSources}
+use Rattle.mq_auto_shape.specs.Edges.{PlacesAre}
 use Rattle.mq_lineage.specs.Closing.{HasSourcesOf, name_of}
+use Rattle.mq_lineage.specs.Held.{HeldMeasures, is_held, place_in}
 use Rattle.mq_lineage.specs.Nodes.{Node, Nodes, cmp_node, is_in}
 use Rattle.mq_lineage.specs.Ordered.{cmp_by_round}
 use Rattle.mq_lineage.proofs.ClosingLemmas.{unruled_alike}
-use Rattle.mq_lineage.proofs.NodeLemmas.{at_node}
+use Rattle.mq_lineage.proofs.HeldLemmas.{has_place, no_place}
+use Rattle.mq_lineage.proofs.NodeLemmas.{at_node, named_itself}
 use Rattle.mq_lineage.proofs.OrderLemmas.{name_total}
 use Rattle.mq_lineage.proofs.SetLemmas.{among, among_folded, among_kept, one_name, one_set, strict_folded}
 
@@ -112,12 +115,50 @@ module _ (model : Model) (shape : PartShape) (target : CellName) (input : Cells)
           ∙ and_none (is_given model shape target q) (has looked_at q) (and_none (no_rule q) (is_source model shape target q) e)
           ∙ sym (and_none (no_rule q) (is_source model shape target q) e)
 
-  pub given_is : (nodes : Nodes) → HasSourcesOf model shape target nodes → IsStrictlySortedBy cmp_node (keys_of nodes)
-      → filter no_rule (map name_of (keys_of nodes)) ≡ given
-  given_is nodes sources ascend =
-      one_set name_total one_name (filter no_rule (map name_of (keys_of nodes))) given
-      (IsStrictlySortedBy-filter cmp_name no_rule (map name_of (keys_of nodes)) (strict_names (keys_of nodes) ascend))
-      (strict_folded name_total one_name (filter (is_given model shape target) looked_at) [] nothing)
-      (λ q. among_kept name_total one_name no_rule q (map name_of (keys_of nodes))
-      ∙ ap (λ b. no_rule q && b) (has_names nodes q ∙ sources q)
-      ∙ sym (given_has q))
+  module _ (set : HeldMeasures) (are : PlacesAre set.places shape.assigned) (sources : HasSourcesOf model shape target (is_held set))
+      (apart : (c : CellName) (place : ℕ) → place_in set.places c ≡ Some place → is_in set.given c ≡ false) where
+    in_given : (q : CellName) → is_in set.given q ≡ is_given model shape target q
+    in_given q = by (place_in set.places q) refl
+      where
+        by : (o : Option ℕ) → place_in set.places q ≡ o → is_in set.given q ≡ (no_rule q && is_source model shape target q)
+        by None e =
+            sym (ap (λ o. option_map_or (λ place. slice_index_or set.derived place false) o (is_in set.given q)) e)
+            ∙ sources q
+            ∙ sym (ap (λ b. b && is_source model shape target q) (ap is_none (no_place shape set.places are q e)))
+        by (Some place) e =
+            apart q place e ∙ sym (ap (λ b. b && is_source model shape target q) (has_place shape set.places are q place e))
+
+    -- the map has the sources that no rule assigns
+    pub given_is : IsStrictlySortedBy cmp_node (keys_of set.given) → map name_of (keys_of set.given) ≡ given
+    given_is ascend =
+        one_set name_total one_name (map name_of (keys_of set.given)) given
+        (strict_names (keys_of set.given) ascend)
+        (strict_folded name_total one_name (filter (is_given model shape target) looked_at) [] nothing)
+        (λ q. has_names set.given q ∙ in_given q ∙ sym (given_has q))
+
+-- ---- what the map has is assigned by no rule
+each_named : (P : CellName → Type 0) (nodes : Nodes) → ((c : CellName) → is_in nodes c ≡ true → P c) → Each P (map name_of (keys_of nodes))
+each_named P [] h = tt
+each_named P (x ∷ xs) h = (h (name_of x.0) (here (is_eq (cmp_node x.0 x.0)) itself), each_named P xs (λ c e. h c (there c (is_eq (cmp_node (c.key, c.measure) x.0)) e)))
+  where
+    itself : is_eq (cmp_node x.0 x.0) ≡ true
+    itself = at_node x.0 x.0 ∙ named_itself (name_of x.0)
+
+    here : (b : Bool) → b ≡ true → is_some (cond b (Some x.1) (lookup (is_at (cmp_node x.0)) xs)) ≡ true
+    here true e = refl
+    here false e = cc
+
+    there : (c : CellName) (b : Bool) → is_in xs c ≡ true → is_some (cond b (Some x.1) (lookup (is_at (cmp_node (c.key, c.measure))) xs)) ≡ true
+    there c true e = refl
+    there c false e = e
+
+pub given_bare : (shape : PartShape) (set : HeldMeasures) → PlacesAre set.places shape.assigned
+    → ((c : CellName) (place : ℕ) → place_in set.places c ≡ Some place → is_in set.given c ≡ false)
+    → All (λ c. rule_at shape (Measure c) ≡ None) (map name_of (keys_of set.given))
+given_bare shape set are apart =
+    all_of (λ c. rule_at shape (Measure c) ≡ None) (map name_of (keys_of set.given))
+    (each_named (λ c. rule_at shape (Measure c) ≡ None) set.given (λ c e. by c e (place_in set.places c) refl))
+  where
+    by : (c : CellName) → is_in set.given c ≡ true → (o : Option ℕ) → place_in set.places c ≡ o → rule_at shape (Measure c) ≡ None
+    by c e None f = no_place shape set.places are c f
+    by c e (Some place) f = let no : true ≡ false = sym e ∙ apart c place f in absurd (cc)

@@ -4,6 +4,7 @@ mod ClosingLemmas
 mod DeriveLemmas
 mod FoundLemmas
 mod GivenLemmas
+mod HeldLemmas
 mod LevelLemmas
 mod LookLemmas
 mod NodeLemmas
@@ -12,4 +13,5 @@ mod RoundLemmas
 mod RuleLemmas
 mod SetLemmas
 mod SlotLemmas
+mod TellLemmas
 mod ToldLemmas

@@ -93,20 +93,16 @@ places_below : (n a b : ℕ) → a + n ≤ b → Each (λ place. place < b) (ran
 places_below zero a b h = tt
 places_below (suc n) a b h = (omega (arith, h), places_below n (a + 1) b (omega (arith, h)))
 
--- ---- one name more
-joined : {X : Type 0} (xs : List X) (x : X) (rest : List X) → (xs ++ x ∷ []) ++ rest ≡ xs ++ x ∷ rest
-joined [] x rest = refl
-joined (y ∷ xs) x rest = ap (λ l. y ∷ l) (joined xs x rest)
+-- ---- one name more, and those of one round more
+pub names_next : (assigned : List Assignment) (round : List ℕ) (i place : ℕ) (a : Assignment) → i < length round → place ≡ get_or round i place
+    → slice_get assigned place ≡ Some a → names_at assigned (drop i round) ≡ (name_assigned a ∷ []) ++ names_at assigned (drop (i + 1) round)
+names_next assigned round i place a lt is at =
+    ap (names_at assigned) (next_item round i place lt is)
+    ∙ ap (λ (o : Option Assignment). cons_option (option_map name_assigned o) (names_at assigned (drop (i + 1) round))) at
 
-pub names_more : (assigned : List Assignment) (places : List ℕ) (names after all : List CellName) (i place : ℕ) (a : Assignment) (name : CellName)
-    → i < length places → place ≡ get_or places i place → slice_get assigned place ≡ Some a → name ≡ name_assigned a
-    → after ≡ names ++ name ∷ [] → names ++ names_at assigned (drop i places) ≡ all → after ++ names_at assigned (drop (i + 1) places) ≡ all
-names_more assigned places names after all i place a name lt is at same e w =
-    let rest : List CellName = names_at assigned (drop (i + 1) places) in
-    ap (λ l. l ++ rest) e ∙ joined names name rest ∙ ap (λ c. names ++ c ∷ rest) same
-    ∙ sym (ap (λ l. names ++ names_at assigned l) (next_item places i place lt is)
-    ∙ ap (λ (o : Option Assignment). names ++ cons_option (option_map name_assigned o) rest) at)
-    ∙ w
+pub round_next : (assigned : List Assignment) (list : List (List ℕ)) (i : ℕ) (round : List ℕ) → i < length list → round ≡ get_or list i round
+    → names_in assigned (drop i list) ≡ names_at assigned round ++ names_in assigned (drop (i + 1) list)
+round_next assigned list i round lt is = ap (names_in assigned) (next_item list i round lt is)
 
 -- ---- orders
 pub name_total : IsTotalOrder cmp_name

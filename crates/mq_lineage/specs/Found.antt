@@ -10,14 +10,17 @@ use Rattle.mq_ir.specs.Shape.{cmp_assignment}
 use Rattle.mq_ir.specs.Unfolding.{Model}
 use Rattle.mq_auto.specs.declared.verdict.Verdict.TheVariants.{Done}
 use Rattle.mq_auto.specs.Meaning.{verdict_on}
+use Rattle.mq_auto.specs.Walks.{AreOwn}
 use Rattle.mq_auto_shape.specs.Conditions.{AreReady}
-use Rattle.mq_auto_shape.specs.Found.{IsRuled}
+use Rattle.mq_auto_shape.specs.Found.{AreThere, IsRuled}
 
--- its assignments ascend, each by a rule of the model, and none is on a cycle
+-- its assignments ascend, each of a cell that is there, by a rule of the model, no measure twice, and none is on a cycle
 pub record IsFound (model : Model) (shape : PartShape) : Type 0 where
   pub levelled : cycle_in model shape ≡ None
   pub ascend : Rising cmp_assignment shape.assigned
   pub ruled : All (IsRuled model) shape.assigned
+  pub own : AreOwn shape
+  pub there : AreThere shape.cells shape.assigned
 
 -- what a derivation asks of a shape
 pub record MayBeDerived (model : Model) (p : PartInput) (shape : PartShape) : Type 0 where

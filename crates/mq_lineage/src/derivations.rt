@@ -1,5 +1,5 @@
 //! The derivation of a measure of a cell.
-ghost use Rattle.std.specs.Prelude.{◌≡◌, [], Ok, IfOk, OnOk};
+ghost use Rattle.std.specs.Prelude.{◌≡◌, [], Ok, map, IfOk, OnOk};
 ghost use Rattle.mq_ir.specs.declared.query.PartInput.{PartInput};
 ghost use Rattle.mq_ir.specs.Automatic.{levelled_shape, shape_found};
 ghost use Rattle.mq_ir.specs.Derivations.{AreAccepted, derivation};
@@ -11,20 +11,18 @@ ghost use Rattle.mq_auto.specs.Meaning.{HoldsValues};
 ghost use Rattle.mq_auto_shape.specs.Conditions.{AreReady};
 ghost use Rattle.mq_auto_shape.specs.Found.{AreRoundsOf};
 ghost use Rattle.mq_lineage.specs.Found.{IsFound};
-ghost use Rattle.mq_lineage.specs.Nodes.{HasRulesOf};
 ghost use Rattle.mq_lineage.specs.Ordered.{step_names};
+ghost use Rattle.mq_lineage.specs.Told.{told_with};
 
-use crate::naming::names_told;
-use crate::node_map::NodeMap;
-use crate::ordering::names_by_rounds;
-use crate::rules::rules_of;
+use crate::naming::{Told, told_in};
 use crate::sources::sources_of;
 use crate::steps::{lent_steps_of, steps_of};
-use mq_auto_shape::{IndexedShape, indexed_shape_of};
+use mq_auto_shape::{IndexedShape, indexed_shape_of, places_of};
 use mq_cells::{Cells, IndexedCells};
+use mq_change_laws::shapes_are_sound;
 use mq_derivation_laws::{derivations_are_accepted, derivations_have_the_sources};
 use mq_ir::{CellName, Derivation, Model, PartShape};
-use mq_refs::{CellKeys, ShapeKeys};
+use mq_refs::ShapeKeys;
 use mq_values::{Items, Memory};
 use std::alloc::Global;
 
@@ -52,12 +50,9 @@ pub fn derive<C: Cells>(
 {
     derivations_are_accepted();
     let found = found_again(alloc, m, s)?;
-    let keys = ShapeKeys {
-        base: &found.base,
-        cells: &found.cells,
-    };
-    let rounds = found.leveled.rounds.as_slice();
-    derive_over(alloc, m, s, &keys, rounds, cells, target)
+    let told = told_of(alloc, m, s, &found, target)?;
+    let steps = steps_of(alloc, told.as_slice(), cells)?;
+    Ok(Derivation { steps })
 }
 
 // The shape once more, with its rounds and its cells as an index.
@@ -68,35 +63,12 @@ fn found_again(alloc: Global, m: &Model<'_>, s: &PartShape) -> Result<IndexedSha
     ensures cells { IfOk result (λ it. it.cells ≡ s.now.cells) }
     ensures found { OnOk result (IsFound (model_of m.now) s.now) }
 {
+    shapes_are_sound();
     let found = indexed_shape_of(alloc, m, s.base.as_slice())?;
     match found {
         Ok(it) => Ok(it),
         Err(_) => unreachable!(),
     }
-}
-
-// The derivation, over the cells of the shape as `keys` has them, where its rounds are these.
-fn derive_over<K: CellKeys, C: Cells>(
-    alloc: Global,
-    m: &Model<'_>,
-    s: &PartShape,
-    keys: &K,
-    rounds: &[Items<u32>],
-    cells: &mut C,
-    target: &CellName,
-) -> Result<Derivation, Memory>
-    requires keys { K.set keys.now ≡ s.now.cells }
-    requires found { IsFound (model_of m.now) s.now }
-    requires rounds { AreRoundsOf (model_of m.now) s.now rounds.now }
-    ensures exact { (input : Input) → HoldsValues (model_of m.now) s.now input (C.input cells.old) (C.results cells.old)
-        → IfOk result (λ d. d.steps ≡ derivation (model_of m.now) s.now input target.now) }
-    ensures same_input { C.input cells.new ≡ C.input cells.old }
-    ensures same_results { C.results cells.new ≡ C.results cells.old }
-{
-    let rules = rules_of(alloc, s)?;
-    let names = names_over(alloc, m, s, keys, rounds, &rules, target)?;
-    let steps = steps_of(alloc, s, &rules, names.as_slice(), cells)?;
-    Ok(Derivation { steps })
 }
 
 /// The same as `derive`, over a store that is lent, by a shape with its rounds and its indexes, as `judge` of mq_auto finds it: no
@@ -117,36 +89,36 @@ pub fn derive_lent(
         → IfOk result (λ d. AreAccepted (model_of m.now) found.now.shape p.cells [] d.steps) }
 {
     derivations_are_accepted();
-    let s = &found.shape;
+    shapes_are_sound();
+    // Every index says of its keys that they ascend.
+    found.base.keys();
+    let told = told_of(alloc, m, &found.shape, found, target)?;
+    let steps = lent_steps_of(alloc, told.as_slice(), cells)?;
+    Ok(Derivation { steps })
+}
+
+// The measures that a derivation tells, in order, each with its rule. `found` has the rounds of the shape and its cells as an
+// index.
+fn told_of(
+    alloc: Global,
+    m: &Model<'_>,
+    s: &PartShape,
+    found: &IndexedShape,
+    target: &CellName,
+) -> Result<Items<Told>, Memory>
+    requires cells { found.now.cells ≡ s.now.cells }
+    requires found { IsFound (model_of m.now) s.now }
+    requires rounds { AreRoundsOf (model_of m.now) s.now found.now.leveled.rounds }
+    ensures { IfOk result (λ told. told ≡ map (told_with s.now) (step_names (model_of m.now) s.now target.now)) }
+{
+    derivations_have_the_sources();
     let keys = ShapeKeys {
         base: &found.base,
         cells: &found.cells,
     };
     let rounds = found.leveled.rounds.as_slice();
-    let rules = rules_of(alloc, s)?;
-    let names = names_over(alloc, m, s, &keys, rounds, &rules, target)?;
-    let steps = lent_steps_of(alloc, s, &rules, names.as_slice(), cells)?;
-    Ok(Derivation { steps })
-}
-
-// The measures that a derivation tells, in order. `rules` has the rules of the shape.
-fn names_over<K: CellKeys>(
-    alloc: Global,
-    m: &Model<'_>,
-    s: &PartShape,
-    keys: &K,
-    rounds: &[Items<u32>],
-    rules: &NodeMap,
-    target: &CellName,
-) -> Result<Items<CellName>, Memory>
-    requires keys { K.set keys.now ≡ s.now.cells }
-    requires found { IsFound (model_of m.now) s.now }
-    requires rounds { AreRoundsOf (model_of m.now) s.now rounds.now }
-    requires rules { HasRulesOf s.now rules.now }
-    ensures { IfOk result (λ names. names ≡ step_names (model_of m.now) s.now target.now) }
-{
-    derivations_have_the_sources();
-    let ordered = names_by_rounds(alloc, s.assigned.as_slice(), rounds)?;
-    let sources = sources_of(alloc, m, s, keys, rules, ordered.as_slice(), target)?;
-    names_told(alloc, s, rules, &sources, ordered.as_slice())
+    let places = places_of(alloc, s, &found.cells)?;
+    let sources = sources_of(alloc, m, s, &keys, rounds, places, target)?;
+    let given = sources.given(alloc)?;
+    told_in(alloc, s, rounds, &sources, given.as_slice())
 }

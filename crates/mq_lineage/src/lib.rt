@@ -4,6 +4,7 @@
 #![tactic(auto)]
 
 mod adding;
+mod assigned;
 mod checking;
 mod derivations;
 mod found;
@@ -11,9 +12,9 @@ mod given;
 mod looking;
 mod naming;
 mod node_map;
-mod ordering;
 mod rules;
 mod slots;
+mod source_set;
 mod sources;
 mod steps;
 mod telling;

@@ -1,5 +1,5 @@
 //! Measures of cells to be looked up.
-ghost use Rattle.std.specs.Prelude.{◌≡◌, [], map, IfOk, OnOk};
+ghost use Rattle.std.specs.Prelude.{◌≡◌, [], map, IfOk, OnErr, OnOk};
 ghost use Rattle.std.specs.List.Sorted.{IsStrictlySortedBy};
 ghost use Rattle.std.specs.Map.{keys_of};
 ghost use Rattle.mq_cells.specs.Stores.{cell_name};
@@ -44,9 +44,10 @@ impl NodeMap {
         Ok(self.numbers.get(&node).copied())
     }
 
-    /// Gives measure `m` of the cell at `key` this number, in place of the one that it has.
+    /// Gives measure `m` of the cell at `key` this number, in place of the one that it has. After `Memory` all is as before.
     pub fn put(&mut self, key: Key, m: u32, number: u32) -> Result<(), Memory>
-        ensures { OnOk result (Numbers self.old self.new (cell_name key m) number) }
+        ensures ok { OnOk result (Numbers self.old self.new (cell_name key m) number) }
+        ensures err { OnErr result (self.new ≡ self.old) }
     {
         self.numbers.insert((key, m), number)?;
         Ok(())

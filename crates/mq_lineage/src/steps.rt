@@ -2,91 +2,55 @@
 ghost use Rattle.std.specs.Prelude.{◌≡◌, map, IfOk};
 ghost use Rattle.mq_cells.specs.IndexedStores.{input_in, slots_in};
 ghost use Rattle.mq_cells.specs.Stores.{input_value, slot_at};
-ghost use Rattle.mq_lineage.specs.Closing.{step_with};
-ghost use Rattle.mq_lineage.specs.Nodes.{HasRulesOf};
+ghost use Rattle.mq_lineage.specs.Told.{step_told};
 
-use crate::naming::copy_name;
-use crate::node_map::NodeMap;
+use crate::naming::{Told, copy_name};
 use mq_cells::{Cells, Held, IndexedCells, copy_slot};
-use mq_ir::{CellName, DerivationStep, PartShape, Slot};
+use mq_ir::{CellName, DerivationStep, Slot};
 use mq_values::{Items, Memory, Value};
 use std::alloc::Global;
 
 /// A step for each of these measures, with its rule and what stands there.
 pub fn steps_of<C: Cells>(
     alloc: Global,
-    s: &PartShape,
-    rules: &NodeMap,
-    names: &[CellName],
+    told: &[Told],
     cells: &mut C,
 ) -> Result<Items<DerivationStep>, Memory>
-    requires { HasRulesOf s.now rules.now }
-    ensures steps { IfOk result (λ steps. steps ≡ map (step_with s.now (slot_at (C.input cells.old) (C.results cells.old))) names.now) }
+    ensures steps { IfOk result (λ steps. steps ≡ map (step_told (slot_at (C.input cells.old) (C.results cells.old))) told.now) }
     ensures same_input { C.input cells.new ≡ C.input cells.old }
     ensures same_results { C.results cells.new ≡ C.results cells.old }
 {
-    let mut steps = Items::with_room(alloc, names.len());
-    'steps: for name in names {
-        steps.push(step_of(alloc, s, rules, name, cells)?)?;
+    let mut steps = Items::with_room(alloc, told.len());
+    'steps: for each in told {
+        let slot = cells.get(alloc, &each.0.key, each.0.measure)?;
+        steps.push(step_of(each, slot)?)?;
     }
     Ok(steps)
-}
-
-// The step of a measure.
-fn step_of<C: Cells>(
-    alloc: Global,
-    s: &PartShape,
-    rules: &NodeMap,
-    name: &CellName,
-    cells: &mut C,
-) -> Result<DerivationStep, Memory>
-    requires { HasRulesOf s.now rules.now }
-    ensures step { IfOk result (λ step. step ≡ step_with s.now (slot_at (C.input cells.old) (C.results cells.old)) name.now) }
-    ensures same_input { C.input cells.new ≡ C.input cells.old }
-    ensures same_results { C.results cells.new ≡ C.results cells.old }
-{
-    let rule = rules.get(&name.key, name.measure)?;
-    let slot = cells.get(alloc, &name.key, name.measure)?;
-    Ok(DerivationStep {
-        name: copy_name(name)?,
-        rule,
-        slot,
-    })
 }
 
 /// The same over a store that is lent. What is read of it is not counted.
 pub fn lent_steps_of(
     alloc: Global,
-    s: &PartShape,
-    rules: &NodeMap,
-    names: &[CellName],
+    told: &[Told],
     cells: &IndexedCells,
 ) -> Result<Items<DerivationStep>, Memory>
-    requires { HasRulesOf s.now rules.now }
-    ensures { IfOk result (λ steps. steps ≡ map (step_with s.now (slots_in cells.now)) names.now) }
+    ensures { IfOk result (λ steps. steps ≡ map (step_told (slots_in cells.now)) told.now) }
 {
-    let mut steps = Items::with_room(alloc, names.len());
-    'steps: for name in names {
-        steps.push(lent_step_of(s, rules, name, cells)?)?;
+    let mut steps = Items::with_room(alloc, told.len());
+    'steps: for each in told {
+        let slot = slot_in(cells, &each.0)?;
+        steps.push(step_of(each, slot)?)?;
     }
     Ok(steps)
 }
 
-// The step of a measure.
-fn lent_step_of(
-    s: &PartShape,
-    rules: &NodeMap,
-    name: &CellName,
-    cells: &IndexedCells,
-) -> Result<DerivationStep, Memory>
-    requires { HasRulesOf s.now rules.now }
-    ensures { IfOk result (λ step. step ≡ step_with s.now (slots_in cells.now) name.now) }
+// The step of a measure at which this slot stands.
+fn step_of(told: &Told, slot: Slot) -> Result<DerivationStep, Memory>
+    ensures { IfOk result (λ step. step ≡ record { name = told.now.0; rule = told.now.1; slot = slot }) }
 {
-    let rule = rules.get(&name.key, name.measure)?;
-    let slot = slot_in(cells, name)?;
     Ok(DerivationStep {
-        name: copy_name(name)?,
-        rule,
+        name: copy_name(&told.0)?,
+        rule: told.1,
         slot,
     })
 }

@@ -3,7 +3,7 @@ use Rattle.mq_ir.specs.declared.query.PartShape.{PartShape}
 use Rattle.mq_ir.specs.Keys.{Tuple}
 use Rattle.mq_ir.specs.Unfolding.{model_of}
 use Rattle.mq_auto_shape.specs.Conditions.{AreReady}
-use Rattle.mq_auto_shape.specs.Found.{AreRoundsOf, IsShapeOf, shape_meant}
+use Rattle.mq_auto_shape.specs.Found.{AreRoundsOf, shape_meant}
 use Rattle.mq_lineage.proofs.FoundLemmas.{is_found, never_fault, same_found}
 use Rattle.mq_lineage.proofs.derivations.found_again.Goals as goal
 
@@ -36,9 +36,5 @@ returns-clause-cells c =
 
 pub returns-clause-found : goal.returns-clause-found
 returns-clause-found c =
-    let model = model_of c.args.m.now in
     let s = c.args.s.now in
-    let again = c.in-Ok.it.shape in
-    let found = subst (λ (keys : List Tuple). Ok again ≡ shape_meant model keys) c.as_slice.ensures (rw c.in-Ok.is at c.in_ok-found.ensures.exact) in
-    let of = subst (λ (keys : List Tuple). IsShapeOf model keys again) c.as_slice.ensures (rw c.in-Ok.is at c.in_ok-found.ensures.shape) in
-    is_found model s.base s again c.requires.found (same_found model s.base s again c.requires.found found) of
+    is_found (model_of c.args.m.now) s.base s (c.shapes_are_sound.ensures (model_of c.args.m.now) s.base s) c.requires.ready.ascend c.requires.found

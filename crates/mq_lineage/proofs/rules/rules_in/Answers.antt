@@ -16,5 +16,5 @@ assigned-preserved c =
       omega (arith, within),
       rules_more c.args.assigned.now (left - 1) a c.assigned.rules c.put.new.self (omega (arith, some, within)) c.index-assigned-left.is
           (subst (λ n. HasRulesIn (drop n c.args.assigned.now) c.assigned.rules) e c.assigned.invariant.1)
-          (subst (λ (key : List Value). Numbers c.assigned.rules c.put.new.self (cell_name key a.1) a.2) c.in_ok-copy.ensures c.in_ok-put.ensures),
+          (subst (λ (key : List Value). Numbers c.assigned.rules c.put.new.self (cell_name key a.1) a.2) c.in_ok-copy.ensures c.in_ok-put.ensures.ok),
     )
