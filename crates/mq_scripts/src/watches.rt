@@ -31,7 +31,15 @@ pub(crate) fn add_watched<R: Threads + Sync>(
     let tokens = tokens(alloc, text_of(&whole))?;
     for (number, statement) in statements(alloc, &tokens)?.iter().enumerate() {
         let mut lines = Vec::new(alloc);
-        let done = do_statement(rt, alloc, &mut engine, statement, &mut files, &mut lines, &OpenGate);
+        let done = do_statement(
+            rt,
+            alloc,
+            &mut engine,
+            statement,
+            &mut files,
+            &mut lines,
+            &OpenGate,
+        );
         if done.is_err() {
             return Err(Memory);
         }
