@@ -103,19 +103,25 @@ fn slots_by<F: Finder<IndexedCells>>(
 }
 
 fn add_told(told: &[Slot], again: &[Slot], reply: &mut Reply) {
-    reply.number(count_of(told, |slot| matches!(slot, Slot::Done(_))));
+    let mut done: u64 = 0;
+    let mut faulted: u64 = 0;
+    let mut poisoned: u64 = 0;
+    for slot in told {
+        match slot {
+            Slot::Done(_) => done = done.wrapping_add(1),
+            Slot::Faulted(_) => faulted = faulted.wrapping_add(1),
+            Slot::Poisoned => poisoned = poisoned.wrapping_add(1),
+        }
+    }
+    reply.number(done);
     reply.add(" done, ");
-    reply.number(count_of(told, |slot| matches!(slot, Slot::Faulted(_))));
+    reply.number(faulted);
     reply.add(" faulted, ");
-    reply.number(count_of(told, |slot| matches!(slot, Slot::Poisoned)));
+    reply.number(poisoned);
     reply.add(" poisoned, alike ");
     reply.number(alike(told, again));
     if let Some(slot) = told.last() {
         reply.add(", last ");
         reply.slot(slot);
     }
-}
-
-fn count_of<F: Fn(&Slot) -> bool>(slots: &[Slot], is_counted: F) -> u64 {
-    slots.iter().filter(|slot| is_counted(*slot)).count() as u64
 }
