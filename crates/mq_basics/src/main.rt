@@ -14,7 +14,6 @@ mod ranges;
 mod reads;
 mod ready;
 mod replays;
-mod rounds;
 mod rows;
 mod runs;
 mod scene;
@@ -27,7 +26,6 @@ use answers::Reply;
 use scene::Scene;
 use std::alloc::{AllocError, Global};
 use std::io::{self, Write};
-use std::thread::Threads;
 
 fn main(rt: HostRuntime) -> io::Result<()> {
     let mut out = io::writer(&rt);
@@ -35,14 +33,13 @@ fn main(rt: HostRuntime) -> io::Result<()> {
         return Err(AllocError.into());
     };
     for line in rt.lines(rt.alloc()) {
-        answer(&rt, rt.alloc(), &mut scene, line, &mut out)?;
+        answer(rt.alloc(), &mut scene, line, &mut out)?;
     }
     Ok(())
 }
 
 // Answers one line. It is lent what was set, so that a way out does not let go of it.
-fn answer<R: Threads + Sync, W: Write>(
-    rt: &R,
+fn answer<W: Write>(
     alloc: Global,
     scene: &mut Scene,
     line: io::Result<String>,
@@ -50,7 +47,7 @@ fn answer<R: Threads + Sync, W: Write>(
 ) -> io::Result<()> {
     let line = line?;
     let mut reply = Reply::new(alloc);
-    rows::answer(rt, scene, line.as_str(), &mut reply);
+    rows::answer(scene, line.as_str(), &mut reply);
     if reply.is_lacking {
         return Err(AllocError.into());
     }

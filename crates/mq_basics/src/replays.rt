@@ -86,8 +86,7 @@ fn add_alike(told: &[Slot], again: &[Slot], reply: &mut Reply) {
     reply.number(alike(told, again));
 }
 
-/// How many slots of two lists, place by place, are alike.
-pub(crate) fn alike(told: &[Slot], again: &[Slot]) -> u64 {
+fn alike(told: &[Slot], again: &[Slot]) -> u64 {
     let mut count = 0u64;
     for (one, other) in told.iter().zip(again) {
         count = count.saturating_add(u64::from(is_alike(one, other)));
