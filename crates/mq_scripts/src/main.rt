@@ -10,7 +10,6 @@ mod runs;
 mod shows;
 mod table;
 mod texts;
-mod watches;
 
 use std::alloc::AllocError;
 use std::io::{self, Write};
