@@ -10,6 +10,7 @@ mod runs;
 mod shows;
 mod table;
 mod texts;
+mod watches;
 
 use std::alloc::AllocError;
 use std::io::{self, Write};

@@ -51,6 +51,13 @@ pub(crate) fn add_met(met: u64, answer: &mut Vec<u8>) -> Result<(), Memory> {
     add_count(b"met ", met, answer)
 }
 
+/// The line of how many partitions of a view are kept, and how much was read of them so far.
+pub(crate) fn add_kept(kept: u32, reads: u64, answer: &mut Vec<u8>) -> Result<(), Memory> {
+    answer.extend_from_slice(b"kept ")?;
+    Num::new(kept as i128, 0).print(answer)?;
+    add_count(b", reads ", reads, answer)
+}
+
 fn add_count(name: &[u8], count: u64, answer: &mut Vec<u8>) -> Result<(), Memory> {
     answer.extend_from_slice(name)?;
     Num::new(count as i128, 0).print(answer)?;

@@ -6,6 +6,7 @@ use crate::rules::add_by_rule;
 use crate::runs::run_script;
 use crate::shows::{add_last, add_lines, add_met, add_status, lines};
 use crate::texts::{bytes_of, joined};
+use crate::watches::add_watched;
 use mq_values::Memory;
 use std::alloc::Global;
 use std::thread::Threads;
@@ -117,7 +118,12 @@ fn add_shown<R: Threads + Sync>(
     script: Vec<u8>,
     answer: &mut Vec<u8>,
 ) -> Result<(), Memory> {
-    match ask(table.head.as_str(), "over") {
+    let head = table.head.as_str();
+    if let Some(view) = ask(head, "kept") {
+        let base = base_asked(table).unwrap_or(b"");
+        return add_watched(rt, alloc, head, view, base, &script, answer);
+    }
+    match ask(head, "over") {
         Some(name) => match base_of(&table.bases, name) {
             Some(base) => add_over(rt, alloc, table, base, &script, answer),
             None => Ok(answer.extend_from_slice(b"no such base\n")?),
@@ -135,6 +141,14 @@ fn keep(
 ) -> Result<(), Memory> {
     let name = String::from_str(alloc, name_of(head))?;
     Ok(kept.push((name, bytes))?)
+}
+
+// The base that the row asks for.
+fn base_asked(table: &Table) -> Option<&[u8]> {
+    match ask(table.head.as_str(), "over") {
+        Some(name) => base_of(&table.bases, name),
+        None => None,
+    }
 }
 
 fn base_of<'a>(bases: &'a [(String, Vec<u8>)], name: &str) -> Option<&'a [u8]> {
