@@ -14,6 +14,7 @@ mod ranges;
 mod reads;
 mod ready;
 mod replays;
+mod rounds;
 mod rows;
 mod runs;
 mod scene;
@@ -26,6 +27,7 @@ use answers::Reply;
 use scene::Scene;
 use std::alloc::{AllocError, Global};
 use std::io::{self, Write};
+use std::thread::Threads;
 
 fn main(rt: HostRuntime) -> io::Result<()> {
     let mut out = io::writer(&rt);
@@ -33,13 +35,14 @@ fn main(rt: HostRuntime) -> io::Result<()> {
         return Err(AllocError.into());
     };
     for line in rt.lines(rt.alloc()) {
-        answer(rt.alloc(), &mut scene, line, &mut out)?;
+        answer(&rt, rt.alloc(), &mut scene, line, &mut out)?;
     }
     Ok(())
 }
 
 // Answers one line. It is lent what was set, so that a way out does not let go of it.
-fn answer<W: Write>(
+fn answer<R: Threads + Sync, W: Write>(
+    rt: &R,
     alloc: Global,
     scene: &mut Scene,
     line: io::Result<String>,
@@ -47,7 +50,7 @@ fn answer<W: Write>(
 ) -> io::Result<()> {
     let line = line?;
     let mut reply = Reply::new(alloc);
-    rows::answer(scene, line.as_str(), &mut reply);
+    rows::answer(rt, scene, line.as_str(), &mut reply);
     if reply.is_lacking {
         return Err(AllocError.into());
     }

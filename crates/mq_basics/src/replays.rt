@@ -86,7 +86,8 @@ fn add_alike(told: &[Slot], again: &[Slot], reply: &mut Reply) {
     reply.number(alike(told, again));
 }
 
-fn alike(told: &[Slot], again: &[Slot]) -> u64 {
+/// How many slots of two lists, place by place, are alike.
+pub(crate) fn alike(told: &[Slot], again: &[Slot]) -> u64 {
     let mut count = 0u64;
     for (one, other) in told.iter().zip(again) {
         count = count.saturating_add(u64::from(is_alike(one, other)));

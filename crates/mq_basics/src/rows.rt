@@ -3,15 +3,17 @@
 use crate::answers::Reply;
 use crate::scene::{Scene, set_assigned, set_base, set_cells};
 use crate::{
-    changes, held, joins, looks, printing, ranges, reads, replays, runs, scripts, stores, values,
+    changes, held, joins, looks, printing, ranges, reads, replays, rounds, runs, scripts, stores,
+    values,
 };
+use std::thread::Threads;
 
 /// The row, and behind a tab what it asks for. A row without a tab stays as it is, and so does one that sets something.
-pub(crate) fn answer(scene: &mut Scene, row: &str, out: &mut Reply) {
+pub(crate) fn answer<R: Threads + Sync>(rt: &R, scene: &mut Scene, row: &str, out: &mut Reply) {
     out.add(row);
     if let Some((asked, text)) = row.split_once('\t') {
         let mut reply = Reply::new(out.alloc);
-        tell_of_values(scene, asked, text, &mut reply);
+        tell_of_values(rt, scene, asked, text, &mut reply);
         add_reply(&reply, out);
     }
     out.add("\n");
@@ -27,7 +29,13 @@ fn add_reply(reply: &Reply, out: &mut Reply) {
     out.is_lacking |= reply.is_lacking;
 }
 
-fn tell_of_values(scene: &mut Scene, asked: &str, text: &str, reply: &mut Reply) {
+fn tell_of_values<R: Threads + Sync>(
+    rt: &R,
+    scene: &mut Scene,
+    asked: &str,
+    text: &str,
+    reply: &mut Reply,
+) {
     match asked {
         "value" => values::printed(text, reply),
         "compared" => values::compared(text, reply),
@@ -40,11 +48,17 @@ fn tell_of_values(scene: &mut Scene, asked: &str, text: &str, reply: &mut Reply)
         "tokens" => scripts::spelled(text, reply),
         "aggregated" => reads::aggregated(text, reply),
         "chosen" => reads::chosen(text, reply),
-        _ => tell_of_tables(scene, asked, text, reply),
+        _ => tell_of_tables(rt, scene, asked, text, reply),
     }
 }
 
-fn tell_of_tables(scene: &mut Scene, asked: &str, text: &str, reply: &mut Reply) {
+fn tell_of_tables<R: Threads + Sync>(
+    rt: &R,
+    scene: &mut Scene,
+    asked: &str,
+    text: &str,
+    reply: &mut Reply,
+) {
     match asked {
         "table" => changes::create_table(&mut scene.known, text, reply),
         "change" => changes::changed(&mut scene.known, text, reply),
@@ -52,11 +66,17 @@ fn tell_of_tables(scene: &mut Scene, asked: &str, text: &str, reply: &mut Reply)
         "held" => held::held(&mut scene.known, text, reply),
         "touched" => held::touched(&mut scene.known, text, reply),
         "base" => joins::based(&scene.known, text, reply),
-        _ => tell_of_index(scene, asked, text, reply),
+        _ => tell_of_index(rt, scene, asked, text, reply),
     }
 }
 
-fn tell_of_index(scene: &mut Scene, asked: &str, text: &str, reply: &mut Reply) {
+fn tell_of_index<R: Threads + Sync>(
+    rt: &R,
+    scene: &mut Scene,
+    asked: &str,
+    text: &str,
+    reply: &mut Reply,
+) {
     match asked {
         "index" => ranges::clear(&mut scene.index, reply),
         "index-many" => ranges::fill(&mut scene.index, text, reply),
@@ -64,11 +84,17 @@ fn tell_of_index(scene: &mut Scene, asked: &str, text: &str, reply: &mut Reply) 
         "insert" => ranges::insert(&mut scene.index, text, reply),
         "remove" => ranges::remove(&mut scene.index, text, reply),
         "range" => ranges::ranged(&scene.index, text, reply),
-        _ => tell_of_store(scene, asked, text, reply),
+        _ => tell_of_store(rt, scene, asked, text, reply),
     }
 }
 
-fn tell_of_store(scene: &mut Scene, asked: &str, text: &str, reply: &mut Reply) {
+fn tell_of_store<R: Threads + Sync>(
+    rt: &R,
+    scene: &mut Scene,
+    asked: &str,
+    text: &str,
+    reply: &mut Reply,
+) {
     match asked {
         "store" => scene.store.set_input(text, reply),
         "put" => scene.store.put(text, reply),
@@ -78,11 +104,17 @@ fn tell_of_store(scene: &mut Scene, asked: &str, text: &str, reply: &mut Reply) 
         "looked" => stores::looked(text, reply),
         "replay" => replays::replayed(&scene.store, text, reply),
         "replay-many" => replays::replayed_many(reply),
-        _ => tell_of_model(scene, asked, text, reply),
+        _ => tell_of_model(rt, scene, asked, text, reply),
     }
 }
 
-fn tell_of_model(scene: &mut Scene, asked: &str, text: &str, reply: &mut Reply) {
+fn tell_of_model<R: Threads + Sync>(
+    rt: &R,
+    scene: &mut Scene,
+    asked: &str,
+    text: &str,
+    reply: &mut Reply,
+) {
     match asked {
         "model" => scene.front.set(text, reply),
         "reference" => scene.front.add_reference(text, reply),
@@ -92,6 +124,7 @@ fn tell_of_model(scene: &mut Scene, asked: &str, text: &str, reply: &mut Reply) 
         "order" => looks::order(&scene.shape, reply),
         "looks" | "assigns" => looks::asked(scene, asked, text, reply),
         "run" => runs::run(scene, text, reply),
+        "run-many" => rounds::run_many(rt, scene, text, reply),
         _ => reply.unread(),
     }
 }
