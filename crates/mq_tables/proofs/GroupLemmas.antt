@@ -85,21 +85,18 @@ copied_like sample copy keys after e s l = subst (λ (o : Option Tuple). IfSome 
     by None m = tt
     by (Some x) m = like_same x keys after s m
 
-pub grown_like : (old taken kept : Option Tuple) (before own new after keys : List Tuple) → taken ≡ old → IfSome old (λ s. AreLike s (before ++ own))
-    → IfSome kept (λ s. (taken ≡ Some s) × AreLike s keys) → HoldsBoth new own after → ((q : Tuple) → is_among new q ≡ is_among keys q) → IfSome kept (λ s. AreLike s (before ++ after))
-grown_like old taken None before own new after keys t l k b n = tt
-grown_like old taken (Some x) before own new after keys t l k b n =
-    like_both x keys (before ++ own) (before ++ after) (own_put before own new after keys b n) k.1
-    (subst (λ (o : Option Tuple). IfSome o (λ s. AreLike s (before ++ own))) (sym t ∙ k.0) l)
+pub grown_like : (old taken kept : Option Tuple) (own new after keys : List Tuple) → taken ≡ old → IfSome old (λ s. AreLike s own)
+    → IfSome kept (λ s. (taken ≡ Some s) × AreLike s keys) → HoldsBoth new own after → ((q : Tuple) → is_among new q ≡ is_among keys q) → IfSome kept (λ s. AreLike s after)
+grown_like old taken None own new after keys t l k b n = tt
+grown_like old taken (Some x) own new after keys t l k b n =
+    like_both x keys own after (own_put own new after keys b n) k.1 (subst (λ (o : Option Tuple). IfSome o (λ s. AreLike s own)) (sym t ∙ k.0) l)
 
-pub lost_like : (sample : Option Tuple) (before own gone after : List Tuple) (lost : Bool) → (lost ≡ true → Loses own gone after) → (lost ≡ false → after ≡ own)
-    → IfSome sample (λ s. AreLike s (before ++ own)) → IfSome sample (λ s. AreLike s (before ++ after))
-lost_like None before own gone after lost t f l = tt
-lost_like (Some x) before own gone after true t f l = λ q h.
-    l q (among_both before own q ∙ stays (is_among before q) (is_among own q) (is_among gone q) (ap (λ b. is_among before q || b) (sym (t refl q)) ∙ sym (among_both before after q) ∙ h))
+pub lost_like : (sample : Option Tuple) (own gone after : List Tuple) (lost : Bool) → (lost ≡ true → Loses own gone after) → (lost ≡ false → after ≡ own)
+    → IfSome sample (λ s. AreLike s own) → IfSome sample (λ s. AreLike s after)
+lost_like None own gone after lost t f l = tt
+lost_like (Some x) own gone after true t f l = λ q h. l q (stays (is_among own q) (is_among gone q) (sym (t refl q) ∙ h))
   where
-    stays : (a b c : Bool) → (a || (b && not c)) ≡ true → (a || b) ≡ true
-    stays true b c h = refl
-    stays false true c h = refl
-    stays false false c h = absurd (cc)
-lost_like (Some x) before own gone after false t f l = subst (λ (k : List Tuple). AreLike x (before ++ k)) (sym (f refl)) l
+    stays : (a b : Bool) → (a && not b) ≡ true → a ≡ true
+    stays true b h = refl
+    stays false b h = h
+lost_like (Some x) own gone after false t f l = subst (AreLike x) (sym (f refl)) l

@@ -1,22 +1,16 @@
--- Keys that are kept in runs, and new keys behind them.
+-- Keys that are kept, and new keys behind them.
 use Rattle.std.proofs.Common.{◌≡◌, ℕ, ◌+◌, ◌<◌, List, ◌∷◌, ◌++◌, Bool, true, false, not, ◌||◌, length, map, drop, get_or, Some, refl, sym, ap, ◌∙◌}
 use Rattle.std.specs.Prelude.{if◌then◌else◌}
-use Rattle.std.specs.BTreeSet.{insert_key}
-use Rattle.std.proofs.lemmas.Grind.{flat_map-append}
 use Rattle.std.proofs.lemmas.List.Folds.{list_any-append}
-use Rattle.mq_values.specs.Order.{cmp_key}
 use Rattle.mq_ir.specs.declared.statement.Schema.{Schema}
 use Rattle.mq_ir.specs.Changes.{first_repeated, row_key}
 use Rattle.mq_ir.specs.Keys.{Tuple, is_among, is_same}
-use Rattle.mq_tables.specs.KeyOrder.{HoldsBoth, PutsTo, all_keys}
-use Rattle.mq_tables.proofs.KeyLemmas.{among_inserted, next_key, repeated_alike, swapped, was_new}
+use Rattle.mq_tables.specs.KeyOrder.{HoldsBoth, PutsTo}
+use Rattle.mq_tables.proofs.KeyLemmas.{next_key, repeated_alike, swapped, was_new}
 use Rattle.mq_tables.proofs.Walks.{next_item}
 
 pub among_both : (a b : List Tuple) (q : Tuple) → is_among (a ++ b) q ≡ (is_among a q || is_among b q)
 among_both a b q = list_any-append (is_same q) a b
-
-all_behind : (a b : List (List Tuple)) → all_keys (a ++ b) ≡ all_keys a ++ all_keys b
-all_behind a b = flat_map-append (λ run. run) a b
 
 pub moved : (a b c : Bool) → ((a || b) || c) ≡ (b || (a || c))
 moved true true c = refl
@@ -27,31 +21,9 @@ pub or_false : (a : Bool) → (a || false) ≡ a
 or_false true = refl
 or_false false = refl
 
--- ---- a key is looked for, run by run
-abbrev pub IsSought : List (List Tuple) → ℕ → Tuple → Type 0
-IsSought runs i key = is_among (all_keys (drop i runs)) key ≡ is_among (all_keys runs) key
-
--- ---- keys are put together: those that are left to put, and those that are there
-abbrev pub Joining : List Tuple → List Tuple → List Tuple → List Tuple → Type 0
-Joining some others left there = (q : Tuple) → (is_among left q || is_among there q) ≡ (is_among some q || is_among others q)
-
-pub joining_key : (some others there after left rest : List Tuple) (key copy : Tuple) → left ≡ key ∷ rest → copy ≡ key → after ≡ insert_key cmp_key there copy
-    → Joining some others left there → Joining some others rest after
-joining_key some others there after left rest key copy e c a j q =
-    ap (λ l. is_among rest q || is_among l q) (a ∙ ap (insert_key cmp_key there) c)
-    ∙ ap (λ t. is_among rest q || t) (among_inserted q key there)
-    ∙ sym (moved (is_same q key) (is_among rest q) (is_among there q))
-    ∙ sym (ap (λ l. is_among l q || is_among there q) e)
-    ∙ j q
-
--- ---- keys are put to those that nobody else holds
-pub own_put : (before own new after keys : List Tuple) → HoldsBoth new own after → ((q : Tuple) → is_among new q ≡ is_among keys q)
-    → HoldsBoth keys (before ++ own) (before ++ after)
-own_put before own new after keys u n q =
-    among_both before after q
-    ∙ ap (λ b. is_among before q || b) (u q ∙ ap (λ b. b || is_among own q) (n q))
-    ∙ swapped (is_among before q) (is_among keys q) (is_among own q)
-    ∙ ap (λ b. is_among keys q || b) (sym (among_both before own q))
+-- ---- keys are put to others
+pub own_put : (own new after keys : List Tuple) → HoldsBoth new own after → ((q : Tuple) → is_among new q ≡ is_among keys q) → HoldsBoth keys own after
+own_put own new after keys u n q = u q ∙ ap (λ b. b || is_among own q) (n q)
 
 -- ---- new keys behind earlier ones, row by row
 pub record Adding (schema : Schema) (earlier : List Tuple) (rows : List Tuple) (i : ℕ) (keys : List Tuple) : Type 0 where

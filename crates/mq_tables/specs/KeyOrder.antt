@@ -1,6 +1,5 @@
 -- The keys that are kept beside rows, so that one is found again.
 use Rattle.std.specs.Prelude.{◌≡◌, ◌≢◌, ℕ, List, [], ◌||◌, ◌&&◌, not, cond, false, map, Some, None, Result, Ok, Err, slice_index_or}
-use Rattle.std.specs.List.{flat_map}
 use Rattle.std.specs.Option.{option_map}
 use Rattle.mq_values.specs.declared.faults.Refused.{Refused}
 use Rattle.mq_values.specs.declared.faults.Refused.TheVariants as refused
@@ -11,10 +10,6 @@ use Rattle.mq_ir.specs.declared.statement.Schema.{Schema}
 use Rattle.mq_ir.specs.Changes.{first_repeated, key_fault}
 use Rattle.mq_ir.specs.Keys.{Tuple, is_among, is_same}
 use Rattle.mq_ir.specs.Statement.{unless_refused}
-
--- the keys of the runs, one run behind another
-abbrev pub all_keys : List (List Tuple) → List Tuple
-all_keys runs = flat_map (λ run. run) runs
 
 -- the key of a row by these columns
 abbrev pub keys_by : List ℕ → List Tuple → List Tuple

@@ -8,6 +8,7 @@ pub mod OldPlaces
 pub mod Pending
 pub mod Rows
 pub mod Seeking
+pub mod SharedKeys
 pub mod Sizes
 pub mod Staging
 pub mod Standing

@@ -49,6 +49,16 @@ impl Ascending {
         }
     }
 
+    /// The same keys once more.
+    pub fn copy(&self, alloc: Global) -> Result<Ascending, Memory>
+        ensures { IfOk result (λ copy. copy ≡ self.now) }
+    {
+        Ok(Ascending {
+            keys: copies(alloc, self.keys.as_slice())?,
+            gone: self.gone.clone()?,
+        })
+    }
+
     /// Whether a key is among these. Where it is greater than all that came that takes one comparison.
     pub fn contains(&self, key: &NumberedKey) -> bool
         ensures { result ≡ is_among self.now key.now }
@@ -148,6 +158,16 @@ impl Ascending {
             settle(&mut self.keys, &mut self.gone);
         }
     }
+}
+
+fn copies(alloc: Global, keys: &[NumberedKey]) -> Result<Vec<NumberedKey>, Memory>
+    ensures { IfOk result (λ copies. copies.items ≡ keys.now) }
+{
+    let mut copies = Vec::with_capacity(alloc, keys.len())?;
+    'keys: for key in keys {
+        copies.push(key.copy()?)?;
+    }
+    Ok(copies)
 }
 
 // Whether a key is among ascending ones. Where it is greater than all of them that takes one comparison.

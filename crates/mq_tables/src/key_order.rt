@@ -1,11 +1,11 @@
-//! The keys of rows, kept in runs of which each is in order, so that one is found again.
-ghost use Rattle.std.specs.Prelude.{◌≡◌, ◌≤◌, [], ◌++◌, ◌||◌, true, false, not, map, length, Some, IfSome, IfOk, OnOk};
+//! The keys of rows, kept so that one is found again.
+ghost use Rattle.std.specs.Prelude.{◌≡◌, [], ◌||◌, true, false, not, map, Some, IfSome, IfOk, OnOk};
 ghost use Rattle.mq_ir.specs.Changes as spec;
 ghost use Rattle.mq_ir.specs.Keys.{is_among};
 ghost use Rattle.mq_tables.specs.Exchanging.{AddsBeside, Exchanged, keys_put};
 ghost use Rattle.mq_tables.specs.Exchanging as exchanging;
 ghost use Rattle.mq_tables.specs.Groups.{AreAlike, AreLike};
-ghost use Rattle.mq_tables.specs.KeyOrder.{Adds, GrowsTo, HoldsBoth, HoldsSame, Loses, PutsTo, all_keys};
+ghost use Rattle.mq_tables.specs.KeyOrder.{Adds, GrowsTo, HoldsBoth, HoldsSame, Loses, PutsTo};
 
 use crate::ascending::set_of;
 use crate::groups::{has_groups_of, have_groups_of};
@@ -13,122 +13,74 @@ use crate::keys::numbered_key;
 use crate::numbered_key::NumberedKey;
 use crate::own_keys::OwnKeys;
 use crate::row_numbers::RowNumbers;
+use crate::shared_keys::SharedKeys;
 use mq_ir::{Row, Schema};
-use mq_values::{Fail, Items, Key, Memory, Refused, Shared, Value};
+use mq_values::{Fail, Items, Key, Memory, Refused, Value};
 use std::alloc::Global;
 use std::collections::BTreeSet;
 use std::marker::Model;
-use std::sync::Arc;
 
-// How many times as long as the next run a run is at least.
-const LONGER: usize = 2;
-
-// Keys in order, which many hold at once. Contracts see them as a list.
-#[derive(Drop)]
-struct Run {
-    keys: Arc<BTreeSet<NumberedKey>>,
-}
-
-impl Model for Run {
-    ghost use Rattle.std.specs.Prelude.{List};
-    ghost use Rattle.mq_ir.specs.Keys.{Tuple};
-
-    ghost Value = { List Tuple };
-
-    ghost view = { λ run. run.keys.value.keys };
-}
-
-/// The keys of rows: runs that others may hold too, and behind them keys that nobody else holds. Contracts see them as the
-/// list of the keys, in an order that nothing rests on.
+/// The keys of rows, which others may hold too. Contracts see them as the list of the keys, in an order that nothing rests on.
 #[derive(Drop)]
 pub struct KeyOrder {
-    runs: Shared<Run>,
-    own: OwnKeys,
+    keys: SharedKeys,
     // A key of whose groups all of these are, where that is known.
     sample: Option<Key>,
 }
 
 impl Model for KeyOrder {
-    ghost use Rattle.std.specs.Prelude.{List, ◌++◌, IfSome};
+    ghost use Rattle.std.specs.Prelude.{List, IfSome};
     ghost use Rattle.mq_ir.specs.Keys.{Tuple};
     ghost use Rattle.mq_tables.specs.Groups.{AreLike};
-    ghost use Rattle.mq_tables.specs.KeyOrder.{all_keys};
 
     ghost Value = { List Tuple };
 
-    ghost view = { λ order. all_keys order.runs ++ order.own };
+    ghost view = { λ order. order.keys };
 
-    ghost invariant = { λ order. IfSome order.sample (λ sample. AreLike sample (all_keys order.runs ++ order.own)) };
+    ghost invariant = { λ order. IfSome order.sample (λ sample. AreLike sample order.keys) };
 }
 
 impl KeyOrder {
     /// No key. It takes no memory.
-    pub fn empty(alloc: Global) -> KeyOrder
+    pub fn empty() -> KeyOrder
         ensures { result ≡ [] }
     {
         KeyOrder {
-            runs: Shared::empty(),
-            own: OwnKeys::empty(alloc),
+            keys: SharedKeys::empty(),
             sample: None,
         }
     }
 
     /// No key yet, and those that come are expected to be of the groups of this one.
-    pub fn expecting(alloc: Global, sample: Key) -> KeyOrder
+    pub fn expecting(sample: Key) -> KeyOrder
         ensures { result ≡ [] }
     {
         KeyOrder {
-            runs: Shared::empty(),
-            own: OwnKeys::empty(alloc),
+            keys: SharedKeys::empty(),
             sample: Some(sample),
         }
     }
 
-    /// The same keys once more, to be changed beside these. Short runs are joined, so that there are few.
-    pub fn copy(&self, alloc: Global) -> Result<KeyOrder, Memory>
+    /// The same keys once more, to be changed beside these. No key is copied.
+    pub fn copy(&self) -> Result<KeyOrder, Memory>
         ensures { IfOk result (HoldsSame self.now) }
     {
-        let mut copy = self.copied_keys(alloc)?;
-        copy.expect(sample_copy(&self.sample)?);
-        Ok(copy)
-    }
-
-    // The same keys once more, of which no groups are known.
-    fn copied_keys(&self, alloc: Global) -> Result<KeyOrder, Memory>
-        ensures { IfOk result (HoldsSame self.now) }
-    {
-        let runs = self.shared_runs(alloc)?;
-        let (stay, joined) = runs.as_slice().split_at(staying(runs.as_slice()));
         Ok(KeyOrder {
-            own: joined_keys(joined, OwnKeys::empty(alloc))?,
-            runs: Shared::new(alloc, run_copies(alloc, stay)?)?,
-            sample: None,
+            keys: self.keys.copy()?,
+            sample: sample_copy(&self.sample)?,
         })
-    }
-
-    // Notes of whose groups all keys are, where that is known.
-    fn expect(&mut self, sample: Option<Key>)
-        requires { IfSome sample (λ sample. AreLike sample self.old) }
-        ensures { self.new ≡ self.old }
-    {
-        self.sample = sample;
     }
 
     /// Whether a key is among these. It takes no memory.
     pub fn contains(&self, key: &NumberedKey) -> bool
         ensures { result ≡ is_among self.now key.now }
     {
-        is_in_runs(self.runs.as_slice(), key) || self.own.contains(key)
+        self.keys.contains(key)
     }
 
     /// The number of the row of a key, where it is among these. No answer rests on it.
     pub fn number_of(&self, key: &NumberedKey) -> Option<usize> {
-        for run in self.runs.as_slice() {
-            if let Some(found) = run.keys.get(key) {
-                return Some(found.number());
-            }
-        }
-        self.own.number_of(key)
+        self.keys.number_of(key)
     }
 
     /// Whether all of these are known to be of the same groups. No answer rests on `false`.
@@ -155,7 +107,7 @@ impl KeyOrder {
     {
         let keys = new_keys(alloc, schema, self, rows, first)?;
         let sample = sample_of_all(schema, self.sample.take(), rows);
-        self.own.join(alloc, keys)?;
+        self.keys.join(alloc, keys)?;
         self.sample = sample;
         Ok(())
     }
@@ -165,10 +117,7 @@ impl KeyOrder {
         ensures lost { result ≡ true → Loses self.old keys.now self.new }
         ensures kept { result ≡ false → self.new ≡ self.old }
     {
-        if !self.runs.as_slice().is_empty() {
-            return false;
-        }
-        self.own.lose(keys)
+        self.keys.lose(keys)
     }
 
     /// Takes the keys `old` away and puts those of rows that come to places to the others, where these repeat none that stays
@@ -207,20 +156,9 @@ impl KeyOrder {
         ensures { OnOk result (HoldsBoth (keys_put schema.now puts.now) self.old self.new) }
     {
         let sample = sample_of_puts(schema, self.sample.take(), puts);
-        self.own.join(alloc, keys)?;
+        self.keys.join(alloc, keys)?;
         self.sample = sample;
         Ok(())
-    }
-
-    // All of these keys in runs.
-    fn shared_runs(&self, alloc: Global) -> Result<Items<Run>, Memory>
-        ensures { IfOk result (λ runs. all_keys runs ≡ self.now) }
-    {
-        let mut runs = run_copies(alloc, self.runs.as_slice())?;
-        let (last, behind) = self.own.sets(alloc)?;
-        put_run(alloc, &mut runs, last)?;
-        put_run(alloc, &mut runs, behind)?;
-        Ok(runs)
     }
 }
 
@@ -267,82 +205,6 @@ fn are_put_like(schema: &Schema, puts: &[(u32, Row)], values: &[Value]) -> bool
         }
     }
     true
-}
-
-fn is_in_runs(runs: &[Run], key: &NumberedKey) -> bool
-    ensures { result ≡ is_among (all_keys runs.now) key.now }
-{
-    'runs: for run in runs {
-        if run.keys.contains(key) {
-            return true;
-        }
-    }
-    false
-}
-
-// How many runs stay as they are, so that each is long beside those behind it. It decides what later calls cost, and no
-// answer.
-fn staying(runs: &[Run]) -> usize
-    ensures { result ≤ length runs.now }
-{
-    let long = runs_before_short(runs);
-    if runs.len() - long == 1 {
-        return runs.len();
-    }
-    long
-}
-
-// How many runs stand before the last one and those that are short beside the ones behind them.
-fn runs_before_short(runs: &[Run]) -> usize
-    ensures { result ≤ length runs.now }
-{
-    let mut behind: usize = 0;
-    let mut stay = runs.len();
-    'runs: for run in runs.iter().rev() {
-        if behind > 0 && run.keys.len() / LONGER >= behind {
-            return stay;
-        }
-        behind = behind.saturating_add(run.keys.len());
-        stay = stay.saturating_sub(1);
-    }
-    stay
-}
-
-// The keys, and those of the runs.
-fn joined_keys(runs: &[Run], keys: OwnKeys) -> Result<OwnKeys, Memory>
-    ensures { IfOk result (HoldsBoth (all_keys runs.now) keys) }
-{
-    let mut joined = keys;
-    'runs: for run in runs {
-        joined.put_all(&run.keys)?;
-    }
-    Ok(joined)
-}
-
-// Puts a run of keys behind others, where there is any key.
-fn put_run(alloc: Global, runs: &mut Items<Run>, keys: BTreeSet<NumberedKey>) -> Result<(), Memory>
-    ensures { OnOk result (all_keys runs.new ≡ all_keys runs.old ++ keys.keys) }
-{
-    if keys.is_empty() {
-        return Ok(());
-    }
-    runs.push(Run {
-        keys: Arc::new(alloc, keys)?,
-    })?;
-    Ok(())
-}
-
-// The same runs once more.
-fn run_copies(alloc: Global, runs: &[Run]) -> Result<Items<Run>, Memory>
-    ensures { IfOk result (λ copies. copies ≡ runs.now) }
-{
-    let mut copies = Items::new(alloc);
-    'runs: for run in runs {
-        copies.push(Run {
-            keys: Arc::try_clone(&run.keys)?,
-        })?;
-    }
-    Ok(copies)
 }
 
 // The keys of new rows, which have the numbers from `first` on, where none of them is among those of `order` or is that of

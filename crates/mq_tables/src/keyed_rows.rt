@@ -52,7 +52,7 @@ impl KeyedRows {
         KeyedRows {
             rows: Vec::new(alloc),
             columns: Shared::empty(),
-            order: KeyOrder::empty(alloc),
+            order: KeyOrder::empty(),
             numbers: RowNumbers::of(alloc, 0),
         }
     }
@@ -118,7 +118,7 @@ impl KeyedRows {
         Ok(KeyedRows {
             rows: row_copies(alloc, self.rows.as_slice(), 0)?,
             columns: self.columns.copy()?,
-            order: self.order.copy(alloc)?,
+            order: self.order.copy()?,
             numbers: self.numbers.copy(alloc)?,
         })
     }
@@ -158,7 +158,7 @@ impl KeyedRows {
             Err(Fail::Memory) => {
                 // The keys may be more than those of the rows: they are made anew when they are next asked for.
                 self.columns = Shared::empty();
-                self.order = KeyOrder::empty(alloc);
+                self.order = KeyOrder::empty();
                 Err(Fail::Memory)
             }
         }
@@ -187,7 +187,7 @@ impl KeyedRows {
         ) else {
             // The keys may be others than those of the rows: they are made anew when they are next asked for.
             self.columns = Shared::empty();
-            self.order = KeyOrder::empty(alloc);
+            self.order = KeyOrder::empty();
             return Err(Fail::Memory);
         };
         if done {
@@ -400,7 +400,7 @@ fn without_key(alloc: Global, rows: Items<Row>) -> KeyedRows
     KeyedRows {
         rows: rows.into_vec(),
         columns: Shared::empty(),
-        order: KeyOrder::empty(alloc),
+        order: KeyOrder::empty(),
         numbers: RowNumbers::of(alloc, 0),
     }
 }
@@ -426,8 +426,8 @@ fn order_for(alloc: Global, schema: &Schema, rows: &[Row]) -> Result<KeyOrder, M
     ensures { IfOk result (λ order. order ≡ []) }
 {
     match rows.first() {
-        Some(row) => Ok(KeyOrder::expecting(alloc, row_key(alloc, schema, row)?)),
-        None => Ok(KeyOrder::empty(alloc)),
+        Some(row) => Ok(KeyOrder::expecting(row_key(alloc, schema, row)?)),
+        None => Ok(KeyOrder::empty()),
     }
 }
 

@@ -22,6 +22,7 @@ mod row_view;
 mod rows;
 mod scopes;
 mod seeking;
+mod shared_keys;
 mod sizes;
 mod stage;
 mod staged;

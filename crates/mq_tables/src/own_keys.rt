@@ -84,14 +84,6 @@ impl OwnKeys {
         Ok(())
     }
 
-    /// Puts the keys of an ordered set to these. After `Memory` some of them may be here.
-    pub fn put_all(&mut self, keys: &BTreeSet<NumberedKey>) -> Result<(), Memory>
-        ensures { OnOk result (HoldsBoth keys.now.keys self.old self.new) }
-    {
-        put_keys(&mut self.last, keys)?;
-        Ok(())
-    }
-
     /// Takes keys away. Whether it did; else nothing is changed.
     pub fn lose(&mut self, keys: &[NumberedKey]) -> bool
         ensures lost { result ≡ true → Loses self.old keys.now self.new }
@@ -104,14 +96,14 @@ impl OwnKeys {
         true
     }
 
-    /// The keys that came in ascending order as an ordered set, behind the others.
-    pub fn sets(
-        &self,
-        alloc: Global,
-    ) -> Result<(BTreeSet<NumberedKey>, BTreeSet<NumberedKey>), Memory>
-        ensures { IfOk result (λ sets. sets.0.keys ++ sets.1.keys ≡ self.now) }
+    /// The same keys once more.
+    pub fn copy(&self, alloc: Global) -> Result<OwnKeys, Memory>
+        ensures { IfOk result (λ copy. copy ≡ self.now) }
     {
-        Ok((self.last.clone()?, self.behind.to_set(alloc)?))
+        Ok(OwnKeys {
+            last: self.last.clone()?,
+            behind: self.behind.copy(alloc)?,
+        })
     }
 
     fn into_parts(self) -> (BTreeSet<NumberedKey>, Ascending)
@@ -119,16 +111,6 @@ impl OwnKeys {
     {
         (self.last, self.behind)
     }
-}
-
-// Puts keys to others.
-fn put_keys(keys: &mut BTreeSet<NumberedKey>, others: &BTreeSet<NumberedKey>) -> Result<(), Memory>
-    ensures { OnOk result (HoldsBoth others.now.keys keys.old.keys keys.new.keys) }
-{
-    'keys: for key in others.iter() {
-        keys.insert(key.copy()?)?;
-    }
-    Ok(())
 }
 
 // Takes keys out of others.

@@ -1,7 +1,6 @@
-use Rattle.mq_tables.specs.KeyOrder.{all_keys}
 use Rattle.mq_tables.proofs.GroupLemmas.{lost_like}
 use Rattle.mq_tables.proofs.key_order.KeyOrder.lose.Goals as goal
 
 pub invariant_of-self : goal.invariant_of-self
 invariant_of-self c =
-    lost_like c.self.inside.sample (all_keys c.self.inside.runs) c.self.inside.own c.args.keys.now c.lose.new.self c.lose.result c.lose.ensures.lost c.lose.ensures.kept c.self.invariant
+    lost_like c.self.inside.sample c.self.inside.keys c.args.keys.now c.lose.new.self c.lose.result c.lose.ensures.lost c.lose.ensures.kept c.self.invariant
