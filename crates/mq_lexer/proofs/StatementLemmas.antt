@@ -1,8 +1,8 @@
 -- The statements of a token list, one after the other.
-use Rattle.std.proofs.Common.{◌≡◌, ℕ, zero, suc, ◌+◌, ◌-◌, ◌<◌, ◌≤◌, Bool, true, false, not, cond, List, [], ◌∷◌, length, get_or, take, drop, map, refl, ap, sym, ◌∙◌, arith, add-zero, length-drop}
+use Rattle.std.proofs.Common.{◌≡◌, ℕ, zero, suc, ◌+◌, ◌-◌, ◌<◌, ◌≤◌, Bool, true, false, not, cond, ◌||◌, List, [], ◌∷◌, ◌++◌, append-nil, length, get_or, take, drop, map, refl, ap, sym, ◌∙◌, arith, add-zero, length-drop}
 use Rattle.std.proofs.lemmas.List.{drop-drop, get_or-drop}
 use Rattle.std.specs.Prelude.{Some}
-use Rattle.std.specs.List.{drop-map, take-map, filter_map, cons_option, prefix_len}
+use Rattle.std.specs.List.{drop-map, take-map, filter_map, cons_option, list_any, prefix_len}
 use Rattle.mq_lexer.specs.declared.sorts.Token.{Token}
 use Rattle.mq_lexer.specs.Lexemes.{Lexeme, lexeme}
 use Rattle.mq_lexer.specs.Statements.{is_semicolon, put_first, parts, statement_of, statements, is_break, is_no_break}
@@ -119,3 +119,32 @@ next_some zs d at from end from-is end-is some within =
     goes ∙ first_part B ∙ ap (λ n. cons_option (statement_of (take n B)) (statements (drop n B))) count
     ∙ ap (λ o. cons_option o (statements (drop m B))) front
     ∙ ap (λ l. record { tokens = map lexeme (take (end - from) (drop from zs)); line = (get_or zs from d).line } ∷ statements l) left
+
+-- tokens among which no `;` is are a part
+none_there : (a b : Bool) → (a || b) ≡ false → (a ≡ false) × (b ≡ false)
+none_there true b h = absurd (cc)
+none_there false b h = (refl, h)
+
+parts_closed : (ts : List Lexeme) (t : Lexeme) (ys : List Lexeme) → list_any is_semicolon ts ≡ false → is_semicolon t ≡ true → parts (ts ++ t ∷ ys) ≡ ts ∷ parts ys
+parts_closed [] t ys none is = rw is refl
+parts_closed (x ∷ ts) t ys none is =
+    let here = none_there (is_semicolon x) (list_any is_semicolon ts) none in
+    rw here.0 (ap (put_first x) (parts_closed ts t ys here.1 is))
+
+parts_last : (ts : List Lexeme) → list_any is_semicolon ts ≡ false → parts ts ≡ ts ∷ []
+parts_last [] none = refl
+parts_last (x ∷ ts) none =
+    let here = none_there (is_semicolon x) (list_any is_semicolon ts) none in
+    rw here.0 (ap (put_first x) (parts_last ts here.1))
+
+-- the part of a text up to a `;`, and up to its end
+pub part_closed : (all ts ys : List Lexeme) (t : Lexeme) → all ≡ ts ++ t ∷ ys → list_any is_semicolon ts ≡ false → is_semicolon t ≡ true
+    → statements all ≡ cons_option (statement_of ts) (statements ys)
+unfolding statements
+part_closed all ts ys t e none is = ap (λ l. filter_map statement_of (parts l)) e ∙ ap (filter_map statement_of) (parts_closed ts t ys none is)
+
+pub part_last : (all ts ys : List Lexeme) → all ≡ ts ++ ys → ys ≡ [] → list_any is_semicolon ts ≡ false → statements all ≡ cons_option (statement_of ts) (statements ys)
+unfolding statements
+part_last all ts ys e l none =
+    ap (λ l. filter_map statement_of (parts l)) (e ∙ ap (λ l. ts ++ l) l ∙ append-nil ts) ∙ ap (filter_map statement_of) (parts_last ts none)
+    ∙ ap (λ l. cons_option (statement_of ts) (filter_map statement_of (parts l))) (sym l)

@@ -6,6 +6,7 @@ pub mod NumberLemmas
 pub mod Numbers
 pub mod Pieces
 pub mod Quotes
+pub mod Rests
 pub mod SignLemmas
 pub mod Spelling
 pub mod Statements

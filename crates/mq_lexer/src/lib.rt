@@ -21,8 +21,8 @@ pub use laws::{
     tokens_are_spelled, tokens_are_the_longest,
 };
 pub use numbers::{is_number, read_number};
-pub use scanner::tokens;
-pub use script::{Statement, next_statement, statements};
+pub use scanner::{Rest, next_part, tokens};
+pub use script::{Statement, as_statement, next_statement, statements};
 pub use sorts::{Sort, Token};
 pub use terminals::{Symbol, Terminal};
 pub use words::{folded, is_name, is_reserved, is_sign, is_word};

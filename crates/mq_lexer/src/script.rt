@@ -2,6 +2,7 @@
 
 ghost use Rattle.std.specs.Prelude.{◌≡◌, ◌<◌, ◌≤◌, ◌+◌, [], ◌∷◌, length, map, drop, IfOk, MatchOption};
 ghost use Rattle.std.specs.List.{prefix_len};
+ghost use Rattle.std.specs.Option.{option_map};
 ghost use Rattle.mq_lexer.specs.Lexemes.{lexeme};
 ghost use Rattle.mq_lexer.specs.Statements as spec;
 
@@ -17,7 +18,7 @@ pub struct Statement<'t, 'a> {
     pub line: u32,
 }
 
-fn is_semicolon(token: Token<'_>) -> bool
+pub(crate) fn is_semicolon(token: Token<'_>) -> bool
     ensures { result ≡ spec.is_semicolon (lexeme token.entry) }
 {
     matches!(token.terminal, Terminal::Sign(Symbol::Semicolon))
@@ -47,6 +48,17 @@ fn next_semicolon(tokens: &[Token<'_>], at: usize) -> usize
         end += 1;
     }
     end
+}
+
+/// The statement that tokens are which lie between `;` signs; none where there is no token.
+pub fn as_statement<'t, 'a>(tokens: &'t [Token<'a>]) -> Option<Statement<'t, 'a>>
+    ensures { option_map spec.statement result ≡ spec.statement_of (map lexeme tokens.now) }
+{
+    let first = tokens.first()?;
+    Some(Statement {
+        tokens,
+        line: first.line,
+    })
 }
 
 /// The first statement from a place on, and the place behind it; none where only `;` signs are left.

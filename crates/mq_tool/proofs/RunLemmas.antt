@@ -1,15 +1,19 @@
 -- A run, one statement after another.
 use Rattle.std.proofs.Common.{◌≡◌, ℕ, zero, suc, ◌+◌, ◌<◌, ◌≤◌, length, get_or, drop, map, List, [], ◌∷◌, ◌++◌, Bool, false, if◌then◌else◌, ◌||◌, Option, Some, None, refl, sym, ap, ◌∙◌, subst, append_assoc, append-nil, arith}
-use Rattle.std.specs.List.{list_any}
+use Rattle.std.specs.List.{cons_option, filter_map, list_any}
 use Rattle.std.proofs.lemmas.List.{drop_all}
 use Rattle.std.proofs.lemmas.List.Folds.{list_any-append}
-use Rattle.std.specs.Option.{IfSome}
+use Rattle.std.specs.Option.{IfSome, option_map}
 use Rattle.std.specs.Io.KnownBytes.{Appends, Consumes, IsAtEnd}
 use Rattle.std.proofs.KnownBytes.{Appends-nil, Appends-trans}
 use Rattle.mq_io.specs.Progress.{AppendsFront, GaveAtMost}
 use Rattle.mq_io.specs.ProgressLemmas.{AppendsFront-after, AppendsFront-of_part}
+use Rattle.mq_lexer.specs.declared.scanner.Rest.{Rest}
 use Rattle.mq_lexer.specs.declared.script.Statement as code
-use Rattle.mq_lexer.specs.Statements.{Statement, statement}
+use Rattle.mq_lexer.specs.Lexemes.{Lexeme}
+use Rattle.mq_lexer.specs.Rests.{tokens_left}
+use Rattle.mq_lexer.specs.Statements.{Statement, statement, statement_of, statements}
+use Rattle.mq_lexer.specs.Tokens.{pieces_from, token_of}
 use Rattle.mq_ir.specs.Lines.{Line, is_flaw, text_of}
 use Rattle.mq_ir.specs.Statement.{State}
 use Rattle.mq_engine.specs.Sessions.{nothing}
@@ -95,10 +99,11 @@ next_behind reads all rest s read is so = record {
         let first : x ≡ (s.line, read) = at_line s.tokens s.line x (s.line, read) p.0 refl p.1 is in
         (xs, e ∙ ap (λ y. reads ++ y ∷ xs) first ∙ sym (append_assoc reads ((s.line, read) ∷ []) xs), p.2)
 
-pub run_goes_on : (files : FileMap) (before now next : Option (List ℕ)) (state state' : State) (flaw found : Bool) (all rest : List Statement) (s : Statement) (told : Option FileMap)
-    → told ≡ Some files → RunSoFar files before now state flaw all (s ∷ rest) → Writes s told state state' now next found
+pub run_goes_on : (files : FileMap) (before now next : Option (List ℕ)) (state state' : State) (flaw found : Bool) (all left rest : List Statement) (s : Statement) (told : Option FileMap)
+    → told ≡ Some files → left ≡ s ∷ rest → RunSoFar files before now state flaw all left → Writes s told state state' now next found
     → RunSoFar files before next state' (flaw || found) all rest
-run_goes_on files before now next state state' flaw found all rest s told is so w =
+run_goes_on files before now next state state' flaw found all left rest s told is next-is so-left w =
+    let so : RunSoFar files before now state flaw all (s ∷ rest) = subst (RunSoFar files before now state flaw all) next-is so-left in
     let r : ℕ × Read = (s.line, w.0) in
     let meant = statement_step files state r in
     let here = w.2 files is in
@@ -118,12 +123,12 @@ run_goes_on files before now next state state' flaw found all rest s told is so 
       flawed = ap (λ q. q || found) so.flawed ∙ ap (λ q. list_any is_flaw so.done || q) here.2 ∙ sym (list_any-append is_flaw so.done meant.1);
     }
 
-pub run_cut : (files : FileMap) (before now next : Option (List ℕ)) (state : State) (flaw : Bool) (all rest : List Statement) (s : Statement)
-    (told : Option FileMap) → told ≡ Some files → RunSoFar files before now state flaw all (s ∷ rest) → CutShort s told state now next
+pub run_cut : (files : FileMap) (before now next : Option (List ℕ)) (state : State) (flaw : Bool) (all left rest : List Statement) (s : Statement)
+    (told : Option FileMap) → told ≡ Some files → left ≡ s ∷ rest → RunSoFar files before now state flaw all left → CutShort s told state now next
     → WritesFront files all before next
-run_cut files before now next state flaw all rest s told is so cut lines printed =
+run_cut files before now next state flaw all left rest s told is next-is so cut lines printed =
     let h = so.behind.parted printed.reads printed.are_read in
-    by h.0 h.2 (printed.printed ∙ ap (lines_from files nothing) h.1 ∙ so.lines h.0)
+    by h.0 (subst (λ (l : List Statement). AreReadAs l h.0) next-is h.2) (printed.printed ∙ ap (lines_from files nothing) h.1 ∙ so.lines h.0)
   where
     by : (others : List (ℕ × Read)) → AreReadAs (s ∷ rest) others → lines ≡ so.done ++ lines_from files state others
         → AppendsFront before next (text_of lines)
@@ -141,16 +146,16 @@ run_cut files before now next state flaw all rest s told is so cut lines printed
         (AppendsFront-after before now next _ _ so.written (AppendsFront-of_part now next (text_of meant.1) (text_of others) (cut files x.1 is p.1)))
 
 -- a run that stops at a LOAD
-pub run_stops : (files : FileMap) (before now : Option (List ℕ)) (state : State) (flaw : Bool) (all rest : List Statement) (s : Statement)
-    → RunSoFar files before now state flaw all (s ∷ rest) → IsLoadAt s state → StoppedAtLoad files all before now
-run_stops files before now state flaw all rest s so load =
+pub run_stops : (files : FileMap) (before now : Option (List ℕ)) (state : State) (flaw : Bool) (all left rest : List Statement) (s : Statement)
+    → left ≡ s ∷ rest → RunSoFar files before now state flaw all left → IsLoadAt s state → StoppedAtLoad files all before now
+run_stops files before now state flaw all left rest s next-is so load =
     let lines : so.done ≡ lines_from files nothing so.reads =
     sym (append-nil so.done) ∙ sym (so.lines []) ∙ ap (lines_from files nothing) (append-nil so.reads) in
     record {
       done = so.ran;
       load = s;
       others = rest;
-      all = so.parts;
+      all = so.parts ∙ ap (λ l. so.ran ++ l) next-is;
       reads = so.reads;
       are_read = so.are_read;
       written = subst (λ (ls : List Line). Appends before now (text_of ls)) lines so.written;
@@ -170,7 +175,7 @@ run_ends files before now state flaw all so =
     (so.done, printed, so.written, so.flawed)
 
 -- the statement at a place, and those behind it
-drop_statement : (xs : List code.Statement) (i : ℕ) (d : code.Statement) → i < length xs → drop i (map statement xs) ≡ statement (get_or xs i d) ∷ drop (i + 1) (map statement xs)
+pub drop_statement : (xs : List code.Statement) (i : ℕ) (d : code.Statement) → i < length xs → drop i (map statement xs) ≡ statement (get_or xs i d) ∷ drop (i + 1) (map statement xs)
 drop_statement [] i d less = absurd (omega arith)
 drop_statement (x ∷ xs) zero d less = refl
 drop_statement (x ∷ xs) (suc i) d less = let one : suc i + 1 ≡ suc (i + 1) = omega arith in rw one (drop_statement xs i d (omega arith))
@@ -191,18 +196,28 @@ pub status_by : (files : FileMap) (ss : List Statement) (before after : Option (
     → (lines : List Line) × ArePrinted files ss lines × Appends before after (text_of lines) × ((if flaw then FLAWED else DONE) ≡ status_of lines)
 status_by files ss before after flaw w = (w.0, w.1, w.2, ap (λ b. if b then FLAWED else DONE) w.3)
 
-module _ (files : FileMap) (told : Option FileMap) (is : told ≡ Some files) (before now next : Option (List ℕ)) (state state' : State) (flaw found : Bool)
-    (xs : List code.Statement) (i : ℕ) (d : code.Statement) (less : i < length xs)
-    (so : RunSoFar files before now state flaw (map statement xs) (drop i (map statement xs))) where
-  here : RunSoFar files before now state flaw (map statement xs) (statement (get_or xs i d) ∷ drop (i + 1) (map statement xs))
-  here = subst (RunSoFar files before now state flaw (map statement xs)) (drop_statement xs i d less) so
+-- where memory ran out between two statements, what was written is a front
+pub run_halts : (files : FileMap) (before now : Option (List ℕ)) (state : State) (flaw : Bool) (all rest : List Statement)
+    → RunSoFar files before now state flaw all rest → WritesFront files all before now
+run_halts files before now state flaw all rest so lines printed =
+    let h = so.behind.parted printed.reads printed.are_read in (
+      text_of so.done,
+      text_of (lines_from files state h.0),
+      ap text_of (printed.printed ∙ ap (lines_from files nothing) h.1 ∙ so.lines h.0) ∙ text_of-append so.done (lines_from files state h.0),
+      so.written,
+    )
 
-  pub run_goes_on_at : Writes (statement (get_or xs i d)) told state state' now next found
-      → RunSoFar files before next state' (flaw || found) (map statement xs) (drop (i + 1) (map statement xs))
-  run_goes_on_at = run_goes_on files before now next state state' flaw found (map statement xs) (drop (i + 1) (map statement xs)) (statement (get_or xs i d)) told is here
+-- what is left, where the tokens in front of it are a statement
+pub next_is : (rest others : List Statement) (tokens : List Lexeme) (o : Option code.Statement) (s : code.Statement) → rest ≡ cons_option (statement_of tokens) others
+    → option_map statement o ≡ statement_of tokens → o ≡ Some s → rest ≡ statement s ∷ others
+next_is rest others tokens o s e is some =
+    e ∙ ap (λ (x : Option Statement). cons_option x others) (sym is ∙ ap (option_map statement) some)
 
-  pub run_cut_at : CutShort (statement (get_or xs i d)) told state now next → WritesFront files (map statement xs) before next
-  run_cut_at = run_cut files before now next state flaw (map statement xs) (drop (i + 1) (map statement xs)) (statement (get_or xs i d)) told is here
-
-  pub run_stops_at : IsLoadAt (statement (get_or xs i d)) state → StoppedAtLoad files (map statement xs) before now
-  run_stops_at = run_stops files before now state flaw (map statement xs) (drop (i + 1) (map statement xs)) (statement (get_or xs i d)) here
+-- of no text no statement is left
+pub none_left : (rest : Rest) → length rest.text.now ≡ 0 → statements (tokens_left rest) ≡ []
+unfolding statements
+none_left rest e = by rest.line rest.text.now e
+  where
+    by : (line : ℕ) (z : List ℕ) → length z ≡ 0 → statements (filter_map token_of (pieces_from 0 line z)) ≡ []
+    by line [] e = refl
+    by line (b ∷ z) e = absurd (omega arith)

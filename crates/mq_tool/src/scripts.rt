@@ -18,7 +18,7 @@ use crate::step::do_statement;
 use crate::stops::Halt;
 use mq_engine::Engine;
 use mq_io::{Gate, IoFault, READ_SIZE, ReadFault, Shelf, Sink, Source, read_all, write_all};
-use mq_lexer::{Statement, statements, tokens};
+use mq_lexer::{Rest, Statement, as_statement, next_part};
 use mq_values::MAX_SCRIPT_BYTES;
 use std::alloc::Global;
 use std::thread::Threads;
@@ -103,7 +103,8 @@ fn run_bytes<R: Threads + Sync, F: Shelf, K: Sink, G: Gate>(
     }
 }
 
-// Runs the script of this text, and answers whether some line was an error or a fault.
+// Runs the script of this text, whose tokens are made a statement at a time, and answers whether some line was an error or a
+// fault.
 fn run_text<R: Threads + Sync, F: Shelf, K: Sink, G: Gate>(
     rt: &R,
     alloc: Global,
@@ -124,13 +125,32 @@ fn run_text<R: Threads + Sync, F: Shelf, K: Sink, G: Gate>(
     ensures read_failed { IsErrOf result Halt.ReadFailed → Rose (F.faults files.old) (F.faults files.new) }
     ensures write_failed { IsErrOf result Halt.WriteFailed → Rose (K.faults out.old) (K.faults out.new) }
 {
-    let Ok(tokens) = tokens(alloc, text) else {
-        return Err(Halt::Memory);
-    };
-    let Ok(statements) = statements(alloc, &tokens) else {
-        return Err(Halt::Memory);
-    };
-    run_statements(rt, alloc, workers, &statements, files, out, gate)
+    let mut engine = Engine::new(alloc, workers);
+    let mut lines = Vec::new(alloc);
+    let mut tokens = Vec::new(alloc);
+    let mut rest = Rest::of(text);
+    let mut flaw = false;
+    while !rest.text.is_empty() {
+        tokens.clear();
+        let Ok(left) = next_part(&mut tokens, rest) else {
+            return Err(Halt::Memory);
+        };
+        rest = left;
+        if let Some(statement) = as_statement(&tokens) {
+            let found = run_statement(
+                rt,
+                alloc,
+                &mut engine,
+                &statement,
+                &mut lines,
+                files,
+                out,
+                gate,
+            )?;
+            flaw = either(flaw, found);
+        }
+    }
+    Ok(flaw)
 }
 
 /// Runs statements, one after another, from no table and no view on, and answers whether some line was an error or a
