@@ -1,13 +1,14 @@
 -- The last steps of the arithmetic, from what the code's calls gave to the definitions.
-use Rattle.std.proofs.Common.{◌≡◌, ◌≢◌, ℕ, suc, ◌+◌, ◌-◌, ◌*◌, ◌^◌, ◌<◌, ◌≤◌, max, min, ℤ, pos, negsuc, neg_ℤ, ◌-ℤ◌, ◌*ℤ◌, Bool, true, false, refl, sym, ap, subst, ◌∙◌, arith, FitsSigned, Some, Ok, Err, to_z, of_z, int_eq}
+use Rattle.std.proofs.Common.{◌≡◌, ◌≢◌, ℕ, suc, ◌+◌, ◌-◌, ◌*◌, ◌^◌, ◌<◌, ◌≤◌, max, min, ℤ, pos, negsuc, neg_ℤ, ◌*ℤ◌, Bool, ◌&&◌, true, false, refl, sym, ap, subst, ◌∙◌, arith, FitsSigned, Some, Result, Ok, Err, to_z, of_z, int_eq, if◌then◌else◌}
 use Rattle.std.specs.Int.{w128}
 use Rattle.std.specs.Cmp.{signed_Decides}
 use Rattle.std.proofs.lemmas.Int.{ints, to_z-of_z}
 use Rattle.std.proofs.Math.Nat.{div-lt_iff_lt-mul, le-mul_of_pos_right}
 use Rattle.mq_values.specs.Number.{Number, is_mantissa, fitting, mant_at}
 use Rattle.mq_values.specs.NumberOrder.{ten_pos}
-use Rattle.mq_values.specs.Arithmetic.{in_range, half_up, rounded, difference_of, product_of, quotient_of, quotient_scale, dividend_of}
+use Rattle.mq_values.specs.Arithmetic.{in_range, half_up, rounded, product_of, quotient_of, quotient_scale, dividend_of}
 use Rattle.mq_values.proofs.RangeLemmas.{Fitting_some, Fitting_true, fits_mantissa, unfit_mantissa}
+use Rattle.mq_values.specs.declared.faults.ValueFault.{ValueFault}
 use Rattle.mq_values.specs.declared.faults.ValueFault.TheVariants.{Overflow}
 
 not_zero : (z : ℤ) → z ≢ pos 0 → int_eq z (pos 0) ≡ false
@@ -67,8 +68,14 @@ product_step a b m n x t s es l em en f g et ft h =
     ∙ in_range_is nearest 12 (rounded_mantissa (a.mant *ℤ b.mant) (10 ^ (a.scale + b.scale - 12)) (ten_pos (a.scale + b.scale - 12)) fits)
     ∙ same ∙ sym (product_is a b (fits_mantissa (a.mant *ℤ b.mant) fits))
 
-difference_is : (a b : Number) → is_mantissa (mant_at (max a.scale b.scale) a) ≡ true → is_mantissa (mant_at (max a.scale b.scale) b) ≡ true → difference_of a b ≡ in_range (mant_at (max a.scale b.scale) a -ℤ mant_at (max a.scale b.scale) b) (max a.scale b.scale)
-difference_is a b p q = rw (p, q) refl
+-- two numbers of which both mantissas are brought to the larger scale and put together there, as `sum_of` and `difference_of` are
+abbrev combined : (ℤ → ℤ → ℤ) → Number → Number → Result Number ValueFault
+combined op a b =
+    let s = max a.scale b.scale in
+    if is_mantissa (mant_at s a) && is_mantissa (mant_at s b) then in_range (op (mant_at s a) (mant_at s b)) s else Err Overflow
+
+combined_is : (op : ℤ → ℤ → ℤ) (a b : Number) → is_mantissa (mant_at (max a.scale b.scale) a) ≡ true → is_mantissa (mant_at (max a.scale b.scale) b) ≡ true → combined op a b ≡ in_range (op (mant_at (max a.scale b.scale) a) (mant_at (max a.scale b.scale) b)) (max a.scale b.scale)
+combined_is op a b p q = rw (p, q) refl
 
 -- what the two calls of `with_zeros` gave
 pub record Brought (a b : Number) (m n : ℤ) (s i j : ℕ) : Type 0 where
@@ -78,27 +85,27 @@ pub record Brought (a b : Number) (m n : ℤ) (s i j : ℕ) : Type 0 where
   pub left : Some m ≡ fitting (a.mant *ℤ pos (10 ^ (s - i)))
   pub right : Some n ≡ fitting (b.mant *ℤ pos (10 ^ (s - j)))
 
-brought_is : (a b : Number) (m n : ℤ) (s i j : ℕ) → Brought a b m n s i j → difference_of a b ≡ in_range (to_z w128 (of_z w128 m) -ℤ to_z w128 (of_z w128 n)) s
-brought_is a b m n s i j h =
+brought_is : (op : ℤ → ℤ → ℤ) (a b : Number) (m n : ℤ) (s i j : ℕ) → Brought a b m n s i j → combined op a b ≡ in_range (op (to_z w128 (of_z w128 m)) (to_z w128 (of_z w128 n))) s
+brought_is op a b m n s i j h =
     let l = Fitting_some m (a.mant *ℤ pos (10 ^ (s - i))) h.left in
     let r = Fitting_some n (b.mant *ℤ pos (10 ^ (s - j))) h.right in
     let left_at : a.mant *ℤ pos (10 ^ (s - i)) ≡ mant_at (max a.scale b.scale) a = λ t. a.mant *ℤ pos (10 ^ (h.scale t - h.left_scale t)) in
     let right_at : b.mant *ℤ pos (10 ^ (s - j)) ≡ mant_at (max a.scale b.scale) b = λ t. b.mant *ℤ pos (10 ^ (h.scale t - h.right_scale t)) in
     let left : to_z w128 (of_z w128 m) ≡ mant_at (max a.scale b.scale) a = to_z-of_z w128 m l.1 ∙ l.0 ∙ left_at in
     let right : to_z w128 (of_z w128 n) ≡ mant_at (max a.scale b.scale) b = to_z-of_z w128 n r.1 ∙ r.0 ∙ right_at in
-    difference_is a b (ap is_mantissa (sym left_at) ∙ Fitting_true m (a.mant *ℤ pos (10 ^ (s - i))) h.left) (ap is_mantissa (sym right_at) ∙ Fitting_true n (b.mant *ℤ pos (10 ^ (s - j))) h.right)
-    ∙ (λ t. in_range (sym left t -ℤ sym right t) (sym h.scale t))
+    combined_is op a b (ap is_mantissa (sym left_at) ∙ Fitting_true m (a.mant *ℤ pos (10 ^ (s - i))) h.left) (ap is_mantissa (sym right_at) ∙ Fitting_true n (b.mant *ℤ pos (10 ^ (s - j))) h.right)
+    ∙ (λ t. in_range (op (sym left t) (sym right t)) (sym h.scale t))
 
-pub difference_some : (a b : Number) (m n x : ℤ) (s i j : ℕ) → Brought a b m n s i j → FitsSigned w128 (to_z w128 (of_z w128 m) -ℤ to_z w128 (of_z w128 n)) → x ≡ to_z w128 (of_z w128 m) -ℤ to_z w128 (of_z w128 n) → Ok (record { mant = to_z w128 (of_z w128 x); scale = s }) ≡ difference_of a b
-difference_some a b m n x s i j h f e =
-    let d = to_z w128 (of_z w128 m) -ℤ to_z w128 (of_z w128 n) in
+pub combined_some : (op : ℤ → ℤ → ℤ) (a b : Number) (m n x : ℤ) (s i j : ℕ) → Brought a b m n s i j → FitsSigned w128 (op (to_z w128 (of_z w128 m)) (to_z w128 (of_z w128 n))) → x ≡ op (to_z w128 (of_z w128 m)) (to_z w128 (of_z w128 n)) → Ok (record { mant = to_z w128 (of_z w128 x); scale = s }) ≡ combined op a b
+combined_some op a b m n x s i j h f e =
+    let d = op (to_z w128 (of_z w128 m)) (to_z w128 (of_z w128 n)) in
     let exact : to_z w128 (of_z w128 x) ≡ d = to_z-of_z w128 x (subst (FitsSigned w128) (sym e) f) ∙ e in
-    (λ t. Ok (record { mant = exact t; scale = s })) ∙ sym (in_range_is d s (fits_mantissa d f)) ∙ sym (brought_is a b m n s i j h)
+    (λ t. Ok (record { mant = exact t; scale = s })) ∙ sym (in_range_is d s (fits_mantissa d f)) ∙ sym (brought_is op a b m n s i j h)
 
-pub difference_none : (a b : Number) (m n : ℤ) (s i j : ℕ) → Brought a b m n s i j → (FitsSigned w128 (to_z w128 (of_z w128 m) -ℤ to_z w128 (of_z w128 n)) → ⊥) → Err Overflow ≡ difference_of a b
-difference_none a b m n s i j h f =
-    let d = to_z w128 (of_z w128 m) -ℤ to_z w128 (of_z w128 n) in
-    sym (out_of_range d s (unfit_mantissa d f)) ∙ sym (brought_is a b m n s i j h)
+pub combined_none : (op : ℤ → ℤ → ℤ) (a b : Number) (m n : ℤ) (s i j : ℕ) → Brought a b m n s i j → (FitsSigned w128 (op (to_z w128 (of_z w128 m)) (to_z w128 (of_z w128 n))) → ⊥) → Err Overflow ≡ combined op a b
+combined_none op a b m n s i j h f =
+    let d = op (to_z w128 (of_z w128 m)) (to_z w128 (of_z w128 n)) in
+    sym (out_of_range d s (unfit_mantissa d f)) ∙ sym (brought_is op a b m n s i j h)
   where
     out_of_range : (z : ℤ) (s : ℕ) → is_mantissa z ≡ false → in_range z s ≡ Err Overflow
     out_of_range z s t = rw (t) refl

@@ -14,6 +14,7 @@ pub mod KeySets
 pub mod Keys
 pub mod Laws
 pub mod ListLaws
+pub mod Mantissa
 pub mod Number
 pub mod NumberLaws
 pub mod NumberOrder

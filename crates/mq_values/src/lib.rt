@@ -16,6 +16,7 @@ mod key;
 mod key_set;
 mod laws;
 mod limits;
+mod mantissa;
 mod memory;
 mod number;
 mod number_laws;

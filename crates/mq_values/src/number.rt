@@ -8,6 +8,7 @@ ghost use Rattle.mq_values.specs.Number.{cmp_number, cmp_worth, fitting, is_mant
 ghost use Rattle.mq_values.specs.NumberOrder.{equal_together};
 
 use crate::limits::MAX_SCALE;
+use crate::mantissa::Mantissa;
 use std::cmp::Ordering;
 use std::marker::Model;
 
@@ -48,7 +49,7 @@ static TENS: [i128; MAX_POWER as usize + 1] = [
 // The scale fills a whole word: bytes between it and the end would be copied apart from the rest, and slowly.
 #[derive(Clone, Copy, Debug, PartialEq, Eq, Hash)]
 pub struct Num {
-    mant: i128,
+    mant: Mantissa,
     scale: u64,
 }
 
@@ -73,7 +74,7 @@ impl Num {
         ensures { result ≡ record { mant = mant; scale = scale } }
     {
         Num {
-            mant,
+            mant: Mantissa::new(mant),
             scale: scale as u64,
         }
     }
@@ -83,7 +84,7 @@ impl Num {
         ensures value { result ≡ self.mant }
         ensures range { IsTrue (is_mantissa self.mant) }
     {
-        self.mant
+        self.mant.get()
     }
 
     /// The scale, which is at most `MAX_SCALE`.
@@ -99,7 +100,7 @@ impl Num {
         ensures { result ≡ cmp_worth self other }
     {
         if self.scale == other.scale {
-            return self.mant.cmp(&other.mant);
+            return self.mant.get().cmp(&other.mant.get());
         }
         if self.scale < other.scale {
             return scaled_cmp(self, other);
@@ -115,9 +116,9 @@ impl Num {
         ensures { result ≡ fitting (self.mant *ℤ pos (10 ^ zeros)) }
     {
         if zeros == 0 {
-            return Some(self.mant);
+            return Some(self.mant.get());
         }
-        times(self.mant, ten_to(zeros))
+        times(self.mant.get(), ten_to(zeros))
     }
 }
 
@@ -146,8 +147,8 @@ fn scaled_cmp(a: Num, b: Num) -> Ordering
     ensures { result ≡ cmp_worth a b }
 {
     match a.with_zeros((b.scale - a.scale) as u8) {
-        Some(mant) => mant.cmp(&b.mant),
-        None => a.mant.cmp(&0),
+        Some(mant) => mant.cmp(&b.mant.get()),
+        None => a.mant.get().cmp(&0),
     }
 }
 
@@ -163,7 +164,7 @@ impl Ord for Num {
 
     fn cmp(&self, other: &Num) -> Ordering {
         if self.scale == other.scale {
-            return self.mant.cmp(&other.mant);
+            return self.mant.get().cmp(&other.mant.get());
         }
         self.cmp_value(*other).then(self.scale.cmp(&other.scale))
     }
