@@ -17,3 +17,8 @@ comes_to (aggregation.Faulted fault) values = Err fault
 abbrev pub sum_at : Result (Option Number) ValueFault → Aggregation
 sum_at (Ok total) = aggregation.Running (tally_of.Sum total)
 sum_at (Err fault) = aggregation.Faulted fault
+
+-- the total once a value was taken, or the fault of that
+abbrev pub sum_after : Option Number → Result (Unit {0}) ValueFault → Result (Option Number) ValueFault
+sum_after total (Ok _) = Ok total
+sum_after total (Err fault) = Err fault

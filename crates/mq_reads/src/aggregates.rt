@@ -2,11 +2,11 @@
 ghost use Rattle.std.specs.Prelude.{◌≡◌, List, [], ◌∷◌, Ok, unwrap_or, IfOk};
 ghost use Rattle.std.specs.Option.{option_copied};
 ghost use Rattle.mq_values.specs.Aggregate.{aggregate as spec_aggregate};
-ghost use Rattle.mq_values.specs.Answers.{Gives};
+ghost use Rattle.mq_values.specs.Answers.{Gives, result_map};
 ghost use Rattle.mq_values.specs.Arithmetic.{sum_of};
 ghost use Rattle.mq_values.specs.declared.value.Value.{Value};
 ghost use Rattle.mq_values.specs.declared.value.Value.TheVariants.{Null};
-ghost use Rattle.mq_reads.specs.Aggregation.{comes_to, sum_at};
+ghost use Rattle.mq_reads.specs.Aggregation.{comes_to, sum_after, sum_at};
 
 use mq_values::{Agg, Fail, Memory, Num, Tally, Value, ValueFault, add};
 
@@ -52,37 +52,46 @@ impl Aggregation {
     }
 }
 
-/// A sum with a value taken that is lent, or null; `total` is that of the numbers before it, and `None` where there are none. It
-/// stays in hand where an `Aggregation` would be moved at each value. `Overflow` comes where the sum leaves the range here.
-#[inline(always)]
-pub fn with_summand(total: Option<Num>, lent: Option<&Value>) -> Result<Option<Num>, ValueFault>
-    ensures { (values : List Value) → comes_to (sum_at result) values
-        ≡ comes_to (sum_at (Ok total)) (unwrap_or (option_copied lent.entry) Null ∷ values) }
+/// Takes a value that is lent, or null, into a sum; `total` is that of the numbers before it, and `None` where there are none. It
+/// stays in its place, where an `Aggregation` would be moved at each value. `Overflow` comes where the sum leaves the range here.
+pub fn add_summand(total: &mut Option<Num>, lent: Option<&Value>) -> Result<(), ValueFault>
+    ensures { (values : List Value) → comes_to (sum_at (sum_after total.new result)) values
+        ≡ comes_to (sum_at (Ok total.old)) (unwrap_or (option_copied lent.entry) Null ∷ values) }
 {
     let Some(Value::Num(n)) = lent else {
-        return Ok(total);
+        return Ok(());
     };
-    let Some(total) = total else {
-        return Ok(Some(*n));
-    };
-    match plus(total, *n) {
-        Ok(total) => Ok(Some(total)),
-        Err(fault) => Err(fault),
+    match total {
+        Some(sum) => add_to(sum, n),
+        None => {
+            *total = Some(*n);
+            Ok(())
+        }
     }
 }
 
-// The sum of two numbers. Those of one scale, as the values of a measure are, are added as they stand.
-#[inline(always)]
-fn plus(a: Num, b: Num) -> Result<Num, ValueFault>
-    ensures { result ≡ sum_of a b }
+// Adds a number to a sum. Those of one scale, as the values of a measure are, are added as they stand.
+fn add_to(sum: &mut Num, n: &Num) -> Result<(), ValueFault>
+    ensures { sum_of sum.old n.now ≡ result_map (λ _. sum.new) result }
 {
-    if a.scale() != b.scale() {
-        return add(a, b);
+    if sum.scale() != n.scale() {
+        return add_apart(sum, n);
     }
-    match a.mant().checked_add(b.mant()) {
-        Some(sum) => Ok(Num::new(sum, a.scale())),
+    match sum.mant().checked_add(n.mant()) {
+        Some(mant) => {
+            *sum = Num::new(mant, n.scale());
+            Ok(())
+        }
         None => Err(ValueFault::Overflow),
     }
+}
+
+// Adds a number to a sum of another scale.
+fn add_apart(sum: &mut Num, n: &Num) -> Result<(), ValueFault>
+    ensures { sum_of sum.old n.now ≡ result_map (λ _. sum.new) result }
+{
+    *sum = add(*sum, *n)?;
+    Ok(())
 }
 
 /// The aggregate of the values in their order, or its fault (docs/LANGUAGE.md, "Aggregates").

@@ -7,6 +7,6 @@ mod aggregates;
 mod measures;
 mod presence;
 
-pub use aggregates::{Aggregation, aggregate, with_summand};
+pub use aggregates::{Aggregation, add_summand, aggregate};
 pub use measures::nav;
 pub use presence::{presentnnv, presentv};

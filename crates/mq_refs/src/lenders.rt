@@ -10,7 +10,7 @@ ghost use Rattle.mq_dim_index.specs.PlaceRuns.{numbers_in, numbers_of};
 ghost use Rattle.mq_reads.specs.Aggregation.{comes_to, sum_at};
 
 use mq_dim_index::PlaceRun;
-use mq_reads::{Aggregation, with_summand};
+use mq_reads::{Aggregation, add_summand};
 use mq_values::{Agg, Fail, Memory, Num, Tally, Value, ValueFault};
 
 /// What lends the values of a measure at the places of some keys.
@@ -74,7 +74,7 @@ fn sum_of<L: Lender>(
 {
     let mut total = total;
     for place in run.first..run.past {
-        total = with_summand(total, lender.lend(place))?;
+        add_summand(&mut total, lender.lend(place))?;
     }
     Ok(total)
 }
