@@ -9,11 +9,11 @@ use Rattle.atomic_table.specs.Table.{State, Me, Act, step, keeps, takes, stepped
 use Rattle.atomic_table.proofs.Lists.{at_set, set_here, set_else}
 use Rattle.mq_claims.specs.declared.view.View.{View}
 use Rattle.mq_claims.specs.Machine.{Status, waiting, claimed, Worker, worker, Machine, machine, Event, claiming, start, IsInHand, Run}
-use Rattle.mq_claims.specs.MachineLaws.{is_done}
+use Rattle.mq_claims.specs.MachineLaws.{is_done, is_told}
 use Rattle.mq_claims.specs.Views.{entry, under, AllBelow, with_claim, told_none}
 use Rattle.mq_claims.specs.Rule.{is_live, listed, Shows, Follows, Claims}
 use Rattle.mq_claims.proofs.ListLemmas.{inside, count-set}
-use Rattle.mq_claims.proofs.RunLemmas.{is_told, sound, next_waits}
+use Rattle.mq_claims.proofs.RunLemmas.{sound, next_waits}
 use Rattle.mq_claims.proofs.LawLemmas.{each_is_claimed_once}
 use Rattle.mq_claims.proofs.RuleLemmas.{off, under_here, under_else, home_by, seat_by, shows_else}
 

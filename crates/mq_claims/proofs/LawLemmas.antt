@@ -3,7 +3,7 @@ use Rattle.std.proofs.Common.{◌≡◌, ℕ, ◌<◌, ◌≤◌, Bool, true, fa
 use mathlib.Core.Option.{some, some-injective}
 use lib.ListN.{get_elem?}
 use Rattle.mq_claims.specs.Machine.{Status, waiting, claimed, held, done, Worker, worker, Machine, claims, claimers, is_latest, contents}
-use Rattle.mq_claims.specs.MachineLaws.{EachIsClaimedOnce, IsOver, AllIsDone, PiecesAreCounted}
+use Rattle.mq_claims.specs.MachineLaws.{EachIsClaimedOnce, IsOver, AllIsDone, PiecesAreCounted, ClaimsAreBounded}
 use Rattle.mq_claims.proofs.ListLemmas.{there}
 use Rattle.mq_claims.proofs.RunLemmas.{untold, Tells, sound}
 
@@ -45,3 +45,6 @@ all_is_done P n es m run over =
 
 pub pieces_are_counted : (P : Type 0) → PiecesAreCounted P
 pieces_are_counted P n es m run = (sound n es m run).adds_up
+
+pub claims_are_bounded : (P : Type 0) → ClaimsAreBounded P
+claims_are_bounded P n es m run = let s = sound n es m run in (s.bounded, s.few)

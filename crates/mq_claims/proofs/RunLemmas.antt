@@ -10,11 +10,8 @@ use lib.ListN.{get_elem?}
 use Rattle.atomic_table.proofs.Lists.{at_set, set_here, set_else, at_longer, at_snoc}
 use Rattle.mq_claims.specs.declared.limits.TheConstants.{MAX_SEATS}
 use Rattle.mq_claims.specs.Machine.{Status, waiting, claimed, held, done, Worker, worker, Machine, Event, claiming, taking, putting, splitting, joining, machine, start, IsInHand, handed_over, Leads, Run, claims, claimers, is_latest, contents}
-use Rattle.mq_claims.specs.MachineLaws.{is_done, is_in_hand}
+use Rattle.mq_claims.specs.MachineLaws.{is_done, is_in_hand, is_told}
 use Rattle.mq_claims.proofs.ListLemmas.{there, inside, in_replicate, map_back, count-set, count-snoc, count-map, count-none}
-
-abbrev pub is_told : Worker → Bool
-is_told x = x.told
 
 pub untold : (a b : Bool) → worker a true ≡ worker b false → ⊥
 untold a b e = true≢false (ap is_told e)

@@ -1,14 +1,19 @@
 -- What each run of the claim machine keeps.
-use Rattle.std.specs.Prelude.{◌≡◌, ℕ, ◌+◌, ◌<◌, ◌≤◌, min, Bool, true, false, List, [], ◌∷◌}
+use Rattle.std.specs.Prelude.{◌≡◌, ℕ, ◌+◌, ◌<◌, ◌≤◌, min, Bool, true, false, List, [], ◌∷◌, length}
 use Rattle.std.specs.List.{count_by}
 use mathlib.Core.Option.{some}
 use lib.ListN.{get_elem?}
+use Rattle.mq_claims.specs.declared.limits.TheConstants.{MAX_SEATS}
 use Rattle.mq_claims.specs.Machine.{Status, waiting, claimed, held, done, Worker, worker, Machine, Event, start, Run, claimers, contents}
 
 -- a piece with a number below `next` was claimed by one worker, once; each other piece waits
 abbrev pub EachIsClaimedOnce : Type 0 → Type 0
 EachIsClaimedOnce P = (n : ℕ) (es : List (Event P)) (m : Machine P) → Run (start n) es m → (k : ℕ) → k < n →
     (k < m.next → (w : ℕ) × (claimers k es ≡ w ∷ [])) × (m.next ≤ k → (claimers k es ≡ []) × (get_elem? m.pieces k ≡ some waiting))
+
+-- a worker was told that nothing is left
+abbrev pub is_told : Worker → Bool
+is_told x = x.told
 
 module _ {P : Type 0} where
   -- worker 0 lives, no other does, and it was told that nothing is left
@@ -37,3 +42,8 @@ AllIsDone P = (n : ℕ) (es : List (Event P)) (m : Machine P) → Run (start n) 
 abbrev pub PiecesAreCounted : Type 0 → Type 0
 PiecesAreCounted P = (n : ℕ) (es : List (Event P)) (m : Machine P) → Run (start n) es m →
     count_by is_done m.pieces + count_by is_in_hand m.pieces ≡ min n m.next
+
+-- the claim word passes the last piece once for each worker that was told that nothing is left, and so for no more than there are seats
+abbrev pub ClaimsAreBounded : Type 0 → Type 0
+ClaimsAreBounded P = (n : ℕ) (es : List (Event P)) (m : Machine P) → Run (start n) es m →
+    (m.next ≤ n + count_by is_told m.workers) × (length m.workers ≤ MAX_SEATS)

@@ -1,6 +1,6 @@
 //! Laws of the claim machine. The functions do nothing: what they ensure is the law.
 
-ghost use Rattle.mq_claims.specs.MachineLaws.{EachIsClaimedOnce, AllIsDone, PiecesAreCounted};
+ghost use Rattle.mq_claims.specs.MachineLaws.{EachIsClaimedOnce, AllIsDone, PiecesAreCounted, ClaimsAreBounded};
 
 /// In each state of each run, a piece with a number below `next` was claimed by one worker, once, and each other piece
 /// waits (docs/MEANING.md, "The claim board").
@@ -18,4 +18,10 @@ pub fn all_is_done_at_the_end<P>()
 /// (docs/MEANING.md, "The claim board").
 pub fn pieces_are_counted<P>()
     ensures { PiecesAreCounted P }
+{}
+
+/// In each state of each run, the claim word passes the last piece once for each worker that was told that nothing is left, and there
+/// are no more workers than seats (docs/MEANING.md, "The claim board").
+pub fn claims_are_bounded<P>()
+    ensures { ClaimsAreBounded P }
 {}

@@ -13,6 +13,8 @@ mod tests;
 mod view;
 
 pub use board::{Board, Seat};
-pub use laws::{all_is_done_at_the_end, each_is_claimed_once, pieces_are_counted};
+pub use laws::{
+    all_is_done_at_the_end, claims_are_bounded, each_is_claimed_once, pieces_are_counted,
+};
 pub use limits::{MAX_PIECES, MAX_SEATS};
 pub use view::{Entry, View};
