@@ -4,6 +4,7 @@
 #![tactic(auto)]
 
 mod columns;
+mod comparing;
 mod cuts;
 mod explaining;
 mod explaining_kept;
@@ -18,6 +19,7 @@ mod results;
 mod stretches;
 mod workers;
 
+pub use comparing::kept_answer_beside;
 pub use explaining::explained_over;
 pub use explaining_kept::explained_kept;
 pub use kept_answers::kept_answer;

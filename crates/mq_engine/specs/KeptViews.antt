@@ -3,6 +3,7 @@ use Rattle.std.specs.Prelude.{◌≡◌, ℕ, zero, suc, Bool, List, [], ◌∷�
 use Rattle.std.specs.String.{string_bytes}
 use Rattle.std.specs.declared.alloc.Global.{Global}
 use Rattle.mq_ir.specs.declared.catalog.View.{View}
+use Rattle.mq_ir.specs.declared.query.BoundQuery.{BoundQuery}
 use Rattle.mq_ir.specs.declared.query.ModelPart.{ModelPart}
 use Rattle.mq_ir.specs.NamedItems.{item_of}
 use Rattle.mq_ir.specs.Tables.{Tables}
@@ -25,9 +26,12 @@ module _ {K : Type 0} (Right : View → K → Type 0) where
   AreRightAt views [] = Unit {0}
   AreRightAt views (entry ∷ entries) = IsRightAt views entry × AreRightAt views entries
 
--- what is kept of this view stands over these tables
+-- what is kept of a view of this query stands over these tables
+abbrev pub IsKeptOf : Tables → BoundQuery → StandingView → Type 0
+IsKeptOf tables q standing = (part : ModelPart) → q.model ≡ Some part → IsStanding tables q part standing
+
 abbrev pub IsStandingOf : Tables → View → StandingView → Type 0
-IsStandingOf tables view standing = (part : ModelPart) → view.query.model ≡ Some part → IsStanding tables view.query part standing
+IsStandingOf tables view standing = IsKeptOf tables view.query standing
 
 -- all that is kept does so for the view under whose name it is kept
 abbrev pub AreStandingOf : Tables → List View → List (String Global × StandingView) → Type 0

@@ -2,6 +2,7 @@
 ghost use Rattle.std.specs.Prelude.{◌≡◌, ◌+◌, List, length, Some, None, Ok, IfOk, IfSome};
 ghost use Rattle.std.specs.List.{All};
 ghost use Rattle.std.specs.Map.{lookup};
+ghost use Rattle.std.specs.Option.{option_copied};
 ghost use Rattle.mq_ir.specs.declared.catalog.View.{View as Seen};
 ghost use Rattle.mq_ir.specs.Answer.{answer_of};
 ghost use Rattle.mq_ir.specs.NamedItems.{item_of};
@@ -50,6 +51,15 @@ impl KeptViews {
     /// How much was read so far of the stores of partitions that are kept.
     pub fn reads(&self) -> u64 {
         self.reads
+    }
+
+    /// What is kept of the view of this name, which stands where all does.
+    pub fn get(&self, name: &str) -> Option<&StandingView>
+        ensures { (tables : Standing) (views : List Seen) → AreStandingOf tables views self.now.views.entries
+            → (v : Seen) → item_of (λ (view : Seen). view.name) views name.now ≡ Some v
+            → IfSome (option_copied result) (IsStandingOf tables v) }
+    {
+        self.views.get(name)
     }
 
     /// Takes out what is kept of the view of this name, which stands where all does.

@@ -1,22 +1,26 @@
 //! The calls of scenarios.
-ghost use Rattle.std.specs.Prelude.{◌≡◌, ◌≤◌, ◌<◌, ◌+◌, false, length, map, IfOk, OnOk, OnErr};
+ghost use Rattle.std.specs.Prelude.{◌≡◌, ◌≤◌, ◌<◌, ◌+◌, false, length, map, IfOk, IfSome, OnOk, OnErr};
 ghost use Rattle.std.specs.List.{All};
+ghost use Rattle.std.specs.Option.{option_copied};
 ghost use Rattle.mq_values.specs.Answers.{Gives, result_map};
 ghost use Rattle.mq_values.specs.declared.limits.TheConstants.{MAX_SCENARIO_CHANGES};
+ghost use Rattle.mq_ir.specs.Answer.{answer_of};
 ghost use Rattle.mq_ir.specs.Names.{is_scenario};
 ghost use Rattle.mq_ir.specs.Ready.{QueryIsReady};
 ghost use Rattle.mq_ir.specs.Scenarios as spec;
 ghost use Rattle.mq_engine.specs.Catalogs.{catalog_of};
+ghost use Rattle.mq_engine.specs.KeptViews.{IsKeptOf};
 ghost use Rattle.mq_engine.specs.Scenarios.{HaveOwnNames, IsBounded, changes_under, longer, with_change};
 ghost use Rattle.mq_engine.specs.Sessions.{view_compared};
 
 use crate::change_copies::{same_change, same_changes};
 use crate::engine::Engine;
 use crate::views::NoView;
-use mq_answers::{Crew, answer_over};
+use mq_answers::{Crew, answer_over, kept_answer_beside};
 use mq_io::Gate;
-use mq_ir::{BoundQuery, ByName, Change, Compared, Scenario};
-use mq_overlay::overlay;
+use mq_ir::{Answer, BoundQuery, ByName, Change, Compared, Scenario};
+use mq_kept::StandingView;
+use mq_overlay::{Overlay, overlay};
 use mq_tables::Tables;
 use mq_values::{Boxed, Fail, Items, Memory, Words};
 use std::alloc::Global;
@@ -73,6 +77,7 @@ impl Engine {
                 alloc,
                 &self.tables,
                 &found.query,
+                self.kept.get(view),
                 &self.catalog.scenarios,
                 names,
             )?),
@@ -149,17 +154,19 @@ fn compared_under_each<R: Threads + Sync, G: Gate>(
     alloc: Global,
     tables: &Tables,
     q: &BoundQuery,
+    kept: Option<&StandingView>,
     scenarios: &ByName<Scenario>,
     names: &[Words],
 ) -> Result<Vec<Compared>, Memory>
     requires ready { QueryIsReady q.now }
+    requires kept { IfSome (option_copied kept) (IsKeptOf tables.now q.now) }
     requires bounded { All IsBounded scenarios.now }
     ensures { IfOk result (λ found. found.items ≡ map (λ name. spec.compared tables.now q.now (changes_under scenarios.now name)) names.now) }
 {
     let mut found = Vec::with_capacity(alloc, names.len())?;
     for name in names {
         let changes = changes_of(scenarios, name.as_str());
-        found.push(compared_under(crew, alloc, tables, q, changes)?)?;
+        found.push(compared_under(crew, alloc, tables, q, kept, changes)?)?;
     }
     Ok(found)
 }
@@ -170,15 +177,38 @@ fn compared_under<R: Threads + Sync, G: Gate>(
     alloc: Global,
     tables: &Tables,
     q: &BoundQuery,
+    kept: Option<&StandingView>,
     changes: &[Change],
 ) -> Result<Compared, Memory>
     requires ready { QueryIsReady q.now }
+    requires kept { IfSome (option_copied kept) (IsKeptOf tables.now q.now) }
     requires bounded { length changes.now ≤ MAX_SCENARIO_CHANGES }
     ensures { IfOk result (λ found. found ≡ spec.compared tables.now q.now changes.now) }
 {
     match overlay(alloc, tables, changes) {
-        Ok(under) => Ok(Compared::Shown(answer_over(crew, alloc, &under, q)?)),
+        Ok(under) => Ok(Compared::Shown(answer_under(crew, alloc, tables, &under, q, kept)?)),
         Err(Fail::Cause((number, refusal))) => Ok(Compared::Stopped(number, refusal)),
         Err(Fail::Memory) => Err(Memory),
+    }
+}
+
+// What a query answers over the tables under a scenario, by what is kept of it over the tables as they stand, where something is.
+fn answer_under<R: Threads + Sync, G: Gate>(
+    crew: &Crew<'_, '_, R, G>,
+    alloc: Global,
+    tables: &Tables,
+    under: &Overlay<'_>,
+    q: &BoundQuery,
+    kept: Option<&StandingView>,
+) -> Result<Answer, Memory>
+    requires ready { QueryIsReady q.now }
+    requires kept { IfSome (option_copied kept) (IsKeptOf tables.now q.now) }
+    ensures { IfOk result (λ a. a ≡ answer_of under.now q.now) }
+{
+    match (&q.model, kept) {
+        (Some(part), Some(kept)) => {
+            kept_answer_beside(crew, alloc, tables, under, q, part, kept)
+        }
+        _ => answer_over(crew, alloc, under, q),
     }
 }

@@ -1,8 +1,12 @@
+pub mod BesideLemmas
 pub mod CarryLemmas
 pub mod ComparingLemmas
 pub mod FollowLemmas
 pub mod FoundLemmas
+pub mod LendLemmas
 pub mod MovedLemmas
 pub mod ReadLemmas
 pub mod RenewLemmas
+pub mod RowChangeLemmas
+pub mod SameLemmas
 pub mod SourceLemmas

@@ -1,8 +1,11 @@
+pub mod Beside
 pub mod Kept
+pub mod Lent
 pub mod Moved
 pub mod ReadyLaws
 pub mod Refreshed
 pub mod Renewed
+pub mod RowChanges
 pub mod Shown
 pub mod Sources
 pub mod Standing

@@ -63,7 +63,8 @@ fn is_same_cell(a: &(Key, Key), b: &(Key, Key)) -> bool
     is_same_key(&a.0, &b.0) && is_same_key(&a.1, &b.1)
 }
 
-fn are_same_keys(a: &[Key], b: &[Key]) -> bool
+/// Whether these are the same tuples.
+pub fn are_same_keys(a: &[Key], b: &[Key]) -> bool
     ensures { result ≡ true → a.now ≡ b.now }
 {
     if a.len() != b.len() {
@@ -87,8 +88,9 @@ fn is_same_tuple(a: &Option<Key>, b: &Option<Key>) -> bool
     }
 }
 
-fn is_same_key(a: &Key, b: &Key) -> bool
+/// Whether these are one tuple.
+pub fn is_same_key(a: &Key, b: &Key) -> bool
     ensures { result ≡ true → a.now ≡ b.now }
 {
-    a.cmp(b).is_eq()
+    *a == *b
 }

@@ -4,16 +4,21 @@
 #![tactic(auto)]
 
 mod beginning;
+mod beside;
 mod carrying;
 mod comparing;
 mod copying;
 mod counting;
 mod following;
 mod kept_view;
+mod lending;
 mod moving;
 mod reading;
 mod refreshing;
 mod renewing;
+mod renewing_lent;
+mod row_changes;
+mod same_rows;
 mod settling;
 mod shapes;
 mod showing;
@@ -21,9 +26,11 @@ mod sources;
 mod standing;
 
 pub use beginning::begun;
+pub use beside::parts_beside;
 pub use carrying::{MOST_FOLLOWED, carried};
 pub use following::followed;
 pub use kept_view::{KeptPart, KeptView, PartState, ShapedCells, SharedShape, ShownRows};
+pub use lending::LentPart;
 pub use reading::query_reads;
 pub use refreshing::refreshed;
 pub use renewing::{renew, renew_parts};

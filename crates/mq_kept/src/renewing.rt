@@ -155,8 +155,8 @@ fn renew_there(
     Ok(true)
 }
 
-// Whether a partition with this input is there.
-fn is_there(part: &ModelPart, input: &PartInput) -> bool
+/// Whether a partition with this input is there.
+pub fn is_there(part: &ModelPart, input: &PartInput) -> bool
     ensures { result ≡ true → IsThere part.now input.now }
 {
     if part.parts == 0 {

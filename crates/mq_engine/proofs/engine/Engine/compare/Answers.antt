@@ -15,3 +15,7 @@ pub returns-in_ok-compared_under_each-in-Some : goal.returns-in_ok-compared_unde
 returns-in_ok-compared_under_each-in-Some g c =
     compared_is c.self.inside.tables c.self.inside.catalog c.self.inside.block c.args.self.now c.self.view_is c.args.view.now c.args.names.now c.in-Some.found.now
     c.in_ok-compared_under_each-in-Some.field-0.items c.in-Some.ensures c.in_ok-compared_under_each-in-Some.ensures
+
+pub compared_under_each-requires-clause-kept : goal.compared_under_each-requires-clause-kept
+compared_under_each-requires-clause-kept g c κs within =
+    c.get-in-Some.ensures c.self.inside.tables c.self.inside.catalog.views c.self.invariant.3 c.in-Some.found.now (sym c.in-Some.ensures)
