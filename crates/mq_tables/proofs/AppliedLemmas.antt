@@ -39,7 +39,7 @@ abbrev done : Tables → Staged → Result (Tables × ℕ) Refused
 done ts s = Ok (with_rows ts s.table s.rows, s.counted)
 
 -- ---- the table of a name
-at_position : (name : List ℕ) (ts : Tables) (i : ℕ) (t : Table) → position (has_name name) ts ≡ Some i → t ≡ get_or ts i t → table_at ts name ≡ Some t
+pub at_position : (name : List ℕ) (ts : Tables) (i : ℕ) (t : Table) → position (has_name name) ts ≡ Some i → t ≡ get_or ts i t → table_at ts name ≡ Some t
 at_position name ts i t p e =
     find_at (has_name name) ts
     ∙ ap (slice_get ts) (by (nat_lt (position_or_len (has_name name) ts) (length ts)) p)

@@ -34,7 +34,7 @@ some_is (Err e) g y h = absurd (cc)
 
 -- ---- UPDATE
 -- a row that is not visited as true stays
-stays : (schema : Schema) (sets : List (ℕ × Expr)) (filter : Option Expr) (n : ℕ) (row : Tuple) (v : Visited) → updated_row schema sets filter (n, row) ≡ Ok v → v.1 ≡ false → v.0 ≡ row
+pub stays : (schema : Schema) (sets : List (ℕ × Expr)) (filter : Option Expr) (n : ℕ) (row : Tuple) (v : Visited) → updated_row schema sets filter (n, row) ≡ Ok v → v.1 ≡ false → v.0 ≡ row
 stays schema sets filter n row v h f = by (is_chosen filter (n, row)) h
   where
     chosen : (r : Result (List (ℕ × Value)) Refused) → (r >>= (λ values. Ok (with_values row values, true))) ≡ Ok v → v.0 ≡ row
@@ -49,7 +49,7 @@ stays schema sets filter n row v h f = by (is_chosen filter (n, row)) h
 abbrev replaced_from : ℕ → List Visited → List (ℕ × Tuple)
 replaced_from n visited = map (λ (row : ℕ × Visited). (row.0, row.1.0)) (filter (λ (row : ℕ × Visited). row.1.1) (enumerate_from n visited))
 
-set_between : (front : List Tuple) (x y : Tuple) (behind : List Tuple) (n : ℕ) → length front ≡ n → set (front ++ x ∷ behind) n y ≡ front ++ y ∷ behind
+pub set_between : (front : List Tuple) (x y : Tuple) (behind : List Tuple) (n : ℕ) → length front ≡ n → set (front ++ x ∷ behind) n y ≡ front ++ y ∷ behind
 set_between [] x y behind zero e = refl
 set_between [] x y behind (suc n) e = absurd (cc)
 set_between (f ∷ front) x y behind zero e = absurd (cc)

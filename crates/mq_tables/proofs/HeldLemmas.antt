@@ -84,11 +84,11 @@ fits_filtered p (u ∷ us) h = by (p u) (fits_filtered p us h.1)
 abbrev changed : List ℕ → List Tuple → Table → Table
 changed name rows t = if is_name name t.name then record t { rows = rows } else t
 
-name_kept : (b : Bool) (rows : List Tuple) (t : Table) → (if b then record t { rows = rows } else t).name ≡ t.name
+pub name_kept : (b : Bool) (rows : List Tuple) (t : Table) → (if b then record t { rows = rows } else t).name ≡ t.name
 name_kept true rows t = refl
 name_kept false rows t = refl
 
-names_same : (name : List ℕ) (rows : List Tuple) (ts : Tables) (n : List ℕ) → list_any (λ (v : Table). is_name n v.name) (with_rows ts name rows) ≡ list_any (λ (v : Table). is_name n v.name) ts
+pub names_same : (name : List ℕ) (rows : List Tuple) (ts : Tables) (n : List ℕ) → list_any (λ (v : Table). is_name n v.name) (with_rows ts name rows) ≡ list_any (λ (v : Table). is_name n v.name) ts
 names_same name rows [] n = refl
 names_same name rows (u ∷ us) n =
     ap (λ m. is_name n m || list_any (λ (v : Table). is_name n v.name) (with_rows us name rows)) (name_kept (is_name name u.name) rows u)
@@ -102,7 +102,7 @@ names_changed name rows (u ∷ us) h = (
 )
 
 -- tables of another name are as they were
-untouched : (name : List ℕ) (rows : List Tuple) (ts : Tables) → list_any (λ (v : Table). is_name name v.name) ts ≡ false → with_rows ts name rows ≡ ts
+pub untouched : (name : List ℕ) (rows : List Tuple) (ts : Tables) → list_any (λ (v : Table). is_name name v.name) ts ≡ false → with_rows ts name rows ≡ ts
 untouched name rows [] h = refl
 untouched name rows (u ∷ us) h =
     let e = either (is_name name u.name) (list_any (λ (v : Table). is_name name v.name) us) h in

@@ -32,7 +32,7 @@ no_table tables change h =
     staged tables t change >>= (λ changed. origins_of t change >>= (λ origins.
     Ok (record { table = t.name; had = length t.rows; rows = changed.0; counted = changed.1; origins = origins }))))) h
 
-of_table : (tables : Tables) (change : Change) (t : Table) → table_at tables (table_of change) ≡ Some t
+pub of_table : (tables : Tables) (change : Change) (t : Table) → table_at tables (table_of change) ≡ Some t
     → staging tables change ≡ unless_refused (size_fault tables t (rows_added change)) (step_of t change)
 of_table tables change t h =
     ap (λ o. ok_or o (refused.UnknownName (table_of change)) >>= (λ (t : Table).

@@ -18,6 +18,7 @@ pub mod OldPlaceLemmas
 pub mod OwnLemmas
 pub mod PendingLemmas
 pub mod PutLemmas
+pub mod PuttingBackLemmas
 pub mod RemovalLemmas
 pub mod SeekLemmas
 pub mod SetLemmas

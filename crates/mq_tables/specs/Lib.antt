@@ -6,6 +6,7 @@ pub mod InPlace
 pub mod KeyOrder
 pub mod OldPlaces
 pub mod Pending
+pub mod PuttingBack
 pub mod Rows
 pub mod Seeking
 pub mod SharedKeys

@@ -237,6 +237,19 @@ impl KeyedRows {
         Ok(())
     }
 
+    /// The same where no memory may be taken: keys that are kept by other columns are forgotten, and made anew when they are
+    /// next asked for.
+    pub fn put_back(&mut self, schema: &Schema, puts: Items<(u32, Row)>)
+        requires { map (spec.row_key schema.now) (put_at puts self.old) ≡ map (spec.row_key schema.now) self.old }
+        ensures { self.new ≡ put_at puts self.old }
+    {
+        if !is_key_of(self.columns.as_slice(), schema) {
+            self.columns = Shared::empty();
+            self.order = KeyOrder::empty();
+        }
+        put_rows(&mut self.rows, puts);
+    }
+
     /// Takes away the rows that are gone, whose keys are `keys`, numbered by their places.
     pub fn lose(
         &mut self,

@@ -1,15 +1,16 @@
 //! A table with its rows.
-ghost use Rattle.std.specs.Prelude.{◌≡◌, ◌≤◌, [], length, IfOk, OnErr};
+ghost use Rattle.std.specs.Prelude.{◌≡◌, ◌≤◌, [], length, map, IfOk, OnErr};
 ghost use Rattle.mq_values.specs.Answers.{Gives, result_map};
 ghost use Rattle.mq_values.specs.declared.limits.TheConstants.{MAX_ROWS};
-ghost use Rattle.mq_ir.specs.Changes.{rows_added};
+ghost use Rattle.mq_ir.specs.Changes.{row_key, rows_added};
+ghost use Rattle.mq_tables.specs.InPlace.{put_at};
 ghost use Rattle.mq_tables.specs.Touching.{made};
 
 use crate::changing::change_rows;
 use crate::keyed_rows::KeyedRows;
 use crate::touched::Touched;
 use mq_ir::{Change, Row, Schema, TableDef};
-use mq_values::{Fail, Memory, Refused, Words};
+use mq_values::{Fail, Items, Memory, Refused, Words};
 use std::alloc::Global;
 use std::marker::Model;
 
@@ -78,6 +79,14 @@ impl Table {
         ensures { self.new ≡ record self.old { rows = rows } }
     {
         self.rows = rows;
+    }
+
+    /// Puts rows at their places, which have the keys of those that stand there. It takes no memory.
+    pub fn put_back(&mut self, puts: Items<(u32, Row)>)
+        requires { map (row_key self.old.schema) (put_at puts self.old.rows) ≡ map (row_key self.old.schema) self.old.rows }
+        ensures { self.new ≡ record self.old { rows = put_at puts self.old.rows } }
+    {
+        self.rows.put_back(&self.schema, puts);
     }
 
     /// Makes a change of this table whose size is judged, where its rows stand, and tells what it touched. After an error the

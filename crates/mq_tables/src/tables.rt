@@ -6,9 +6,10 @@ ghost use Rattle.mq_values.specs.Answers.{Gives, result_map};
 ghost use Rattle.mq_values.specs.declared.limits.TheConstants.{MAX_ROWS};
 ghost use Rattle.mq_ir.specs.Changes as changes;
 ghost use Rattle.mq_ir.specs.Statement.{with_rows};
-ghost use Rattle.mq_ir.specs.Tables.{Table as Seen, is_name, table_at};
+ghost use Rattle.mq_ir.specs.Tables.{Table as Seen, is_name, rows_of, table_at};
 ghost use Rattle.mq_tables.specs.Held.{HaveOwnNames, RowsFit};
-ghost use Rattle.mq_tables.specs.InPlace.{applied};
+ghost use Rattle.mq_tables.specs.InPlace.{applied, put_at};
+ghost use Rattle.mq_tables.specs.PuttingBack.{HaveSameKeys};
 ghost use Rattle.mq_tables.specs.Rows.{row_at, rows_at};
 ghost use Rattle.mq_tables.specs.Staging.{ChangeFits, StandsOn};
 ghost use Rattle.mq_tables.specs.Touching.{changed_at, count_of, touched_by};
@@ -21,7 +22,7 @@ use crate::staged::Staged;
 use crate::table::Table;
 use crate::touched::Touched;
 use mq_ir::{Change, Row, TableDef};
-use mq_values::{Fail, Memory, Refused};
+use mq_values::{Fail, Items, Memory, Refused};
 use std::alloc::Global;
 use std::marker::Model;
 
@@ -131,6 +132,16 @@ impl Tables {
         counted as u64
     }
 
+    /// Puts rows at their places in the table of this name, where they have the keys of those that stand there. It takes no
+    /// memory.
+    pub(crate) fn put_rows_back(&mut self, name: &str, puts: Items<(u32, Row)>)
+        requires { HaveSameKeys self.old name.now puts }
+        ensures rows { self.new ≡ with_rows self.old name.now (put_at puts (rows_of self.old name.now)) }
+        ensures own { HaveOwnNames self.old }
+    {
+        put_at_places(&mut self.tables, name, puts);
+    }
+
     /// Makes the change `c` where its rows stand, or says why it is refused (docs/MEANING.md, "Changes"), and answers
     /// how many rows are counted: what `stage` and `commit` come to, one after another. No row that the change leaves
     /// as it is is copied. After any error the tables are as before.
@@ -182,6 +193,18 @@ fn put_rows(tables: &mut Vec<Table>, name: &str, rows: KeyedRows)
 {
     match place_of(tables, name) {
         Some(place) => tables[place].set_rows(rows),
+        None => {}
+    }
+}
+
+// Puts rows at their places in the table of this name, where there is one.
+fn put_at_places(tables: &mut Vec<Table>, name: &str, puts: Items<(u32, Row)>)
+    requires own { HaveOwnNames tables.old.items }
+    requires keys { HaveSameKeys tables.old.items name.now puts }
+    ensures { tables.new.items ≡ with_rows tables.old.items name.now (put_at puts (rows_of tables.old.items name.now)) }
+{
+    match place_of(tables, name) {
+        Some(place) => tables[place].put_back(puts),
         None => {}
     }
 }
