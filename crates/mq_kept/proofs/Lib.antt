@@ -2,6 +2,7 @@ pub mod BesideLemmas
 pub mod CarryLemmas
 pub mod ComparingLemmas
 pub mod FollowLemmas
+pub mod FollowLentLemmas
 pub mod FoundLemmas
 pub mod LendLemmas
 pub mod MovedLemmas

@@ -1,4 +1,5 @@
 pub mod Beside
+pub mod FollowingLent
 pub mod Kept
 pub mod Lent
 pub mod Moved

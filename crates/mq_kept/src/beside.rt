@@ -84,8 +84,8 @@ fn view_beside<'a, T: TableSet, U: TableSet>(
     renewed_beside(alloc, &model, &change, view.parts.as_slice())
 }
 
-// Whether so many partitions have not made their rows that the workers are to share them.
-fn are_many_unshown(parts: &[KeptPart]) -> bool {
+/// Whether so many partitions have not made their rows that the workers are to share them.
+pub fn are_many_unshown(parts: &[KeptPart]) -> bool {
     let mut left = MOST_FOLLOWED;
     for part in parts {
         if part.shown.is_none() {
@@ -141,8 +141,8 @@ fn items_between(
     items_of(alloc, from, part, &rows)
 }
 
-// The items of rows that went, and of those that came, where all have their lines.
-fn items_of(
+/// The items of rows that went, and of those that came, where all have their lines.
+pub fn items_of(
     alloc: Global,
     from: &FromPart,
     part: &ItemPart,
