@@ -49,8 +49,9 @@ pub fn kept_answer_beside<R: Threads + Sync, T: TableSet, U: TableSet, G: Gate>(
     }
 }
 
-// What it answers by partitions that are lent.
-fn answer_of_lent(
+/// What a query with MODEL answers over tables of which these partitions, which are lent, are what it reads: with the lists and the arrays
+/// that are kept of its view. `Memory` is the only error.
+pub fn answer_of_lent(
     alloc: Global,
     q: &BoundQuery,
     part: &ModelPart,

@@ -19,7 +19,7 @@ mod results;
 mod stretches;
 mod workers;
 
-pub use comparing::kept_answer_beside;
+pub use comparing::{answer_of_lent, kept_answer_beside};
 pub use explaining::explained_over;
 pub use explaining_kept::explained_kept;
 pub use kept_answers::kept_answer;

@@ -14,8 +14,8 @@ use Rattle.mq_ir.specs.Statement.{change_of_tables, with_rows}
 use Rattle.mq_ir.specs.Tables.{Table, Tables, is_name}
 use Rattle.mq_tables.specs.Pending.{combined, held, holding, is_of, with_held, with_pending}
 use Rattle.mq_tables.specs.Staging.{Staged, staging}
+use Rattle.mq_compared.specs.Applied.{applied_is}
 use Rattle.mq_engine.specs.Catalogs.{entry_of_table}
-use Rattle.mq_engine.proofs.ChangeLemmas.{applied_is}
 use Rattle.mq_engine.proofs.NameLemmas.{name_is, one_name}
 use Rattle.mq_engine.proofs.StageLemmas.{staged_name}
 

@@ -3,14 +3,12 @@ use Rattle.std.specs.Prelude.{◌≡◌, ℕ, zero, suc, Bool, List, [], ◌∷�
 use Rattle.std.specs.String.{string_bytes}
 use Rattle.std.specs.declared.alloc.Global.{Global}
 use Rattle.mq_ir.specs.declared.catalog.View.{View}
-use Rattle.mq_ir.specs.declared.query.BoundQuery.{BoundQuery}
-use Rattle.mq_ir.specs.declared.query.ModelPart.{ModelPart}
 use Rattle.mq_ir.specs.NamedItems.{item_of}
 use Rattle.mq_ir.specs.Tables.{Tables}
 use Rattle.mq_tables.specs.declared.touched.Touched.{Touched}
 use Rattle.mq_delta_items.specs.Touching.{TableChanges}
 use Rattle.mq_kept.specs.declared.standing.StandingView.{StandingView}
-use Rattle.mq_kept.specs.Standing.{IsStanding}
+use Rattle.mq_compared.specs.Kept.{IsKeptOf}
 
 -- a key is this name
 abbrev pub goes_by : List ℕ → String Global → Bool
@@ -26,10 +24,7 @@ module _ {K : Type 0} (Right : View → K → Type 0) where
   AreRightAt views [] = Unit {0}
   AreRightAt views (entry ∷ entries) = IsRightAt views entry × AreRightAt views entries
 
--- what is kept of a view of this query stands over these tables
-abbrev pub IsKeptOf : Tables → BoundQuery → StandingView → Type 0
-IsKeptOf tables q standing = (part : ModelPart) → q.model ≡ Some part → IsStanding tables q part standing
-
+-- what is kept of a view stands over these tables
 abbrev pub IsStandingOf : Tables → View → StandingView → Type 0
 IsStandingOf tables view standing = IsKeptOf tables view.query standing
 

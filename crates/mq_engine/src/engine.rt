@@ -15,12 +15,12 @@ ghost use Rattle.mq_engine.specs.Sessions.{nothing, view_answer, view_explained,
 use crate::catalogs::table_entry;
 use crate::kept_views::KeptViews;
 use crate::open_block::OpenBlock;
-use crate::uses::{table_of, user_of};
+use crate::uses::user_of;
 use crate::views::NoView;
 use mq_answers::{Crew, Workers, answer_over};
 use mq_io::Gate;
 use mq_ir::{Answer, BoundQuery, ByName, Catalog, CellName, Change, Explained, TableDef, View};
-use mq_tables::Tables;
+use mq_tables::{Tables, table_of};
 use mq_values::{Fail, Key, Memory, Refused, Words};
 use std::alloc::Global;
 use std::marker::Model;

@@ -1,26 +1,25 @@
 //! The calls of scenarios.
-ghost use Rattle.std.specs.Prelude.{◌≡◌, ◌≤◌, ◌<◌, ◌+◌, false, length, map, IfOk, IfSome, OnOk, OnErr};
+ghost use Rattle.std.specs.Prelude.{◌≡◌, ◌<◌, ◌+◌, false, length, map, IfOk, IfSome, OnOk, OnErr};
 ghost use Rattle.std.specs.List.{All};
 ghost use Rattle.std.specs.Option.{option_copied};
 ghost use Rattle.mq_values.specs.Answers.{Gives, result_map};
 ghost use Rattle.mq_values.specs.declared.limits.TheConstants.{MAX_SCENARIO_CHANGES};
-ghost use Rattle.mq_ir.specs.Answer.{answer_of};
 ghost use Rattle.mq_ir.specs.Names.{is_scenario};
 ghost use Rattle.mq_ir.specs.Ready.{QueryIsReady};
 ghost use Rattle.mq_ir.specs.Scenarios as spec;
+ghost use Rattle.mq_compared.specs.Kept.{IsKeptOf};
 ghost use Rattle.mq_engine.specs.Catalogs.{catalog_of};
-ghost use Rattle.mq_engine.specs.KeptViews.{IsKeptOf};
 ghost use Rattle.mq_engine.specs.Scenarios.{HaveOwnNames, IsBounded, changes_under, longer, with_change};
 ghost use Rattle.mq_engine.specs.Sessions.{view_compared};
 
 use crate::change_copies::{same_change, same_changes};
 use crate::engine::Engine;
 use crate::views::NoView;
-use mq_answers::{Crew, answer_over, kept_answer_beside};
+use mq_answers::Crew;
+use mq_compared::{compared_beside, compared_under};
 use mq_io::Gate;
-use mq_ir::{Answer, BoundQuery, ByName, Change, Compared, Scenario};
+use mq_ir::{BoundQuery, ByName, Change, Compared, Scenario};
 use mq_kept::StandingView;
-use mq_overlay::{Overlay, overlay};
 use mq_tables::Tables;
 use mq_values::{Boxed, Fail, Items, Memory, Words};
 use std::alloc::Global;
@@ -72,10 +71,40 @@ impl Engine {
         ensures { Gives (result_map (λ found. found.items) result) (view_compared self.now view.now names.now) }
     {
         match self.catalog.views.get(view) {
-            Some(found) => Ok(compared_under_each(
+            Some(found) => Ok(compared_beside_each(
                 &self.crew(rt, gate),
                 alloc,
                 &self.tables,
+                &found.query,
+                self.kept.get(view),
+                &self.catalog.scenarios,
+                names,
+            )?),
+            None => Err(Fail::Cause(NoView {
+                name: Words::new(alloc, view)?,
+            })),
+        }
+    }
+
+    /// The same. The changes of a scenario are made in place where that can be, and taken back, so that no row of the tables is
+    /// copied; nothing of the engine is changed, after an error too.
+    pub fn compare_in_place<R: Threads + Sync, G: Gate>(
+        &mut self,
+        rt: &R,
+        alloc: Global,
+        view: &str,
+        names: &[Words],
+        gate: &G,
+    ) -> Result<Vec<Compared>, Fail<NoView>>
+        ensures exact { Gives (result_map (λ found. found.items) result) (view_compared self.old view.now names.now) }
+        ensures same { self.new ≡ self.old }
+    {
+        let crew = self.crew(rt, gate);
+        match self.catalog.views.get(view) {
+            Some(found) => Ok(compared_under_each(
+                &crew,
+                alloc,
+                &mut self.tables,
                 &found.query,
                 self.kept.get(view),
                 &self.catalog.scenarios,
@@ -148,8 +177,8 @@ fn longer(alloc: Global, scenario: &Scenario, name: &str, c: &Change) -> Result<
     Ok(Scenario { name, changes })
 }
 
-// What a query answers under each of these scenarios.
-fn compared_under_each<R: Threads + Sync, G: Gate>(
+// What a query answers under each of these scenarios, over tables that are only lent.
+fn compared_beside_each<R: Threads + Sync, G: Gate>(
     crew: &Crew<'_, '_, R, G>,
     alloc: Global,
     tables: &Tables,
@@ -166,49 +195,31 @@ fn compared_under_each<R: Threads + Sync, G: Gate>(
     let mut found = Vec::with_capacity(alloc, names.len())?;
     for name in names {
         let changes = changes_of(scenarios, name.as_str());
-        found.push(compared_under(crew, alloc, tables, q, kept, changes)?)?;
+        found.push(compared_beside(crew, alloc, tables, q, kept, changes)?)?;
     }
     Ok(found)
 }
 
-// What a query answers over the tables as these changes leave them, or the first change that is refused.
-fn compared_under<R: Threads + Sync, G: Gate>(
+// The same, where the changes may be made in place: the tables are as before after each scenario.
+fn compared_under_each<R: Threads + Sync, G: Gate>(
     crew: &Crew<'_, '_, R, G>,
     alloc: Global,
-    tables: &Tables,
+    tables: &mut Tables,
     q: &BoundQuery,
     kept: Option<&StandingView>,
-    changes: &[Change],
-) -> Result<Compared, Memory>
+    scenarios: &ByName<Scenario>,
+    names: &[Words],
+) -> Result<Vec<Compared>, Memory>
     requires ready { QueryIsReady q.now }
-    requires kept { IfSome (option_copied kept) (IsKeptOf tables.now q.now) }
-    requires bounded { length changes.now ≤ MAX_SCENARIO_CHANGES }
-    ensures { IfOk result (λ found. found ≡ spec.compared tables.now q.now changes.now) }
+    requires kept { IfSome (option_copied kept) (IsKeptOf tables.old q.now) }
+    requires bounded { All IsBounded scenarios.now }
+    ensures exact { IfOk result (λ found. found.items ≡ map (λ name. spec.compared tables.old q.now (changes_under scenarios.now name)) names.now) }
+    ensures same { tables.new ≡ tables.old }
 {
-    match overlay(alloc, tables, changes) {
-        Ok(under) => Ok(Compared::Shown(answer_under(crew, alloc, tables, &under, q, kept)?)),
-        Err(Fail::Cause((number, refusal))) => Ok(Compared::Stopped(number, refusal)),
-        Err(Fail::Memory) => Err(Memory),
+    let mut found = Vec::with_capacity(alloc, names.len())?;
+    for name in names {
+        let changes = changes_of(scenarios, name.as_str());
+        found.push(compared_under(crew, alloc, tables, q, kept, changes)?)?;
     }
-}
-
-// What a query answers over the tables under a scenario, by what is kept of it over the tables as they stand, where something is.
-fn answer_under<R: Threads + Sync, G: Gate>(
-    crew: &Crew<'_, '_, R, G>,
-    alloc: Global,
-    tables: &Tables,
-    under: &Overlay<'_>,
-    q: &BoundQuery,
-    kept: Option<&StandingView>,
-) -> Result<Answer, Memory>
-    requires ready { QueryIsReady q.now }
-    requires kept { IfSome (option_copied kept) (IsKeptOf tables.now q.now) }
-    ensures { IfOk result (λ a. a ≡ answer_of under.now q.now) }
-{
-    match (&q.model, kept) {
-        (Some(part), Some(kept)) => {
-            kept_answer_beside(crew, alloc, tables, under, q, part, kept)
-        }
-        _ => answer_over(crew, alloc, under, q),
-    }
+    Ok(found)
 }

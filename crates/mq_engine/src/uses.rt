@@ -9,6 +9,7 @@ ghost use Rattle.mq_engine.specs.Catalogs as catalogs;
 
 use mq_ir::{Catalog, Change, Scenario, View};
 use mq_kept::query_reads;
+use mq_tables::table_of;
 use mq_values::Words;
 
 /// The name of what uses this table, or `None` where nothing does.
@@ -43,16 +44,4 @@ fn is_changed(changes: &[Change], table: &str) -> bool
     ensures { result ≡ list_any (λ c. is_name table.now (spec_table_of c)) changes.now }
 {
     changes.iter().any(|c| table == table_of(c).as_str())
-}
-
-/// The table that a change is of.
-pub fn table_of(c: &Change) -> &Words
-    ensures { result.now ≡ spec_table_of c.now }
-{
-    match c {
-        Change::Insert { table, .. } => table,
-        Change::Append { table, .. } => table,
-        Change::Update { table, .. } => table,
-        Change::Delete { table, .. } => table,
-    }
 }

@@ -69,15 +69,15 @@ pub(crate) fn take_in(
 pub(crate) fn compare<R: Threads + Sync, G: Gate>(
     rt: &R,
     alloc: Global,
-    engine: &Engine,
+    engine: &mut Engine,
     view: &Words,
     names: &[Words],
     out: &mut Vec<u8>,
     gate: &G,
 ) -> Result<bool, Fail<Refused>>
-    ensures { (files : FileMap) (line : ℕ) → Takes (outside files engine.now line (Bound.Compare view.now names.now)) engine.now engine.now out.old.items out.new.items result }
+    ensures { (files : FileMap) (line : ℕ) → Takes (outside files engine.old line (Bound.Compare view.now names.now)) engine.old engine.new out.old.items out.new.items result }
 {
-    match engine.compare(rt, alloc, view.as_str(), names, gate) {
+    match engine.compare_in_place(rt, alloc, view.as_str(), names, gate) {
         Ok(found) => Ok(comparison_text(names, &found, out)?),
         Err(Fail::Cause(none)) => Err(Fail::Cause(Refused::UnknownName(none.name))),
         Err(Fail::Memory) => Err(Fail::Memory),

@@ -4,4 +4,5 @@ use Rattle.mq_engine.specs.Scenarios.{changes_under}
 use Rattle.mq_engine.proofs.scenarios.compared_under_each.Given as goal
 
 abbrev pub invariant-loop-name : goal.invariant-loop-name
-invariant-loop-name g l = l.found.items ≡ map (λ name. compared l.tables l.q (changes_under l.scenarios name)) (take l.name-index l.names)
+invariant-loop-name g l =
+    (l.found.items ≡ map (λ name. compared l.initial.tables l.q (changes_under l.scenarios name)) (take l.name-index l.names)) × (l.tables ≡ l.initial.tables)

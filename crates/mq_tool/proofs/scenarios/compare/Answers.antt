@@ -10,8 +10,8 @@ returns-in-Err-Cause g c =
     let names = c.args.names.now in
     λ files line. (
       ap (λ n. compare_step old n names) (sym c.as_str.ensures)
-          ∙ none_compared old c.as_str.result.now names c.in-Err-Cause.none (rw c.in-Err-Cause.field-0-is at c.in-Err-Cause.ensures),
-      refl,
+          ∙ none_compared old c.as_str.result.now names c.in-Err-Cause.none (rw c.in-Err-Cause.field-0-is at c.in-Err-Cause.ensures.exact),
+      c.in-Err-Cause.ensures.same,
       refl,
     )
 
@@ -23,7 +23,7 @@ returns-in_ok-comparison_text-in-Ok g c =
     λ files line. (
       (old, all_compared names c.deref.result.now),
       ap (λ n. compare_step old n names) (sym c.as_str.ensures)
-          ∙ compared_is old c.as_str.result.now names c.in-Ok.found.items c.in-Ok.ensures
+          ∙ compared_is old c.as_str.result.now names c.in-Ok.found.items c.in-Ok.ensures.exact
           ∙ ap (λ found. Ok (old, all_compared names found)) (sym c.deref.ensures.value),
-      (refl, text.0, text.1),
+      (c.in-Ok.ensures.same, text.0, text.1),
     )

@@ -34,7 +34,7 @@ pub returns-in-Compare : goal.returns-in-Compare
 returns-in-Compare g c =
     let old = c.args.engine.now in
     λ files. rw c.in-Compare.is
-    (subst (λ (names : List (List ℕ)). Takes (compare_step old c.in-Compare.view names) old old c.args.out.now.items c.compare.new.out.items c.compare.result) c.as_slice.ensures
+    (subst (λ (names : List (List ℕ)). Takes (compare_step old c.in-Compare.view names) old c.compare.new.engine c.args.out.now.items c.compare.new.out.items c.compare.result) c.as_slice.ensures
     (c.compare.ensures files c.args.line))
 
 pub returns-in-ExplainCell : goal.returns-in-ExplainCell
