@@ -2,18 +2,19 @@
 ghost use Rattle.std.specs.Prelude.{◌≡◌, ◌↔◌, length, IfOk, IsTrue};
 ghost use Rattle.std.specs.Map as spec;
 ghost use Rattle.mq_ir.specs.Partitions.{cell_at};
-ghost use Rattle.mq_ir.specs.Ready.{HaveLength, IsReady, LeftHasPlaces, LeftsHavePlaces};
+ghost use Rattle.mq_ir.specs.Ready.{HaveLength, IsReady};
 ghost use Rattle.mq_cells.specs.Columns.{no_results};
 ghost use Rattle.mq_cells.specs.IndexedStores.{input_in, looks_of, results_of};
 ghost use Rattle.mq_auto_shape.specs.Conditions.{AreReady};
 
 use crate::cells::models::{Given, input, key, key_at};
 use crate::makers::{boxed, value};
+use crate::ready::lefts_have_places;
 use mq_auto::{Verdict, compute};
 use mq_cells::{Cells, IndexedCells, MAX_ASSIGNMENTS, PlainCells, keys_ascend};
 use mq_delta_cells::propagate;
 use mq_engine::refresh;
-use mq_ir::{CellName, Left, Model, ModelPart, PartInput, PartShape, Slot};
+use mq_ir::{CellName, Model, ModelPart, PartInput, PartShape, Slot};
 use mq_values::{Boxed, FaultKind, Key, Memory, QueryFault, Value, ValueFault, cmp_total};
 use std::alloc::Global;
 
@@ -438,25 +439,6 @@ fn are_ready(part: &ModelPart, keys: &[Key]) -> bool
     ensures { IsTrue result → AreReady part.now keys.now }
 {
     lefts_have_places(part) && have_length(part.dims.len(), keys) && keys_ascend(keys)
-}
-
-fn lefts_have_places(part: &ModelPart) -> bool
-    ensures { IsTrue result ↔ LeftsHavePlaces part.now }
-{
-    let n = part.dims.len();
-    part.rules
-        .as_slice()
-        .iter()
-        .all(|rule| has_places(n, &rule.left))
-}
-
-fn has_places(n: usize, left: &Left) -> bool
-    ensures { IsTrue result ↔ LeftHasPlaces n left.now }
-{
-    match left {
-        Left::Places(items) => items.len() == n,
-        Left::Tuples(_, _) => true,
-    }
 }
 
 fn have_length(n: usize, keys: &[Key]) -> bool
